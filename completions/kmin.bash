@@ -2,20 +2,20 @@
 
 # made by make docs: words
 _kmin_commands() {
-    echo "min full missed check compare tidy wants help"
+    echo "min full missed check explain compare tidy wants help"
 }
 
 # the words that may follow a command; '' stands for none
 _kmin_words() {
     case $1 in
-        '') echo "min full missed check compare tidy wants help -h --help -V --version" ;;
-        help) echo "min full missed check compare tidy wants help NotUtf8 LineTooLong BadToken UnclosedQuote UnknownStatement Malformed Unclosed StrayEnd Misplaced NoType TypeConflict SecondPrompt DefaultShape RangeType SelectType ChoiceMember ChoiceDefault ModulesType MissingFile SourceLoop TooDeep TooMany Cycle LeftOut rsource osource orsource transitional optional def_string def_int def_hex env defconfig_list allnoconfig_y Unterminated Undefined Recursion Arguments Error Unanswered JoinedAssignment Info Warning TwoAnswers TooManyLines TooLarge Read UnknownSymbol NotOfType Escape OtherChoice NotRegular Write Left NamedTwice" ;;
+        '') echo "min full missed check explain compare tidy wants help -h --help -V --version" ;;
+        help) echo "min full missed check explain compare tidy wants help NotUtf8 LineTooLong BadToken UnclosedQuote UnknownStatement Malformed Unclosed StrayEnd Misplaced NoType TypeConflict SecondPrompt DefaultShape RangeType SelectType ChoiceMember ChoiceDefault ModulesType MissingFile SourceLoop TooDeep TooMany Cycle LeftOut rsource osource orsource transitional optional def_string def_int def_hex env defconfig_list allnoconfig_y Unterminated Undefined Recursion Arguments Error Unanswered JoinedAssignment Info Warning TwoAnswers TooManyLines TooLarge Read UnknownSymbol NotOfType Escape OtherChoice NotRegular Write Left NamedTwice" ;;
     esac
     case $1 in
-        min|full|missed|check|compare|tidy|wants) echo "--root --tree --expand --answers --define --env --messages -h --help" ;;
+        min|full|missed|check|explain|compare|tidy|wants) echo "--root --tree --expand --answers --define --env --messages -h --help" ;;
     esac
     case $1 in
-        min|full|missed|check|compare|tidy) echo "--language --prefix --no-prefix --strings --imply --strict" ;;
+        min|full|missed|check|explain|compare|tidy) echo "--language --prefix --no-prefix --strings --imply --strict" ;;
     esac
     case $1 in
         min|full) echo "-o --output" ;;
@@ -25,6 +25,9 @@ _kmin_words() {
     esac
     case $1 in
         missed|check) echo "--exit-code" ;;
+    esac
+    case $1 in
+        explain) echo "--every --deep --all --exit-code" ;;
     esac
     case $1 in
         tidy) echo "--write --drop --from -z" ;;

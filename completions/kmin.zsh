@@ -14,6 +14,7 @@ _kmin_commands() {
         'full:Writes the full file\: the symbols that are visible, selected, implied or have a default'
         'missed:Lists the symbols that don'\''t have the value that a FILE assigns'
         'check:Lists the symbols that are selected against their dependencies'
+        'explain:Says why symbols have their values, and which lines aren'\''t taken'
         'compare:Lists the symbols whose values differ between two files'
         'tidy:Lists, or rewrites, the files that aren'\''t their own minimal file'
         'wants:Lists the questions of a tree'\''s macros that have no answer'
@@ -37,7 +38,7 @@ _kmin_specs() {
         ) ;;
     esac
     case $1 in
-        min|full|missed|check|compare|tidy|wants) specs+=(
+        min|full|missed|check|explain|compare|tidy|wants) specs+=(
             '--root=[Folder of the tree]:DIR:_files -/'
             '--tree=[First file of the tree, below DIR]:PATH:_kmin_tree_files'
             '--expand[Expands the tree'\''s macros, as each of the next three does]'
@@ -49,7 +50,7 @@ _kmin_specs() {
         ) ;;
     esac
     case $1 in
-        min|full|missed|check|compare|tidy) specs+=(
+        min|full|missed|check|explain|compare|tidy) specs+=(
             '--language=[Tree language]:LANGUAGE:(strict linux linux-6.1 linux-6.12)'
             '(--no-prefix)--prefix=[Text before each name in a file]:TEXT:'
             '(--prefix)--no-prefix[Names in files are as in the tree, as Buildroot'\''s; not with --prefix]'
@@ -74,6 +75,14 @@ _kmin_specs() {
         ) ;;
     esac
     case $1 in
+        explain) specs+=(
+            '--every[Explains each symbol of the tree; no NAME is given]'
+            '--deep[Goes on with the symbols that keep those explained too low]'
+            '--all[Lists each select and imply, also those that don'\''t decide]'
+            '--exit-code[Ends with status 1 where a line for an explained symbol isn'\''t taken]'
+        ) ;;
+    esac
+    case $1 in
         tidy) specs+=(
             '--write[Replaces each file that isn'\''t minimal by its minimal file]'
             '(--strict)--drop[Writes files without the lines that the tree can'\''t read; with --write]'
@@ -88,6 +97,7 @@ _kmin_specs() {
     esac
     case $1 in
         min|full|missed|check|tidy) specs+=('*:FILE:_files') ;;
+        explain) specs+=('1:NAME:_files' '*:FILE:_files') ;;
         compare) specs+=('1:LEFT:_files' '2:RIGHT:_files') ;;
     esac
 }

@@ -269,3 +269,19 @@ fn a_failed_output_decides(rt: HostRuntime) -> Result<(), Fail> {
     assert!(rt; holds);
     Ok(())
 }
+
+/// Whether a run over a file that isn't there and one that can't be read reports and counts both, and changes nothing.
+fn counts_unread_files(rt: &HostRuntime) -> Result<bool, Fail> {
+    let mut disk = disk_with_files(rt)?;
+    disk.fail_reads_after(0);
+    let errors = "none:0: Read\nlonger:1: Read\n";
+    let holds = ends_as(rt, &mut disk, WRITE, &["none", "longer"], (5, "", errors))?;
+    Ok(holds && disk.failures() == 2 && disk.changes() == 7)
+}
+
+#[test]
+fn unread_files_are_counted(rt: HostRuntime) -> Result<(), Fail> {
+    let holds = counts_unread_files(&rt)? || counts_unread_files(&rt)?;
+    assert!(rt; holds);
+    Ok(())
+}

@@ -60,7 +60,7 @@ pub fn load<S: Source, E: Messages>(
 }
 
 /// Reports a fault of a configuration file, and returns the error that ends the run. Out of memory is reported later.
-fn report_load_fault<E: Messages>(path: &str, fault: LoadFault, err: &mut E) -> RunError
+pub fn report_load_fault<E: Messages>(path: &str, fault: LoadFault, err: &mut E) -> RunError
     ensures status { status_of result ≡ load_status fault.kind }
     ensures reported { TakesLines (E.taken err.old) (E.failures err.old) (load_lines path.now fault.line fault.kind) (E.taken err.new) (E.failures err.new) }
 {
@@ -78,8 +78,8 @@ fn report_load_fault<E: Messages>(path: &str, fault: LoadFault, err: &mut E) -> 
     }
 }
 
-/// Reports the notices of a configuration file.
-fn report_notices<E: Messages>(path: &str, notices: &[Notice], tree: &Tree, err: &mut E)
+/// Reports the notices of a configuration file that is read over this tree.
+pub fn report_notices<E: Messages>(path: &str, notices: &[Notice], tree: &Tree, err: &mut E)
     ensures { TakesLines (E.taken err.old) (E.failures err.old) (map (λ notice. notice_line path.now (notice_pair notice)) notices.now) (E.taken err.new) (E.failures err.new) }
 {
     for notice in notices {
@@ -93,8 +93,8 @@ fn report_notices<E: Messages>(path: &str, notices: &[Notice], tree: &Tree, err:
     }
 }
 
-/// The assignments of a configuration file, unless it has a notice and `strict` is set.
-fn allowed(strict: bool, fragment: Fragment) -> Result<Fragment, RunError>
+/// The assignments of a configuration file. An `Err` means that it has a notice and `strict` is set.
+pub fn allowed(strict: bool, fragment: Fragment) -> Result<Fragment, RunError>
     ensures ok { IfOk result (λ f. (f ≡ fragment) × AllowsNotices strict (map notice_pair fragment.notices.items)) }
     ensures refused { IfErr result (λ stop. (status_of stop ≡ 4) × (strict ≡ true) × (fragment.notices.items ≢ [])) }
 {
@@ -244,8 +244,8 @@ fn overlay_file<F: Files, E: Messages>(
     Ok(())
 }
 
-/// Overrides a configuration with the assignments of one more file.
-fn add_fragment(read: &mut ReadFiles<'_>, fragment: Fragment) -> Result<(), AllocError>
+/// Overrides a configuration with the assignments of one more file. An `Err` means out of memory.
+pub fn add_fragment(read: &mut ReadFiles<'_>, fragment: Fragment) -> Result<(), AllocError>
     requires { FitsTree (tree_in read.old.config) fragment.assigns.items }
     ensures settled { read.new.config.system ≡ read.old.config.system }
     ensures solved { IsSolved read.new.config }
@@ -282,8 +282,8 @@ pub fn configured<'a, F: Files, E: Messages>(
     overlaid(alloc, settled, read, settings, others, files, err)
 }
 
-/// The configuration of no files.
-fn unassigned(alloc: Global, settled: &Settled) -> Result<ReadFiles<'_>, AllocError>
+/// The configuration of no files. An `Err` means out of memory.
+pub fn unassigned(alloc: Global, settled: &Settled) -> Result<ReadFiles<'_>, AllocError>
     ensures settled { IfOk result (λ read. read.config.system ≡ settled.now) }
     ensures solved { IfOk result (λ read. IsSolved read.config) }
     ensures users { IfOk result (λ read. read.config.users ≡ empty_assignment (tree_of_settled settled.now)) }

@@ -5,5 +5,8 @@ mod configurations;
 mod symbol_lines;
 mod verb_texts;
 
-pub use configurations::{ReadFiles, configured, configured_by, load, notice_choices};
+pub use configurations::{
+    ReadFiles, add_fragment, allowed, configured, configured_by, load, notice_choices,
+    report_load_fault, report_notices, unassigned,
+};
 pub use verb_texts::{AnswerText, answer_of, compared};

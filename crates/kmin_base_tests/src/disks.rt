@@ -173,17 +173,41 @@ fn what_is_no_regular_file_is_refused(rt: HostRuntime) -> Result<(), Fail> {
 
 #[test]
 fn a_view_reads(rt: HostRuntime) -> Result<(), Fail> {
-    let disk = disk_with_old_file(&rt)?;
-    let view = ReadOnly::new(&disk);
+    let mut disk = disk_with_old_file(&rt)?;
+    let mut view = ReadOnly::new(&mut disk);
     assert!(rt; view.kind("a/config") == FileKind::Regular);
     assert!(rt; view.kind("a/link") == FileKind::NotRegular);
     assert!(rt; view.kind("a/none") == FileKind::Missing);
-    assert!(rt; view.open("a/none").is_none());
+    assert!(rt; view.open_if_there("a/none").is_none());
     let mut reader = view.open("a/config").ok_or("it doesn't open")?;
     let mut buf = [0u8; 32];
     let count = reader.read_some(&mut buf).map_err(|_| "it can't be read")?;
     assert!(rt; &buf[..count] == OLD);
     assert_eq!(rt; view.size_of(&reader), 0);
+    view.close(reader);
+    assert_eq!(rt; disk.failures(), 0);
+    Ok(())
+}
+
+/// The failures of a disk after one file that isn't there was opened, and another of which each read fails was read twice.
+fn failures_of_reading(rt: &HostRuntime) -> Result<u64, Fail> {
+    let mut disk = disk_with_old_file(rt)?;
+    disk.fail_reads_after(0);
+    let missing = disk.open("a/none").is_none() && disk.open_if_there("a/none").is_none();
+    let mut reader = disk.open("a/config").ok_or("it doesn't open")?;
+    let mut buf = [0u8; 32];
+    let unread = reader.read_some(&mut buf).is_err() && reader.read_some(&mut buf).is_err();
+    disk.close(reader);
+    if missing && unread {
+        return Ok(disk.failures());
+    }
+    Ok(0)
+}
+
+#[test]
+fn what_fails_in_reading_is_counted(rt: HostRuntime) -> Result<(), Fail> {
+    let failures = failures_of_reading(&rt)?;
+    assert_eq!(rt; failures, 3);
     Ok(())
 }
 

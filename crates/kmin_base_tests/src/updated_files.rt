@@ -134,8 +134,8 @@ fn a_remaining_new_file_and_an_unsynced_folder_are_reported(rt: HostRuntime) -> 
     Ok(())
 }
 
-/// Whether a file stays as it is where a read of it fails, even if it has the wanted bytes. Then, with reads still failing, a
-/// long file is replaced whose first read shows a difference, and a missing one is made.
+/// Whether a file stays as it is where a read of it fails, even if it has the wanted bytes, and the read is counted. Then, with
+/// reads still failing, a long file is replaced whose first read shows a difference, and a missing one is made.
 fn are_unread(rt: &HostRuntime) -> Result<bool, Fail> {
     let mut disk = disk_with_files(rt)?;
     let mut holds = true;
@@ -148,7 +148,7 @@ fn are_unread(rt: &HostRuntime) -> Result<bool, Fail> {
         disk.fail_reads_after(reads);
         holds &= updated(rt, &mut disk, path, bytes) == Err(UpdateFault::Unread);
     }
-    holds &= disk.changes() == 4 && disk.failures() == 0;
+    holds &= disk.changes() == 4 && disk.failures() == 4;
     holds &= updated(rt, &mut disk, "a/long", NEW).is_ok();
     Ok(holds && updated(rt, &mut disk, "a/none", NEW).is_ok())
 }

@@ -33,6 +33,10 @@ one_of rule words = record rule { parser = Some (Names words) }
 abbrev pub any_number : Text → Rule
 any_number name = record (new_rule name) { action = Some Append; range = Some (record { start_inclusive = 0; end_inclusive = usize_max }) }
 
+-- an argument of one word
+abbrev pub one_word : Text → Rule
+one_word name = new_rule name
+
 -- an argument of one word, which can't be left out
 abbrev pub required : Text → Rule
 required name = record (new_rule name) { required = true }
@@ -89,6 +93,13 @@ full choices = command (codes "full") (shared choices ++ output ∷ any_number (
 abbrev pub listing : (name : Text) → Choices → Shape
 listing name choices = command name (shared choices ++ any_number (codes "FILE") ∷ flag (codes "exit-code") ∷ [])
 
+-- the flags of `explain`
+abbrev pub explain_flags : List Rule
+explain_flags = flag (codes "every") ∷ flag (codes "deep") ∷ flag (codes "all") ∷ flag (codes "exit-code") ∷ []
+
+abbrev pub explain : Choices → Shape
+explain choices = command (codes "explain") (shared choices ++ (explain_flags ++ linked (one_word (codes "NAME")) ∷ any_number (codes "FILE") ∷ []))
+
 abbrev pub compare : Choices → Shape
 compare choices = command (codes "compare") (shared choices ++ required (codes "LEFT") ∷ required (codes "RIGHT") ∷ [])
 
@@ -110,7 +121,7 @@ named = with_version (on_top (λ shape. record shape { no_binary_name = true; su
 -- the program with its commands
 abbrev pub program : Choices → App
 program choices = fold with_subcommand named
-    (min choices ∷ full choices ∷ listing (codes "missed") choices ∷ listing (codes "check") choices ∷ compare choices ∷ tidy choices ∷ wants choices ∷ [])
+    (min choices ∷ full choices ∷ listing (codes "missed") choices ∷ listing (codes "check") choices ∷ explain choices ∷ compare choices ∷ tidy choices ∷ wants choices ∷ [])
 
 -- the texts of a list of words
 abbrev pub texts_in : Bor (List (Bor (List ℕ))) → List (List ℕ)

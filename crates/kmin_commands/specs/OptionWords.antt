@@ -11,7 +11,7 @@ is_among words word = list_any (λ (other : Text). bytes_eq other word) words
 
 -- the words that name a command
 abbrev pub commands : List Text
-commands = codes "min" ∷ codes "full" ∷ codes "missed" ∷ codes "check" ∷ codes "compare" ∷ codes "tidy" ∷ codes "wants" ∷ []
+commands = codes "min" ∷ codes "full" ∷ codes "missed" ∷ codes "check" ∷ codes "explain" ∷ codes "compare" ∷ codes "tidy" ∷ codes "wants" ∷ []
 
 -- the words that name an option with a value
 abbrev pub valued : List Text
@@ -20,7 +20,7 @@ valued = codes "--root" ∷ codes "--tree" ∷ codes "--language" ∷ codes "--p
 
 -- the words that name an option without a value
 abbrev pub flags : List Text
-flags = codes "--no-prefix" ∷ codes "--strict" ∷ codes "--expand" ∷ codes "--drop" ∷ codes "--exit-code" ∷ codes "--write" ∷ codes "-z" ∷ codes "--unused" ∷ []
+flags = codes "--no-prefix" ∷ codes "--strict" ∷ codes "--expand" ∷ codes "--drop" ∷ codes "--exit-code" ∷ codes "--every" ∷ codes "--deep" ∷ codes "--all" ∷ codes "--write" ∷ codes "-z" ∷ codes "--unused" ∷ []
 
 -- whether a word names a command
 abbrev pub names_command : (word : Text) → Bool

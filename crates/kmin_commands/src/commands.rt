@@ -50,6 +50,14 @@ static CHECK: CommandHelp = CommandHelp {
     after: help_texts::CHECK_AFTER,
 };
 
+/// The command that says why symbols have their values.
+static EXPLAIN: CommandHelp = CommandHelp {
+    name: "explain",
+    about: help_texts::EXPLAIN,
+    long: help_texts::EXPLAIN_LONG,
+    after: help_texts::EXPLAIN_AFTER,
+};
+
 /// The command over two configurations of one file each.
 static COMPARE: CommandHelp = CommandHelp {
     name: "compare",
@@ -169,6 +177,7 @@ pub fn program<'a>(alloc: Global) -> Result<Command<'a>, AllocError>
     };
     let program = with_writing(alloc, named(alloc)?, &choices)?;
     let program = with_listing(alloc, program, &choices)?;
+    let program = program.subcommand(explain(alloc, &choices)?)?;
     let program = program.subcommand(compare(alloc, &choices)?)?;
     with_tidy_and_wants(alloc, program, &choices)
 }
@@ -212,7 +221,9 @@ fn with_tidy_and_wants<'a>(
 /// The names of all commands, with `help`.
 pub fn command_names(alloc: Global) -> Result<Vec<&'static str>, AllocError> {
     let mut names = Vec::new(alloc);
-    for help in [&MIN, &FULL, &MISSED, &CHECK, &COMPARE, &TIDY, &WANTS] {
+    for help in [
+        &MIN, &FULL, &MISSED, &CHECK, &EXPLAIN, &COMPARE, &TIDY, &WANTS,
+    ] {
         names.push(help.name)?;
     }
     names.push("help")?;
@@ -306,6 +317,33 @@ fn any_number<'a>(alloc: Global, name: &'a str, help: &'a str) -> Arg<'a>
         .action(ArgAction::Append)
         .num_args(0..)
         .help(help)
+}
+
+/// The command that says why symbols have their values: of names, or with `--every` of each symbol.
+fn explain<'a>(alloc: Global, choices: &Choices<'a>) -> Result<Command<'a>, AllocError>
+    ensures { IfOk result (IsDeclared (declared.explain choices.now)) }
+{
+    let command = with_explain_flags(alloc, with_options(alloc, &EXPLAIN, choices)?)?;
+    let command = command.arg(named_symbols(alloc)?)?;
+    command.arg(any_number(alloc, "FILE", help_texts::FILES))
+}
+
+/// The names of `explain`, which are required unless each symbol is asked for.
+fn named_symbols<'a>(alloc: Global) -> Result<Arg<'a>, AllocError>
+    ensures { IfOk result (IsReadBy (declared.linked (declared.one_word (codes "NAME")))) }
+{
+    let names = Arg::new(alloc, "NAME").help(help_texts::NAMES);
+    names.required_unless_present("every")
+}
+
+/// Adds `--every`, `--deep`, `--all` and `--exit-code` to a command.
+fn with_explain_flags<'a>(alloc: Global, command: Command<'a>) -> Result<Command<'a>, AllocError>
+    ensures { IfOk result (λ made. (shape : Shape) → IsDeclared shape command.entry → IsDeclared (fold declared.added shape declared.explain_flags) made) }
+{
+    let command = command.arg(flag(alloc, "every", help_texts::EVERY))?;
+    let command = command.arg(flag(alloc, "deep", help_texts::DEEP))?;
+    let command = command.arg(flag(alloc, "all", help_texts::ALL))?;
+    command.arg(flag(alloc, "exit-code", help_texts::EXIT_CODE_OF_LINES))
 }
 
 /// The command over two files, both of which are required.

@@ -102,6 +102,36 @@ Example, of a check that fails where there is any such line, and where kmin fail
   kmin check --exit-code board.config"
 );
 
+pub(crate) const EXPLAIN: &str = "Says why symbols have their values, and which lines aren't taken";
+
+pub(crate) const EXPLAIN_LONG: &str = "\
+Says of each NAME, in several lines, its value and what gives it, with the place of the default or
+range: what the last line asks that says something of it, and whether that is taken; which parts of
+its prompt's condition are too low (`needs`), each with its value and place; which symbols select
+or imply it; and what is unmet where it is selected against its dependencies. NAME is a symbol's
+name, with or without the prefix of configuration files. With --every each symbol of the tree is
+explained, in order of first definition, and no NAME is given.";
+
+pub(crate) const EXPLAIN_AFTER: &str = "\
+Example:
+  kmin explain NF_CONNTRACK_AMANDA,USB_GADGET x86_64_defconfig android-base.config
+  kmin explain --every board_defconfig
+
+Exit status: 0 done, 1 with --exit-code a line for a NAME isn't taken, 2 command line refused,
+3 tree refused, 4 configuration file refused or NAME unknown, 5 a read or a write failed, 6 out of
+memory.";
+
+pub(crate) const NAMES: &str = "The names of symbols, with commas between them";
+
+pub(crate) const EVERY: &str = "Explains each symbol of the tree; no NAME is given";
+
+pub(crate) const DEEP: &str = "Goes on with the symbols that keep those explained too low";
+
+pub(crate) const ALL: &str = "Lists each select and imply, also those that don't decide";
+
+pub(crate) const EXIT_CODE_OF_LINES: &str =
+    "Ends with status 1 where a line for an explained symbol isn't taken";
+
 pub(crate) const EXIT_CODE: &str = "Ends with status 1 where a symbol is listed";
 
 pub(crate) const TIDY: &str = "Lists, or rewrites, the files that aren't their own minimal file";

@@ -7,7 +7,9 @@ ghost use Rattle.kmin_commands.specs.Declarations.{IsProgram};
 ghost use Rattle.kmin_commands.specs.OptionWords.{command_words, gives_option, has_value, is_among, is_flag, name_part, names_command, option_words, takes_next};
 
 /// The words that name a command.
-static COMMANDS: [&str; 7] = ["min", "full", "missed", "check", "compare", "tidy", "wants"];
+static COMMANDS: [&str; 8] = [
+    "min", "full", "missed", "check", "explain", "compare", "tidy", "wants",
+];
 
 /// The words that name an option with a value.
 static VALUED: [&str; 13] = [
@@ -27,12 +29,15 @@ static VALUED: [&str; 13] = [
 ];
 
 /// The words that name an option without a value.
-static FLAGS: [&str; 8] = [
+static FLAGS: [&str; 11] = [
     "--no-prefix",
     "--strict",
     "--expand",
     "--drop",
     "--exit-code",
+    "--every",
+    "--deep",
+    "--all",
     "--write",
     "-z",
     "--unused",

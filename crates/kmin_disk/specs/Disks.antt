@@ -1,5 +1,6 @@
 -- The history of each name of a disk.
-use Rattle.std.specs.Prelude.{◌≡◌, ◌≢◌, ℕ, List, [], ◌∷◌, Option, Some, None}
+use Rattle.std.specs.Prelude.{◌≡◌, ◌≢◌, ◌⊎◌, ℕ, List, [], ◌∷◌, Option, Some, None}
+use Rattle.kc_value.specs.Streams.{one_failure_more}
 use Rattle.kmin_disk.specs.Contents.{Content, nothing, file, unfinished}
 
 -- all contents that a name in a folder has held, the newest first; empty if nothing is known of the name
@@ -22,7 +23,8 @@ pub record DiskState : Type 0 where
   pub place : List ℕ → List ℕ
   pub history : List ℕ → History
 
--- what is known of a disk: its state, and how many calls that change it failed, up to 2^64 - 1
+-- what is known of a disk: its state, and how many of its calls failed, up to 2^64 - 1: those that change it, those of `open`, and
+-- the reads of files that were closed
 pub record Disk : Type 0 where
   pub state : DiskState
   pub failures : ℕ
@@ -40,6 +42,15 @@ pub record Stays (old new : History) : Type 0 where
 pub record IsUnchanged (old new : DiskState) : Type 0 where
   pub places : (path : List ℕ) → new.place path ≡ old.place path
   pub histories : (place : List ℕ) → Stays (old.history place) (new.history place)
+
+-- A call failed that changes no file: the disk is the same, but for its count of failed calls, which is one more.
+pub record FailsOnce (old new : Disk) : Type 0 where
+  pub same : new.state ≡ old.state
+  pub failures : new.failures ≡ one_failure_more old.failures
+
+-- a disk is the same, but that one call more may have failed that changes no file
+abbrev pub MayFailOnce : (old new : Disk) → Type 0
+MayFailOnce old new = (new ≡ old) ⊎ FailsOnce old new
 
 -- The name in a folder to which a path leads got a file of these bytes as its newest content; every other name holds what it
 -- held.

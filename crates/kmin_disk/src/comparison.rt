@@ -11,11 +11,13 @@ use kc_value::{Failed, MAX_BLOCK_BYTES, Source};
 
 /// Whether the file at a path is a regular one of exactly these bytes. It is read up to the first block that differs. A
 /// file that can't be opened counts as different.
-pub(crate) fn has_bytes<D: ReadDisk>(disk: &D, path: &str, bytes: &[u8]) -> Result<bool, Failed>
-    ensures equal { IfOk result (λ is. is ≡ true → MayRead (content_at (D.disk disk.now).state path.now) bytes.now) }
-    ensures different { IfOk result (λ is. is ≡ false → content_at (D.disk disk.now).state path.now ≢ Some (file bytes.now)) }
-    ensures missing { content_at (D.disk disk.now).state path.now ≡ Some nothing → result ≡ Ok false }
-    ensures not_regular { content_at (D.disk disk.now).state path.now ≡ Some special → result ≡ Ok false }
+pub(crate) fn has_bytes<D: ReadDisk>(disk: &mut D, path: &str, bytes: &[u8]) -> Result<bool, Failed>
+    ensures equal { IfOk result (λ is. is ≡ true → MayRead (content_at (D.disk disk.old).state path.now) bytes.now) }
+    ensures different { IfOk result (λ is. is ≡ false → content_at (D.disk disk.old).state path.now ≢ Some (file bytes.now)) }
+    ensures missing { content_at (D.disk disk.old).state path.now ≡ Some nothing → result ≡ Ok false }
+    ensures not_regular { content_at (D.disk disk.old).state path.now ≡ Some special → result ≡ Ok false }
+    ensures same { (D.disk disk.new).state ≡ (D.disk disk.old).state }
+    ensures failures { (D.disk disk.new).failures ≡ failures_after_read (D.disk disk.old).failures result }
 {
     match disk.kind(path) {
         FileKind::Regular => opens_with_bytes(disk, path, bytes),
@@ -24,15 +26,34 @@ pub(crate) fn has_bytes<D: ReadDisk>(disk: &D, path: &str, bytes: &[u8]) -> Resu
 }
 
 /// Whether the file at a path can be opened and has exactly these bytes.
-fn opens_with_bytes<D: ReadDisk>(disk: &D, path: &str, bytes: &[u8]) -> Result<bool, Failed>
-    ensures equal { IfOk result (λ is. is ≡ true → MayRead (content_at (D.disk disk.now).state path.now) bytes.now) }
-    ensures different { IfOk result (λ is. is ≡ false → content_at (D.disk disk.now).state path.now ≢ Some (file bytes.now)) }
-    ensures missing { content_at (D.disk disk.now).state path.now ≡ Some nothing → result ≡ Ok false }
+fn opens_with_bytes<D: ReadDisk>(disk: &mut D, path: &str, bytes: &[u8]) -> Result<bool, Failed>
+    ensures equal { IfOk result (λ is. is ≡ true → MayRead (content_at (D.disk disk.old).state path.now) bytes.now) }
+    ensures different { IfOk result (λ is. is ≡ false → content_at (D.disk disk.old).state path.now ≢ Some (file bytes.now)) }
+    ensures missing { content_at (D.disk disk.old).state path.now ≡ Some nothing → result ≡ Ok false }
+    ensures same { (D.disk disk.new).state ≡ (D.disk disk.old).state }
+    ensures failures { (D.disk disk.new).failures ≡ failures_after_read (D.disk disk.old).failures result }
 {
-    match disk.open(path) {
-        Some(mut file) => reads_as(&mut file, bytes),
+    match disk.open_if_there(path) {
+        Some(file) => opened_has_bytes(disk, file, bytes),
         None => Ok(false),
     }
+}
+
+/// Whether an open file has exactly these bytes left. The file is closed.
+fn opened_has_bytes<D: ReadDisk>(
+    disk: &mut D,
+    mut file: D::File,
+    bytes: &[u8],
+) -> Result<bool, Failed>
+    requires unread { D.File.Source.failures file ≡ 0 }
+    ensures equal { IfOk result (λ is. (left : List ℕ) → D.File.Source.left file ≡ Some left → is ≡ true → left ≡ bytes.now) }
+    ensures different { IfOk result (λ is. (left : List ℕ) → D.File.Source.left file ≡ Some left → is ≡ false → left ≢ bytes.now) }
+    ensures same { (D.disk disk.new).state ≡ (D.disk disk.old).state }
+    ensures failures { (D.disk disk.new).failures ≡ failures_after_read (D.disk disk.old).failures result }
+{
+    let result = reads_as(&mut file, bytes);
+    disk.close(file);
+    result
 }
 
 /// Whether a reader has exactly these bytes left. Nothing is read after the first block that differs.

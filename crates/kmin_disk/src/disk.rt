@@ -1,11 +1,11 @@
 //! The traits of a disk: reading its files, and replacing them.
-ghost use Rattle.std.specs.Prelude.{◌≡◌, true, false, take, option_map, IfOk, OnOk, OnErr, IfErr, IsErrOf};
+ghost use Rattle.std.specs.Prelude.{◌≡◌, true, false, take, option_map, IfOk, OnOk, OnErr, IfErr, IfSome, IsErrOf};
 ghost use Rattle.std.specs.Io.{WritesAtMost};
 ghost use Rattle.kc_value.specs.Streams.{failures_after_read, failures_after_write};
 ghost use Rattle.kmin_disk.specs.Contents.{IsOfKind, OpensAs, readable};
 ghost use Rattle.kmin_disk.specs.Disks.{Disk, content_at};
 ghost use Rattle.kmin_disk.specs.NewFiles.{Draft, Creates, IsTaken, Takes, IsSynced, IsSameDraft, Renames, Removes};
-ghost use Rattle.kmin_disk.specs.Failures.{failures_after_create};
+ghost use Rattle.kmin_disk.specs.Failures.{failures_after_open, failures_after_close, failures_after_create};
 ghost use Rattle.kmin_disk.specs.declared.fault.CreateFault.TheVariants.{Taken};
 
 use crate::fault::CreateFault;
@@ -17,7 +17,7 @@ pub trait ReadDisk {
     /// The reader of an open file.
     type File: Source + Drop;
 
-    /// What is known of the disk: its names in folders and their histories, and how many calls that change it failed.
+    /// What is known of the disk: its names in folders and their histories, and how many calls failed.
     ghost disk: { Self → Disk };
 
     /// The seed of this run. Names of new files are made from it.
@@ -27,10 +27,23 @@ pub trait ReadDisk {
     fn kind(&self, path: &str) -> FileKind
         ensures { IsOfKind (content_at (disk self.now).state path.now) result };
 
-    /// A reader of the bytes of the file at a path; `None` if it can't be opened. A link at the end of the path is
-    /// followed.
-    fn open(&self, path: &str) -> Option<Self::File>
-        ensures { OpensAs (readable (content_at (disk self.now).state path.now)) (option_map Self.File.Source.left result) };
+    /// A reader of the bytes of the file at a path; `None` if it can't be opened, which counts as a failure. A link at the
+    /// end of the path is followed.
+    fn open(&mut self, path: &str) -> Option<Self::File>
+        ensures opens { OpensAs (readable (content_at (disk self.old).state path.now)) (option_map Self.File.Source.left result) }
+        ensures unread { IfSome result (λ file. Self.File.Source.failures file ≡ 0) }
+        ensures same { (disk self.new).state ≡ (disk self.old).state }
+        ensures failures { (disk self.new).failures ≡ failures_after_open (disk self.old).failures result };
+
+    /// A reader as that of `open`; but where the file can't be opened, that counts as no failure.
+    fn open_if_there(&self, path: &str) -> Option<Self::File>
+        ensures opens { OpensAs (readable (content_at (disk self.now).state path.now)) (option_map Self.File.Source.left result) }
+        ensures unread { IfSome result (λ file. Self.File.Source.failures file ≡ 0) };
+
+    /// Closes a file, and counts its reads that failed.
+    fn close(&mut self, file: Self::File)
+        ensures same { (disk self.new).state ≡ (disk self.old).state }
+        ensures failures { (disk self.new).failures ≡ failures_after_close (disk self.old).failures (Self.File.Source.failures file) };
 
     /// How many bytes an open file is likely to have, and 0 where that isn't known.
     fn size_of(&self, _file: &Self::File) -> usize {

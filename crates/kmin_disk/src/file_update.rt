@@ -33,8 +33,8 @@ pub fn update<D: WriteDisk>(
     // A file of equal bytes is left alone, whatever fails.
     ensures equal { content_at (D.disk disk.old).state path.now ≡ Some (file bytes.now) → (D.disk disk.new).state ≡ (D.disk disk.old).state }
 
-    // No call that changes files failed where the result is `Ok`; at a fault of replacing the count is that of
-    // `replace`.
+    // No read and no call that changes files failed where the result is `Ok`, and a read did at `Unread`; at a fault of
+    // replacing the count is that of `replace`.
     ensures failures { (D.disk disk.new).failures ≡ failures_after_update (D.disk disk.old).failures result }
 
     ensures not_regular { result ≡ Err (UpdateFault.Replace ReplaceFault.NotRegular) → IsOfKind (content_at (D.disk disk.old).state path.now) FileKind.NotRegular }

@@ -8,13 +8,13 @@ use kc_value::Seed;
 /// A disk whose files can only be read: code that is given no other disk can't change a file.
 #[derive(Drop)]
 pub struct ReadOnly<'a, D> {
-    disk: &'a D,
+    disk: &'a mut D,
 }
 
 impl<'a, D: ReadDisk> ReadOnly<'a, D> {
     /// A disk that has the files of `disk` and can only be read.
-    pub fn new(disk: &'a D) -> ReadOnly<'a, D>
-        ensures { ⟦<ReadOnly<'a, D> as ReadDisk>⟧.disk result ≡ D.disk disk.now }
+    pub fn new(disk: &'a mut D) -> ReadOnly<'a, D>
+        ensures { ⟦<ReadOnly<'a, D> as ReadDisk>⟧.disk result ≡ D.disk disk.entry.now }
     {
         ReadOnly { disk }
     }
@@ -33,8 +33,16 @@ impl<D: ReadDisk> ReadDisk for ReadOnly<'_, D> {
         self.disk.kind(path)
     }
 
-    fn open(&self, path: &str) -> Option<D::File> {
+    fn open(&mut self, path: &str) -> Option<D::File> {
         self.disk.open(path)
+    }
+
+    fn open_if_there(&self, path: &str) -> Option<D::File> {
+        self.disk.open_if_there(path)
+    }
+
+    fn close(&mut self, file: D::File) {
+        self.disk.close(file);
     }
 
     fn size_of(&self, file: &D::File) -> usize {

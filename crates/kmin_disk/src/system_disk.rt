@@ -1,5 +1,5 @@
 //! The disk of the system.
-ghost use Rattle.std.specs.Prelude.{◌≡◌};
+ghost use Rattle.std.specs.Prelude.{◌≡◌, IfSome};
 ghost use Rattle.kc_value.specs.Streams.{one_failure_more};
 ghost use Rattle.kmin_disk.specs.SystemDisks.{unknown_state, system_draft};
 
@@ -20,20 +20,27 @@ pub struct SystemDisk<'a> {
     failed: u64,
 }
 
-/// An open file, and how many bytes it had when it was opened.
+/// An open file, how many bytes it had when it was opened, and how many of its reads failed.
 #[derive(Drop)]
 pub struct SystemFile {
     reader: FromRead<File>,
     size: usize,
+    failed_reads: u64,
 }
 
 impl Source for SystemFile {
     ghost left = { λ file. ⟦<FromRead<File> as Source>⟧.left file.reader };
 
-    ghost failures = { λ file. ⟦<FromRead<File> as Source>⟧.failures file.reader };
+    ghost failures = { λ file. file.failed_reads };
 
     fn read_some(&mut self, buf: &mut [u8]) -> Result<usize, Failed> {
-        self.reader.read_some(buf)
+        match self.reader.read_some(buf) {
+            Ok(count) => Ok(count),
+            Err(failed) => {
+                self.failed_reads = self.failed_reads.saturating_add(1);
+                Err(failed)
+            }
+        }
     }
 }
 
@@ -66,6 +73,19 @@ fn size_now(file: &File) -> usize {
     }
 }
 
+/// A reader of the file at a path; `None` if it can't be opened.
+fn open_file(runtime: &HostRuntime, path: &str) -> Option<SystemFile>
+    ensures { IfSome result (λ file. file.failed_reads ≡ 0) }
+{
+    let file = File::open(runtime, path).ok()?;
+    let size = size_now(&file);
+    Some(SystemFile {
+        reader: FromRead::new(file),
+        size,
+        failed_reads: 0,
+    })
+}
+
 impl ReadDisk for SystemDisk<'_> {
     type File = SystemFile;
 
@@ -83,13 +103,20 @@ impl ReadDisk for SystemDisk<'_> {
         }
     }
 
-    fn open(&self, path: &str) -> Option<SystemFile> {
-        let file = File::open(self.runtime, path).ok()?;
-        let size = size_now(&file);
-        Some(SystemFile {
-            reader: FromRead::new(file),
-            size,
-        })
+    fn open(&mut self, path: &str) -> Option<SystemFile> {
+        let file = open_file(self.runtime, path);
+        if file.is_none() {
+            let _ = self.count_failure();
+        }
+        file
+    }
+
+    fn open_if_there(&self, path: &str) -> Option<SystemFile> {
+        open_file(self.runtime, path)
+    }
+
+    fn close(&mut self, file: SystemFile) {
+        self.failed = self.failed.saturating_add(file.failed_reads);
     }
 
     fn size_of(&self, file: &SystemFile) -> usize {

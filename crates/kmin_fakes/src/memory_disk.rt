@@ -1,6 +1,7 @@
 //! A disk in memory, for tests: its history is known, and chosen calls fail.
-ghost use Rattle.std.specs.Prelude.{◌≡◌, [], Some, false, ◌≢◌, OnOk, OnErr, IfOk, IfSome, OnSome, string_bytes};
+ghost use Rattle.std.specs.Prelude.{◌≡◌, [], Some, false, ◌≢◌, OnOk, OnErr, IfOk, IfSome, OnSome, option_map, string_bytes};
 ghost use Rattle.kc_value.specs.Streams.{one_failure_more};
+ghost use Rattle.kmin_disk.specs.Contents.{OpensAs, readable};
 ghost use Rattle.kmin_disk.specs.Disks.{History, newest};
 ghost use Rattle.kmin_fakes.specs.MemoryDisks.{memory_state, memory_draft, content_view, history_after, AppendsHolds, AppendsRename};
 
@@ -161,6 +162,21 @@ impl<'a> MemoryDisk<'a> {
         self.reads_before_failing = reads;
     }
 
+    /// A reader of the regular file at a path; `None` if there is none.
+    fn reader_of(&self, path: &str) -> Option<MemoryFile<'a>>
+        ensures opens { OpensAs (readable (newest ((memory_state self.now.log.items).history path.now))) (option_map (⟦<MemoryFile<'a> as Source>⟧.left) result) }
+        ensures unread { IfSome result (λ file. file.failed ≡ 0) }
+    {
+        match self.content(path) {
+            MemoryContent::File(left) => Some(MemoryFile {
+                left,
+                reads_before_failing: self.reads_before_failing,
+                failed: 0,
+            }),
+            _ => None,
+        }
+    }
+
     /// The bytes of the regular file at a path; `None` if there is none.
     pub fn bytes_at(&self, path: &str) -> Option<&'a [u8]> {
         match self.content(path) {
@@ -174,7 +190,7 @@ impl<'a> MemoryDisk<'a> {
         self.log.len()
     }
 
-    /// The number of calls of the disk that failed so far.
+    /// The number of calls of the disk that failed so far, with the failed reads of closed files.
     pub fn failures(&self) -> u64 {
         self.failed
     }
@@ -287,15 +303,20 @@ impl<'a> ReadDisk for MemoryDisk<'a> {
         }
     }
 
-    fn open(&self, path: &str) -> Option<MemoryFile<'a>> {
-        match self.content(path) {
-            MemoryContent::File(left) => Some(MemoryFile {
-                left,
-                reads_before_failing: self.reads_before_failing,
-                failed: 0,
-            }),
-            _ => None,
+    fn open(&mut self, path: &str) -> Option<MemoryFile<'a>> {
+        let file = self.reader_of(path);
+        if file.is_none() {
+            let _ = self.count_failure();
         }
+        file
+    }
+
+    fn open_if_there(&self, path: &str) -> Option<MemoryFile<'a>> {
+        self.reader_of(path)
+    }
+
+    fn close(&mut self, file: MemoryFile<'a>) {
+        self.failed = self.failed.saturating_add(file.failed);
     }
 }
 

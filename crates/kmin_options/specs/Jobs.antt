@@ -11,6 +11,8 @@ use Rattle.kmin_options.specs.declared.job.Definition.{Definition as DeclaredDef
 use Rattle.kmin_options.specs.declared.job.Expansion.{Expansion as DeclaredExpansion}
 use Rattle.kmin_options.specs.declared.job.Settings.{Settings as DeclaredSettings}
 use Rattle.kmin_options.specs.declared.job.TidyFlags.{TidyFlags}
+use Rattle.kmin_options.specs.declared.job.ExplainFlags.{ExplainFlags}
+use Rattle.kmin_options.specs.declared.job.ExplainJob.{ExplainJob as DeclaredExplainJob}
 use Rattle.kmin_options.specs.declared.job.PathList.{PathList as DeclaredPathList}
 use Rattle.kmin_options.specs.declared.job.TidyJob.{TidyJob as DeclaredTidyJob}
 use Rattle.kmin_options.specs.declared.job.Questions.{Questions as DeclaredQuestions}
@@ -51,6 +53,14 @@ pub record TidyJob : Type 0 where
   pub settings : Settings
   pub flags : TidyFlags
   pub list : Option PathList
+  pub files : List (List ℕ)
+
+-- the command `explain`: its options, its flags, the names of symbols with commas between them (none with `--every`), and the
+-- files, in order
+pub record ExplainJob : Type 0 where
+  pub settings : Settings
+  pub flags : ExplainFlags
+  pub names : Option (List ℕ)
   pub files : List (List ℕ)
 
 -- the command `wants`: the folder of the tree, the path of its first Kconfig file there, where its macros' questions are answered,
@@ -103,6 +113,15 @@ tidy_job_view t = record {
   flags = t.flags;
   list = option_map list_view t.list;
   files = map (λ (path : Bor (List ℕ)). path.now) t.files.items;
+}
+
+-- an `ExplainJob` of the code, as contracts see it
+abbrev pub explain_job_view : DeclaredExplainJob → ExplainJob
+explain_job_view e = record {
+  settings = settings_view e.settings;
+  flags = e.flags;
+  names = option_map (λ (names : Bor (List ℕ)). names.now) e.names;
+  files = map (λ (path : Bor (List ℕ)). path.now) e.files.items;
 }
 
 -- the `Questions` of the code, as contracts see them

@@ -114,6 +114,27 @@ pub struct TidyJob<'a> {
     pub files: Vec<&'a str>,
 }
 
+/// The flags of `kmin explain`.
+#[derive(Clone, Copy, Debug, PartialEq, Eq)]
+pub struct ExplainFlags {
+    /// `--deep`: whether it goes on with the symbols that keep those explained too low.
+    pub deep: bool,
+    /// `--all`: whether each select and imply is listed, also those that don't decide.
+    pub all: bool,
+    /// `--exit-code`: whether the exit status is 1 where a line for an explained symbol isn't taken.
+    pub exit_code: bool,
+}
+
+/// The command `kmin explain`, with its options, flags, names and files.
+#[derive(Drop)]
+pub struct ExplainJob<'a> {
+    pub settings: Settings<'a>,
+    pub flags: ExplainFlags,
+    /// The names of symbols, with commas between them; `None` with `--every`.
+    pub names: Option<&'a str>,
+    pub files: Vec<&'a str>,
+}
+
 /// The command `kmin wants`, which lists the open questions of a tree's macros, or the answers that they don't use.
 #[derive(Drop)]
 pub struct Questions<'a> {

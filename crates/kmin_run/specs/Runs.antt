@@ -1,21 +1,26 @@
 -- What a run of the program does with these words. `counted` and `counted_after` are how many calls on files failed before and after,
 -- without those on the disk.
-use Rattle.std.specs.Prelude.{◌≡◌, ◌≢◌, ◌<◌, ◌≤◌, ◌⊎◌, ℕ, Bool, true, false, List, [], ◌∷◌, ◌++◌, Option, None, Ok, length, take, option_map}
+use Rattle.std.specs.Prelude.{◌≡◌, ◌≢◌, ◌<◌, ◌≤◌, ◌⊎◌, ℕ, Bool, true, false, List, [], ◌∷◌, ◌++◌, Option, None, Ok, codes, length, take, option_map}
 use Rattle.std.specs.Io.KnownBytes.{Appends}
 use Rattle.kc_value.specs.declared.limits.TheConstants.{MAX_BUNDLE_BYTES}
 use Rattle.kmin_report.specs.Reports.{ErrorLine, last_lines, output_line, refused_line}
 use Rattle.kc_files.specs.TreeContents.{HasRisen}
+use Rattle.kc_tokens.specs.declared.language.Language.{Language}
+use Rattle.kc_tokens.specs.declared.language.Language.TheVariants.{Linux}
+use Rattle.kc_tokens.specs.declared.language.LinuxVersion.TheVariants.{Unknown}
 use Rattle.kmin_messages.specs.declared.message.Form.{Form}
 use Rattle.kmin_texts.specs.Spellings.{AskedForm}
-use Rattle.kmin_options.specs.Jobs.{Settings, Questions, Task, settings_view, questions_view, task_view, tidy_job_view}
+use Rattle.kmin_options.specs.Jobs.{ExplainJob, Settings, Questions, Task, explain_job_view, settings_view, questions_view, task_view, tidy_job_view}
 use Rattle.kmin_words.specs.Parses.{AreReadAs}
 use Rattle.kmin_words.specs.declared.command_line.ParsedWords.{ParsedWords}
-use Rattle.kmin_words.specs.declared.command_line.ParsedWords.TheVariants.{Job, Save, Questions as TheQuestions, Tidy, Help, Refused}
+use Rattle.kmin_words.specs.declared.command_line.ParsedWords.TheVariants.{Job, Save, Questions as TheQuestions, Explain, Tidy, Help, Refused}
 use Rattle.kmin_inputs.specs.FileContents.{Surroundings}
 use Rattle.kmin_trees.specs.JobTexts.{TreeTexts, AreTextsOfJob}
 use Rattle.kmin_inputs.specs.WordFiles.{Represent, StopsAtWords, is_input_read_for}
 use Rattle.kmin_trees.specs.WantedQuestions.{AreAsked, AsksInPart, StopsWanting, questions_text}
 use Rattle.kmin_answers.specs.Answers.{Answer}
+use Rattle.kmin_explain_command.specs.Explains.{Explains}
+use Rattle.kmin_explain_command.specs.Stops.{ExplainsInPart, StopsExplaining}
 use Rattle.kmin_run.specs.BundleAnswers.{AnswersBundle, StopsOnBundle, WritesPart}
 use Rattle.kmin_run.specs.Bundles.{ReadsToEnd}
 use Rattle.kmin_run.specs.PartialAnswers.{AnswersInPart}
@@ -52,6 +57,16 @@ pub data QuestionsEnd (known : Surroundings) (counted counted_after : ℕ) (ques
       → WritesAtMost (AsksInPart known counted counted_after questions old.taken new.taken) old new status → new.disk ≡ old.disk → lines ≡ own ++ last_lines status
       → QuestionsEnd known counted counted_after questions old new lines status
 
+-- The command `explain` ends: its output is written, and no write failed; or it ended without its whole output. The disk is
+-- unchanged.
+pub data ExplainEnds (known : Surroundings) (counted counted_after : ℕ) (job : ExplainJob) (old new : Outputs) (lines : List ErrorLine) (status : ℕ) : Type 0 where
+  done : (t : TreeTexts) (text : List ℕ) → AreTextsOfJob known job.settings t → Explains known.content job t text status lines
+      → (status ≡ 0) ⊎ (status ≡ 1) → Appends old.taken new.taken text → new.failures ≡ old.failures → new.disk ≡ old.disk
+      → ExplainEnds known counted counted_after job old new lines status
+  stopped : (own : List ErrorLine) → StopsExplaining known counted counted_after job status own → IsOfFault status
+      → WritesAtMost (ExplainsInPart known job old.taken new.taken) old new status → new.disk ≡ old.disk → lines ≡ own ++ last_lines status
+      → ExplainEnds known counted counted_after job old new lines status
+
 -- A help ends: its text is written, or the first bytes of it before a write that failed. The disk is unchanged.
 pub data HelpEnds (text : List ℕ) (old new : Outputs) (lines : List ErrorLine) (status : ℕ) : Type 0 where
   done : status ≡ 0 → Appends old.taken new.taken text → new.failures ≡ old.failures → new.disk ≡ old.disk → lines ≡ []
@@ -67,21 +82,28 @@ ParsedEnds known counted counted_after left (Save output_job) old new lines stat
     SaveEnds known counted counted_after (settings_view output_job.job.settings) (task_view output_job.job.task) output_job.output.now old.disk new.disk lines status
     × (new.taken ≡ old.taken) × (new.failures ≡ old.failures)
 ParsedEnds known counted counted_after left (TheQuestions questions) old new lines status = QuestionsEnd known counted counted_after (questions_view questions) old new lines status
+ParsedEnds known counted counted_after left (Explain explain_job) old new lines status = ExplainEnds known counted counted_after (explain_job_view explain_job) old new lines status
 ParsedEnds known counted counted_after left (Tidy tidy_job) old new lines status =
     TidyEnds known counted counted_after left (tidy_job_view tidy_job) old new lines status × (tidy_job.flags.write ≡ false → new.disk.state ≡ old.disk.state)
 ParsedEnds known counted counted_after left (Help text) old new lines status = HelpEnds text.bytes.items old new lines status
 ParsedEnds known counted counted_after left (Refused text) old new lines status = (status ≡ 2) × (new ≡ old) × (lines ≡ refused_line text.bytes.items ∷ [])
 
--- the form of messages and the folder of the tree by these values; None for plain messages
-abbrev pub form_with : Option Form → (root : List ℕ) → Option AskedForm
-form_with messages root = option_map (λ form. record { form = form; root = root }) messages
+-- a form of messages with the folder and the language of the tree, and the prefix of names; None for plain messages
+abbrev pub form_with : Option Form → (root : List ℕ) → Language → (prefix : List ℕ) → Option AskedForm
+form_with messages root language prefix = option_map (λ form. record { form = form; root = root; language = language; prefix = prefix }) messages
 
--- the form of messages for which the words of a command ask; a help and a message that refuses the words have plain ones
+-- the form of messages for which these settings ask
+abbrev pub form_of_settings : Settings → Option AskedForm
+form_of_settings settings = form_with settings.messages settings.root settings.language settings.format.prefix
+
+-- the form of messages for which the words of a command ask; a help and a message that refuses the words have plain ones. The command
+-- `wants` is over a tree in the language of Linux, and reads no configuration file.
 abbrev pub form_asked : ParsedWords → Option AskedForm
-form_asked (Job job) = form_with job.settings.messages job.settings.root.now
-form_asked (Save output_job) = form_with output_job.job.settings.messages output_job.job.settings.root.now
-form_asked (TheQuestions questions) = form_with questions.messages questions.root.now
-form_asked (Tidy tidy_job) = form_with tidy_job.settings.messages tidy_job.settings.root.now
+form_asked (Job job) = form_of_settings (settings_view job.settings)
+form_asked (Save output_job) = form_of_settings (settings_view output_job.job.settings)
+form_asked (TheQuestions questions) = form_with questions.messages questions.root.now (Linux Unknown) (codes "CONFIG_")
+form_asked (Explain explain_job) = form_of_settings (settings_view explain_job.settings)
+form_asked (Tidy tidy_job) = form_of_settings (settings_view tidy_job.settings)
 form_asked what = None
 
 -- A run on words without `@FILE` ends as what they are read as does, with lines in the form for which they ask, or memory ran out

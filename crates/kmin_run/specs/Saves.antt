@@ -40,7 +40,7 @@ update_status Unread = 5
 update_status (Replace fault) = replace_status fault
 
 -- The output file at a path has this text, from before or by a replacement. The path led to no link, folder, pipe or device, and
--- no call failed.
+-- no read of the file failed, and no call that changes files.
 pub record IsSaved (old new : Disk) (path text : List ℕ) : Type 0 where
   pub updates : Updates old.state new.state path text
   pub regular : content_at old.state path ≢ Some special

@@ -19,6 +19,7 @@ use crate::tidy_command::{refuse_list, tidy};
 use crate::wants_command::list_questions;
 use kc_value::{Seed, Sink, Source};
 use kmin_disk::WriteDisk;
+use kmin_explain_command::explain;
 use kmin_inputs::{Files, WordFiles, read_word_files};
 use kmin_lines::{WordFault, with_files};
 use kmin_report::{Messages, Report, RunError, exit_status, write_answer};
@@ -30,9 +31,9 @@ use std::alloc::Global;
 ///
 /// Without words it reads a bundle, a Kconfig tree, a line `%%` and a configuration file, and writes the full file.
 /// Else the words, each `@FILE` read as the words in its file, are a command, before which options may stand. Statuses: 0
-/// done, 1 a comparison found differences, symbols are listed with `--exit-code`, a file isn't minimal or a tree has open
-/// questions, 2 words or a list of paths refused, 3 tree refused, also by its expansion, 4 configuration file or answer
-/// file refused, or bundle, list or file of words too large, 5 a read or write failed, 6 out of memory.
+/// done, 1 a comparison found differences, symbols are listed or a line isn't taken with `--exit-code`, a file isn't minimal or a tree
+/// has open questions, 2 words or a list of paths refused, 3 tree refused, also by its expansion, 4 configuration file or answer
+/// file refused, a name that means no symbol, or bundle, list or file of words too large, 5 a read or write failed, 6 out of memory.
 ///
 /// Only `tidy` and a command with an output file use `disk`; all other files are read by `files`.
 pub fn run<F: Files, D: WriteDisk, I: Source, O: Sink, E: FormMessages>(
@@ -53,7 +54,7 @@ pub fn run<F: Files, D: WriteDisk, I: Source, O: Sink, E: FormMessages>(
     ensures ends { (form : Option AskedForm) × (lines : List ErrorLine) × Ends (F.surroundings files.old) (F.failures files.old) (F.failures files.new) (map (λ (word : Bor (List ℕ)). word.now) words.now)
         (input_of (I.left input.old) (I.failures input.old)) (input_of (I.left input.new) (I.failures input.new))
         (outputs_of (D.disk disk.old) (O.taken out.old) (O.failures out.old))
-        (outputs_of (D.disk disk.new) (O.taken out.new) (O.failures out.new)) form lines result × TakesLines (as_asked form (E.taken err.old)) (E.failures err.old) lines (E.taken err.new) (E.failures err.new) }
+        (outputs_of (D.disk disk.new) (O.taken out.new) (O.failures out.new)) form lines result × TakesLines (as_asked form E.known (E.taken err.old)) (E.failures err.old) lines (E.taken err.new) (E.failures err.new) }
 
     // The disk changes only if the words, with those in files, are parsed as `tidy --write`, or have an output file.
     ensures unasked { ((D.disk disk.new).state ≡ (D.disk disk.old).state) ⊎ AskForChanges (F.surroundings files.old) (I.left input.old) (map (λ (word : Bor (List ℕ)). word.now) words.now) }
@@ -109,7 +110,7 @@ fn run_words<F: Files, D: WriteDisk, I: Source, O: Sink, E: FormMessages>(
     ensures status { result ≤ 6 }
     ensures ends { (form : Option AskedForm) × (lines : List ErrorLine) × WordsEnd (F.surroundings files.old) (F.failures files.old) (F.failures files.new) (map (λ (word : Bor (List ℕ)). word.now) words.now) (I.left input.old)
         (outputs_of (D.disk disk.old) (O.taken out.old) (O.failures out.old))
-        (outputs_of (D.disk disk.new) (O.taken out.new) (O.failures out.new)) form lines result × TakesLines (as_asked form (E.taken err.old)) (E.failures err.old) lines (E.taken err.new) (E.failures err.new) }
+        (outputs_of (D.disk disk.new) (O.taken out.new) (O.failures out.new)) form lines result × TakesLines (as_asked form E.known (E.taken err.old)) (E.failures err.old) lines (E.taken err.new) (E.failures err.new) }
     ensures unasked { ((D.disk disk.new).state ≡ (D.disk disk.old).state) ⊎ AskForChanges (F.surroundings files.old) (I.left input.old) (map (λ (word : Bor (List ℕ)). word.now) words.now) }
     ensures refused { result ≡ 4 → (O.taken out.new ≡ O.taken out.old) ⊎ AskForTidying (F.surroundings files.old) (I.left input.old) (map (λ (word : Bor (List ℕ)). word.now) words.now) }
     ensures unwritten { result ≢ 0 → result ≢ 1 → result ≢ 4 → result ≢ 5 → O.taken out.new ≡ O.taken out.old }
@@ -140,7 +141,7 @@ fn run_given<F: Files, D: WriteDisk, I: Source, O: Sink, E: FormMessages>(
     ensures ends { (left : Option (List ℕ)) → AreWordsRead (F.surroundings files.old).content left (I.left input.old) (map (λ (word : Bor (List ℕ)). word.now) words.now) (texts_of read.now.files) read.now.is_input_read
         → (form : Option AskedForm) × (lines : List ErrorLine) × WordsEnd (F.surroundings files.old) (F.failures files.old) (F.failures files.new) (map (λ (word : Bor (List ℕ)). word.now) words.now) left
         (outputs_of (D.disk disk.old) (O.taken out.old) (O.failures out.old))
-        (outputs_of (D.disk disk.new) (O.taken out.new) (O.failures out.new)) form lines result × TakesLines (as_asked form (E.taken err.old)) (E.failures err.old) lines (E.taken err.new) (E.failures err.new) }
+        (outputs_of (D.disk disk.new) (O.taken out.new) (O.failures out.new)) form lines result × TakesLines (as_asked form E.known (E.taken err.old)) (E.failures err.old) lines (E.taken err.new) (E.failures err.new) }
     ensures unasked { (left : Option (List ℕ)) → AreWordsRead (F.surroundings files.old).content left (I.left input.old) (map (λ (word : Bor (List ℕ)). word.now) words.now) (texts_of read.now.files) read.now.is_input_read
         → ((D.disk disk.new).state ≡ (D.disk disk.old).state) ⊎ AskForChanges (F.surroundings files.old) left (map (λ (word : Bor (List ℕ)). word.now) words.now) }
     ensures refused { (left : Option (List ℕ)) → AreWordsRead (F.surroundings files.old).content left (I.left input.old) (map (λ (word : Bor (List ℕ)). word.now) words.now) (texts_of read.now.files) read.now.is_input_read
@@ -178,7 +179,7 @@ fn run_read<F: Files, D: WriteDisk, I: Source, O: Sink, E: FormMessages>(
     ensures status { result ≤ 6 }
     ensures ends { (form : Option AskedForm) × (lines : List ErrorLine) × ReadEnd (F.surroundings files.old) (F.failures files.old) (F.failures files.new) is_input_read (map (λ (word : Bor (List ℕ)). word.now) words.now) (I.left input.old)
         (outputs_of (D.disk disk.old) (O.taken out.old) (O.failures out.old))
-        (outputs_of (D.disk disk.new) (O.taken out.new) (O.failures out.new)) form lines result × TakesLines (as_asked form (E.taken err.old)) (E.failures err.old) lines (E.taken err.new) (E.failures err.new) }
+        (outputs_of (D.disk disk.new) (O.taken out.new) (O.failures out.new)) form lines result × TakesLines (as_asked form E.known (E.taken err.old)) (E.failures err.old) lines (E.taken err.new) (E.failures err.new) }
     ensures unasked { ((D.disk disk.new).state ≡ (D.disk disk.old).state) ⊎ AreReadForChanges is_input_read (map (λ (word : Bor (List ℕ)). word.now) words.now) }
     ensures refused { result ≡ 4 → (O.taken out.new ≡ O.taken out.old) ⊎ AreReadForTidying is_input_read (map (λ (word : Bor (List ℕ)). word.now) words.now) }
     ensures unwritten { result ≢ 0 → result ≢ 1 → result ≢ 4 → result ≢ 5 → O.taken out.new ≡ O.taken out.old }
@@ -211,7 +212,7 @@ fn run_formed<F: Files, D: WriteDisk, I: Source, O: Sink, E: FormMessages>(
     ensures ends { (form : Option AskedForm) × (lines : List ErrorLine) × FormedEnds (F.surroundings files.old) (F.failures files.old) (F.failures files.new) (I.left input.old) parsed.now
         (outputs_of (D.disk disk.old) (O.taken out.old) (O.failures out.old))
         (outputs_of (D.disk disk.new) (O.taken out.new) (O.failures out.new)) form lines result
-        × TakesLines (as_asked form (E.taken err.old)) (E.failures err.old) lines (E.taken err.new) (E.failures err.new) }
+        × TakesLines (as_asked form E.known (E.taken err.old)) (E.failures err.old) lines (E.taken err.new) (E.failures err.new) }
     ensures unasked { ((D.disk disk.new).state ≡ (D.disk disk.old).state) ⊎ MayChangeFiles parsed.now }
     ensures refused { result ≡ 4 → (O.taken out.new ≡ O.taken out.old) ⊎ IsTidying parsed.now }
     ensures unwritten { result ≢ 0 → result ≢ 1 → result ≢ 4 → result ≢ 5 → O.taken out.new ≡ O.taken out.old }
@@ -252,6 +253,7 @@ fn run_parsed<F: Files, D: WriteDisk, I: Source, O: Sink, E: Messages>(
         ParsedWords::Job(job) => serve(alloc, job, files, out, err),
         ParsedWords::Save(output_job) => save(alloc, output_job, files, disk, err),
         ParsedWords::Questions(questions) => list_questions(alloc, questions, files, out, err),
+        ParsedWords::Explain(explain_job) => explain(alloc, explain_job, files, out, err),
         ParsedWords::Tidy(tidy_job) => tidy(alloc, tidy_job, files, disk, input, out, err),
         ParsedWords::Help(text) => write_help(text, out, err),
         ParsedWords::Refused(text) => refuse_words(text, err),

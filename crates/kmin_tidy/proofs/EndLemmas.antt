@@ -3,7 +3,7 @@ use Rattle.std.proofs.Common.{◌≡◌, ◌≢◌, ℕ, true, false, List, [], 
 use Rattle.std.specs.Io.KnownBytes.{Appends}
 use Rattle.std.proofs.KnownBytes.{Appends-nil}
 use Rattle.kmin_disk.specs.Contents.{nothing, unfinished}
-use Rattle.kmin_disk.specs.Disks.{Disk, History, newest, with_newest, content_at}
+use Rattle.kmin_disk.specs.Disks.{Disk, DiskState, History, newest, with_newest, content_at}
 use Rattle.kmin_disk.proofs.Places.{same_place_or_other}
 use Rattle.kmin_tidy.specs.Options.{Settings}
 use Rattle.kmin_tidy.specs.Runs.{Tidies}
@@ -18,7 +18,7 @@ use Rattle.kmin_tidy.specs.declared.stop.Stop.{Stop}
 use Rattle.kmin_tidy.specs.declared.stop.Stop.TheVariants.{Memory, Left}
 use Rattle.kmin_tidy.specs.declared.whole_run.RunResult.{RunResult}
 use Rattle.kmin_tidy.proofs.KeptPlaces.{stays_same, kept_after, newest_written}
-use Rattle.kmin_tidy.proofs.StepLemmas.{tidy_same}
+use Rattle.kmin_tidy.proofs.StepLemmas.{once_same, tidy_same}
 use Rattle.kmin_tidy.proofs.RunLemmas.{all_front, all_next, run_kept, run_unasked, run_tidy}
 use Rattle.kmin_report.specs.Reports.{ErrorLine}
 
@@ -28,11 +28,11 @@ module _ (s : Settings) (a : Disk) where
   tidies_kept b paths text reports status t place = run_kept s a b t.files text reports t.run place
 
   tidies_unasked : (b : Disk) (paths : List (List ℕ)) (text : List ℕ) (reports : List ErrorLine) (status : ℕ) → Tidies s a b paths text reports status
-      → s.options.write ≡ false → b ≡ a
+      → s.options.write ≡ false → b.state ≡ a.state
   tidies_unasked b paths text reports status t unasked = run_unasked s a b t.files text reports t.run unasked
 
   tidies_tidy : (b : Disk) (paths : List (List ℕ)) (text : List ℕ) (reports : List ErrorLine) (status : ℕ) → Tidies s a b paths text reports status
-      → AreTidy s a.state paths → (b ≡ a) × (text ≡ [])
+      → AreTidy s a.state paths → (b.state ≡ a.state) × (text ≡ [])
   tidies_tidy b paths text reports status t tidy =
       run_tidy s a b t.files text reports t.run (subst (AreTidy s a.state) (sym t.paths_are) tidy)
 
@@ -65,7 +65,8 @@ module _ (s : Settings) (a : Disk) where
   stops_became : (b : Disk) (paths : List (List ℕ)) (reports : List ErrorLine) (status : ℕ) → Stops s a b paths reports status
       → (place : List ℕ) → IsKeptOrLeft s (a.state.history place) (b.state.history place)
   stops_became b paths reports status (before_write between front back text earlier made e t same r n) place =
-      inl (subst (λ (d : Disk). IsKept s (a.state.history place) (d.state.history place)) (sym same) (tidies_kept between front text earlier made t place))
+      inl (subst (λ (d : DiskState). IsKept s (a.state.history place) (d.history place)) (sym (once_same between b same))
+      (tidies_kept between front text earlier made t place))
   stops_became b paths reports status (at_write between front back path text earlier made e t asked u r n) place =
       inl (kept_after s (a.state.history place) (between.state.history place) (b.state.history place) (tidies_kept between front text earlier made t place)
       (inl (u.histories place)))
@@ -83,17 +84,17 @@ module _ (s : Settings) (a : Disk) where
   asked_not : (d : Disk) (path : List ℕ) → IsToBeReplaced s d path → s.options.write ≡ false → ⊥
   asked_not d path asked unasked = let z : true ≡ false = sym asked.asked ∙ unasked in (cc)
 
-  stops_unasked : (b : Disk) (paths : List (List ℕ)) (reports : List ErrorLine) (status : ℕ) → Stops s a b paths reports status → s.options.write ≡ false → b ≡ a
+  stops_unasked : (b : Disk) (paths : List (List ℕ)) (reports : List ErrorLine) (status : ℕ) → Stops s a b paths reports status → s.options.write ≡ false → b.state ≡ a.state
   stops_unasked b paths reports status (before_write between front back text earlier made e t same r n) unasked =
-      same ∙ tidies_unasked between front text earlier made t unasked
+      once_same between b same ∙ tidies_unasked between front text earlier made t unasked
   stops_unasked b paths reports status (at_write between front back path text earlier made e t asked u r n) unasked =
       absurd (asked_not between path asked unasked)
   stops_unasked b paths reports status (at_left between front back path new_path text earlier made e t asked l r n) unasked =
       absurd (asked_not between path asked unasked)
 
-  -- a run without `write` leaves the disk unchanged
+  -- a run without `write` leaves the state of the disk unchanged
   pub ends_unasked : (b : Disk) (paths : List (List ℕ)) (reports : List ErrorLine) (taken after : Option (List ℕ)) (failed failed_after status : ℕ)
-      → Ends s a b paths taken after failed failed_after reports status → s.options.write ≡ false → b ≡ a
+      → Ends s a b paths taken after failed failed_after reports status → s.options.write ≡ false → b.state ≡ a.state
   ends_unasked b paths reports taken after failed failed_after status (whole text t w f) unasked = tidies_unasked b paths text reports status t unasked
   ends_unasked b paths reports taken after failed failed_after status (part text earlier made count t l w f r n) unasked =
       tidies_unasked b paths text earlier made t unasked
@@ -102,32 +103,32 @@ module _ (s : Settings) (a : Disk) where
   tidy_parts : (paths front back : List (List ℕ)) → paths ≡ front ++ back → AreTidy s a.state paths → AreTidy s a.state (front ++ back)
   tidy_parts paths front back e tidy = subst (AreTidy s a.state) e tidy
 
-  to_be_replaced_not : (between : Disk) (paths front back : List (List ℕ)) (path : List ℕ) → between ≡ a → paths ≡ front ++ path ∷ back
+  to_be_replaced_not : (between : Disk) (paths front back : List (List ℕ)) (path : List ℕ) → between.state ≡ a.state → paths ≡ front ++ path ∷ back
       → AreTidy s a.state paths
       → IsToBeReplaced s between path → ⊥
   to_be_replaced_not between paths front back path same e tidy asked =
       let P : List ℕ → Type 0 = λ p. IsTidy s (newest (a.state.history (a.state.place p))) in
       let here : IsTidy s (content_at between.state path) =
-      subst (λ (d : Disk). IsTidy s (content_at d.state path)) (sym same) (all_next P front path back (tidy_parts paths front (path ∷ back) e tidy)) in
+      subst (λ (d : DiskState). IsTidy s (content_at d path)) (sym same) (all_next P front path back (tidy_parts paths front (path ∷ back) e tidy)) in
       tidy_same s between.state path asked.bytes asked.least asked.notices here asked.differs
 
   tidies_front : (b : Disk) (paths front back : List (List ℕ)) (text : List ℕ) (reports : List ErrorLine) (status : ℕ) → paths ≡ front ++ back
-      → Tidies s a b front text reports status → AreTidy s a.state paths → (b ≡ a) × (text ≡ [])
+      → Tidies s a b front text reports status → AreTidy s a.state paths → (b.state ≡ a.state) × (text ≡ [])
   tidies_front b paths front back text reports status e t tidy =
       let P : List ℕ → Type 0 = λ p. IsTidy s (newest (a.state.history (a.state.place p))) in
       tidies_tidy b front text reports status t (all_front P front back (tidy_parts paths front back e tidy))
 
-  stops_again : (b : Disk) (paths : List (List ℕ)) (reports : List ErrorLine) (status : ℕ) → Stops s a b paths reports status → AreTidy s a.state paths → b ≡ a
+  stops_again : (b : Disk) (paths : List (List ℕ)) (reports : List ErrorLine) (status : ℕ) → Stops s a b paths reports status → AreTidy s a.state paths → b.state ≡ a.state
   stops_again b paths reports status (before_write between front back text earlier made e t same r n) tidy =
-      same ∙ (tidies_front between paths front back text earlier made e t tidy).0
+      once_same between b same ∙ (tidies_front between paths front back text earlier made e t tidy).0
   stops_again b paths reports status (at_write between front back path text earlier made e t asked u r n) tidy =
       absurd (to_be_replaced_not between paths front back path (tidies_front between paths front (path ∷ back) text earlier made e t tidy).0 e tidy asked)
   stops_again b paths reports status (at_left between front back path new_path text earlier made e t asked l r n) tidy =
       absurd (to_be_replaced_not between paths front back path (tidies_front between paths front (path ∷ back) text earlier made e t tidy).0 e tidy asked)
 
-  -- a run over files that are all minimal or refused already leaves the disk unchanged
+  -- a run over files that are all minimal or refused already leaves the state of the disk unchanged
   pub ends_again : (b : Disk) (paths : List (List ℕ)) (reports : List ErrorLine) (taken after : Option (List ℕ)) (failed failed_after status : ℕ)
-      → Ends s a b paths taken after failed failed_after reports status → AreTidy s a.state paths → b ≡ a
+      → Ends s a b paths taken after failed failed_after reports status → AreTidy s a.state paths → b.state ≡ a.state
   ends_again b paths reports taken after failed failed_after status (whole text t w f) tidy = (tidies_tidy b paths text reports status t tidy).0
   ends_again b paths reports taken after failed failed_after status (part text earlier made count t l w f r n) tidy =
       (tidies_tidy b paths text earlier made t tidy).0

@@ -11,6 +11,7 @@ use Rattle.kc_rules.specs.declared.rules.Settled.{Settled}
 use Rattle.kc_rules.specs.between.SettledViews.{tree_of_settled, profile_of}
 use Rattle.kc_dotconfig_model.specs.declared.format.Format.{Format}
 use Rattle.kc_dotconfig_model.specs.declared.fault.LoadFault.{LoadFault}
+use Rattle.kc_dotconfig_model.specs.declared.fault.LoadKind.TheVariants.{Read}
 use Rattle.kc_dotconfig_model.specs.between.Formats.{file_format}
 use Rattle.kc_dotconfig_model.specs.PrefixGrammar.{is_name_prefix}
 use Rattle.kc_dotconfig_model.proofs.AcceptedLines.{accepted_utf8}
@@ -18,7 +19,7 @@ use Rattle.kc_dotconfig.specs.declared.fragment.Fragment.{Fragment}
 use Rattle.kc_dotconfig.specs.Fragments.{notice_pair, users_of}
 use Rattle.kc_minimal_model.specs.CanonicalText.{IsCanonicalText}
 use Rattle.kmin_disk.specs.Contents.{Content, IsOfKind, special, readable}
-use Rattle.kmin_disk.specs.Disks.{Disk, content_at}
+use Rattle.kmin_disk.specs.Disks.{Disk, FailsOnce, MayFailOnce, content_at}
 use Rattle.kmin_disk.specs.Failures.{failures_of_fault}
 use Rattle.kmin_disk.specs.Replacements.{FaultLeaves, HasTakenName}
 use Rattle.kmin_disk.specs.declared.kind.FileKind.{FileKind}
@@ -68,13 +69,15 @@ module _ (s : Settings) (a : Disk) (path : List ℕ) (report : FileReport) where
   pub not_regular_step : s.options.write ≡ true → IsOfKind (content_at a.state path) KindNotRegular → report.notices.items ≡ []
       → report.problem ≡ Some ProblemNotRegular → report.outcome ≡ Failed → Step s a a path [] (report_lines path report) report.outcome
   not_regular_step w k n p o =
-      refused (not_regular_line path) (refusals.not_regular w k o refl) refl refl (lines_of_problem path report ProblemNotRegular n p)
+      refused (not_regular_line path) (refusals.not_regular w k refl o refl) refl (lines_of_problem path report ProblemNotRegular n p)
 
   -- the step of a file that can't be read or isn't accepted is its refusal, with the line of the fault
-  pub fault_step : (fault : LoadFault) → MayBeRead s a.state path → IsFaulty s.format s.tree (readable (content_at a.state path)) fault.kind fault.line
-      → IsRefusedAs fault report → Step s a a path [] (report_lines path report) report.outcome
-  fault_step fault may faulty r =
-      refused (fault_line path fault.line fault.kind) (refused_by s a.state path fault.kind fault.line report.outcome may faulty r.outcome) refl refl
+  pub fault_step : (b : Disk) (fault : LoadFault) → MayBeRead s a.state path
+      → IsFaulty s.format s.tree (readable (content_at a.state path)) fault.kind fault.line → (fault.kind ≡ Read → FailsOnce a b) → MayFailOnce a b
+      → IsRefusedAs fault report → Step s a b path [] (report_lines path report) report.outcome
+  fault_step b fault may faulty failed once r =
+      refused (fault_line path fault.line fault.kind)
+      (refused_by s a b path fault.kind fault.line report.outcome failed once may faulty r.outcome) refl
       (lines_of_problem path report (Fault fault) r.notices r.problem)
 
   -- the lines of a report without a problem are those of the notices of the file
@@ -117,7 +120,7 @@ module _ (s : Settings) (a : Disk) (path : List ℕ) (report : FileReport) where
 -- a run that ends at the comparison of a file with its minimal file, or at its replacement, ends at that file
 pub stops_rewrite : (s : Settings) (a b : Disk) (path bytes least : List ℕ) (notices : Notices) (stop : Stop) → Minimises s a.state path bytes least notices
     → StopsRewrite s.options.write a b path bytes least stop → StopsFile s a b path stop
-stops_rewrite s a b path bytes least notices stop m (inl h) = inl h
+stops_rewrite s a b path bytes least notices stop m (inl h) = inl (h.0, inl h.1)
 stops_rewrite s a b path bytes least notices stop m (inr h) =
     inr (record { asked = h.0; bytes = bytes; least = least; notices = notices; differs = record { minimises = m; differs = h.1 } }, h.2)
 

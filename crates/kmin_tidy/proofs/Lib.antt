@@ -1,4 +1,5 @@
 pub mod ReadingLemmas
+pub mod ClosedFiles
 pub mod RefusalLemmas
 pub mod StatusLemmas
 pub mod KeptPlaces

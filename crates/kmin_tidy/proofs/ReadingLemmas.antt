@@ -1,5 +1,5 @@
 -- Files that are read whole or in part.
-use Rattle.std.proofs.Common.{◌≡◌, ◌≢◌, ◌<◌, ◌≤◌, ◌+◌, ◌-◌, ◌^◌, ℕ, List, [], ◌∷◌, ◌++◌, Option, Some, None, Result, Ok, Err, IfOk, length, refl, sym, ap, ◌∙◌, subst, append-nil, append_assoc, ◌⊎◌, inl, inr, arith, length-append, lit<, take}
+use Rattle.std.proofs.Common.{◌≡◌, ◌≢◌, ◌<◌, ◌≤◌, ◌+◌, ◌-◌, ◌^◌, ℕ, List, [], ◌∷◌, ◌++◌, Option, Some, None, Result, Ok, Err, IfOk, OnOk, length, refl, sym, ap, ◌∙◌, subst, append-nil, append_assoc, ◌⊎◌, inl, inr, arith, length-append, lit<, take}
 use Rattle.std.specs.Io.KnownBytes.{Consumes, IsAtEnd}
 use Rattle.std.proofs.lemmas.List.{append_cancel_right}
 use Rattle.kc_tree_model.specs.Trees.{Tree}
@@ -16,7 +16,7 @@ use Rattle.kc_value.specs.declared.reader_bytes.ReadEnd.{ReadEnd}
 use Rattle.kc_value.specs.declared.reader_bytes.ReadEnd.TheVariants.{AtEnd, AtLimit, AtFailure}
 use Rattle.kc_value.specs.Lines.{newline_count}
 use Rattle.kc_value.specs.ReaderFailures.{failures_after_reading}
-use Rattle.kc_files.specs.TreeContents.{HasRisen}
+use Rattle.kc_value.specs.Streams.{one_failure_more}
 use Rattle.kmin_disk.specs.Contents.{OpensAs}
 use Rattle.kmin_report.specs.KnownBytes.{AreKnownBytes}
 use Rattle.kmin_tidy.specs.checker.Readings.{IsFragmentOf, IsFaultOf, IsFaultOfPart, in_front, at_failure, no_memory, IsFaulty, refused, unread, for_memory}
@@ -170,13 +170,32 @@ pub whole_not_read : (format : FileFormat) (tree : Tree) (bytes : List ℕ) (kin
 whole_not_read format tree bytes kind number (inl memory) read = cc (memory, read)
 whole_not_read format tree bytes kind number (inr other) read = other.0 read
 
+-- reading that ended at the end of a file had no failed read
+pub ended_unfailed : (end : ReadEnd) (before after : ℕ) → end ≡ AtEnd → after ≡ failures_after_reading before end → after ≡ before
+ended_unfailed end before after is e = e ∙ ap (failures_after_reading before) is
+
+-- reading has one failed read or none
+pub ended_once : (end : ReadEnd) (before after : ℕ) → after ≡ failures_after_reading before end
+    → (after ≡ before) ⊎ (after ≡ one_failure_more before)
+ended_once AtEnd before after e = inl e
+ended_once AtLimit before after e = inl e
+ended_once AtFailure before after e = inr e
+
 -- reading that ended neither at the end of a file nor at its limit ended at a failed read
 pub ended_at_failure : (end : ReadEnd) (before after count most : ℕ) → (end ≡ AtLimit → count ≡ most + 1) → (end ≡ AtEnd → ⊥) → count ≤ most
-    → after ≡ failures_after_reading before end → HasRisen before after
+    → after ≡ failures_after_reading before end → after ≡ one_failure_more before
 ended_at_failure AtEnd before after count most limit other within e = absurd (other refl)
 ended_at_failure AtLimit before after count most limit other within e = absurd (omega (arith, limit refl))
-ended_at_failure AtFailure before after count most limit other within e = λ below. omega (arith, e)
+ended_at_failure AtFailure before after count most limit other within e = e
 
 pub both_ok : {T E : Type 0} (r : Result T E) (P Q R : T → Type 0) → ((x : T) → P x → Q x → R x) → IfOk r P → IfOk r Q → IfOk r R
 both_ok (Ok x) P Q R f h k = f x h k
 both_ok (Err e) P Q R f h k = tt
+
+pub if_ok_on : {T E : Type 0} (r : Result T E) (P : T → Type 0) (Q : Type 0) → ((x : T) → P x → Q) → IfOk r P → OnOk r Q
+if_ok_on (Ok x) P Q f h = f x h
+if_ok_on (Err e) P Q f h = tt
+
+pub on_ok_map : {T E : Type 0} (r : Result T E) (P Q : Type 0) → (P → Q) → OnOk r P → OnOk r Q
+on_ok_map (Ok x) P Q f h = f h
+on_ok_map (Err e) P Q f h = tt

@@ -4,7 +4,7 @@ use Rattle.kc_dotconfig.specs.Fragments.{notice_pair}
 use Rattle.kc_dotconfig_model.specs.declared.fault.LoadKind.{LoadKind}
 use Rattle.kc_dotconfig_model.specs.declared.fault.LoadKind.TheVariants.{Read, OutOfMemory}
 use Rattle.kmin_disk.specs.Contents.{readable}
-use Rattle.kmin_disk.specs.Disks.{DiskState, content_at}
+use Rattle.kmin_disk.specs.Disks.{Disk, FailsOnce, MayFailOnce, content_at}
 use Rattle.kmin_tidy.specs.Options.{Settings}
 use Rattle.kmin_tidy.specs.MinimalFiles.{MayBeRead}
 use Rattle.kmin_report.specs.Reports.{fault_line}
@@ -22,17 +22,18 @@ use Rattle.kmin_tidy.specs.declared.report.FileReport.{FileReport}
 abbrev pub IsOutcomeOf : LoadKind → FileOutcome → Type 0
 IsOutcomeOf kind outcome = ((kind ≡ Read) × (outcome ≡ Failed)) ⊎ ((kind ≢ Read) × (kind ≢ OutOfMemory) × (outcome ≡ Refused))
 
-module _ (s : Settings) (disk : DiskState) (path : List ℕ) (kind : LoadKind) (number : ℕ) (outcome : FileOutcome) where
+module _ (s : Settings) (a b : Disk) (path : List ℕ) (kind : LoadKind) (number : ℕ) (outcome : FileOutcome) (failed : kind ≡ Read → FailsOnce a b)
+    (once : MayFailOnce a b) where
   -- a file that can't be read or isn't accepted is refused, with the line of its fault on standard error
-  pub refused_by : MayBeRead s disk path → IsFaulty s.format s.tree (readable (content_at disk path)) kind number → IsOutcomeOf kind outcome
-      → IsRefused s disk path outcome (fault_line path number kind)
+  pub refused_by : MayBeRead s a.state path → IsFaulty s.format s.tree (readable (content_at a.state path)) kind number → IsOutcomeOf kind outcome
+      → IsRefused s a b path outcome (fault_line path number kind)
   refused_by may (refused bytes known other first) (inl is) = absurd (other is.0)
-  refused_by may (refused bytes known other first) (inr is) = refusals.faulty bytes kind number (record { may = may; bytes_are = known }) first is.2 refl
-  refused_by may (unread front rest known first read) (inl is) = refusals.unread front rest number (record { may = may; bytes_are = known }) first is.1
-      (ap (fault_line path number) read)
+  refused_by may (refused bytes known other first) (inr is) = refusals.faulty bytes kind number (record { may = may; bytes_are = known }) first once is.2 refl
+  refused_by may (unread front rest known first read) (inl is) = refusals.unread front rest number (record { may = may; bytes_are = known }) first
+      (failed read) is.1 (ap (fault_line path number) read)
   refused_by may (unread front rest known first read) (inr is) = absurd (is.0 read)
   refused_by may (unopened opens read zero_is) (inl is) =
-      refusals.unopened may opens is.1 (ap (fault_line path number) read ∙ ap (λ n. fault_line path n Read) zero_is)
+      refusals.unopened may opens (failed read) is.1 (ap (fault_line path number) read ∙ ap (λ n. fault_line path n Read) zero_is)
   refused_by may (unopened opens read zero_is) (inr is) = absurd (is.0 read)
   refused_by may (for_memory memory) (inl is) = let z : Read ≡ OutOfMemory = sym is.0 ∙ memory in (cc)
   refused_by may (for_memory memory) (inr is) = absurd (is.1 memory)

@@ -39,24 +39,24 @@ run_kept s a b files text reports (one_more between new front all path before li
     kept_after s (a.state.history place) (between.state.history place) (new.state.history place) (run_kept s a between front before earlier run place)
     (step_kept s between new path line own outcome step place)
 
--- a run without `write` leaves the disk unchanged
+-- a run without `write` leaves the state of the disk unchanged
 pub run_unasked : (s : Settings) (a b : Disk) (files : List DoneFile) (text : List ℕ) (reports : List ErrorLine) → Run s a b files text reports
-    → s.options.write ≡ false → b ≡ a
+    → s.options.write ≡ false → b.state ≡ a.state
 run_unasked s a b files text reports none unasked = refl
 run_unasked s a b files text reports (one_more between new front all path before line whole earlier own every outcome run step e w r) unasked =
     step_unasked s between new path line own outcome step unasked ∙ run_unasked s a between front before earlier run unasked
 
--- a run over files that are all minimal or refused already leaves the disk unchanged, and has no line of standard output
+-- a run over files that are all minimal or refused already leaves the state of the disk unchanged, and has no line of standard output
 pub run_tidy : (s : Settings) (a b : Disk) (files : List DoneFile) (text : List ℕ) (reports : List ErrorLine) → Run s a b files text reports
-    → AreTidy s a.state (map path_of files) → (b ≡ a) × (text ≡ [])
+    → AreTidy s a.state (map path_of files) → (b.state ≡ a.state) × (text ≡ [])
 run_tidy s a b files text reports none t = (refl, refl)
 run_tidy s a b files text reports (one_more between new front all path before line whole earlier own every outcome run step e w r) t =
     let P : List ℕ → Type 0 = λ p. IsTidy s (newest (a.state.history (a.state.place p))) in
     let here : AllByRecursion P (map path_of front ++ path ∷ []) = subst (AllByRecursion P) (ap (map path_of) e ∙ map_last front (path, outcome)) t in
-    let before_it : (between ≡ a) × (before ≡ []) = run_tidy s a between front before earlier run (all_front P (map path_of front) (path ∷ []) here) in
+    let before_it : (between.state ≡ a.state) × (before ≡ []) = run_tidy s a between front before earlier run (all_front P (map path_of front) (path ∷ []) here) in
     let last : IsTidy s (content_at between.state path) =
-    subst (λ (d : Disk). IsTidy s (content_at d.state path)) (sym before_it.0) (all_next P (map path_of front) path [] here) in
-    let it : (new ≡ between) × (line ≡ []) = step_tidy s between new path line own outcome step last in
+    subst (λ (d : DiskState). IsTidy s (content_at d path)) (sym before_it.0) (all_next P (map path_of front) path [] here) in
+    let it : (new.state ≡ between.state) × (line ≡ []) = step_tidy s between new path line own outcome step last in
     (it.0 ∙ before_it.0, w ∙ (ap (λ z. z ++ line) before_it.1 ∙ it.1))
 
 -- each file of a run with the outcome `Minimal` is a minimal file at the end of the run

@@ -1,7 +1,7 @@
 -- The disk after one file of a run.
 use Rattle.std.proofs.Common.{◌≡◌, ◌≢◌, ℕ, true, false, List, [], Option, Some, None, inl, inr, sym, ap, ◌∙◌, subst}
 use Rattle.kmin_disk.specs.Contents.{Content, nothing, file, unfinished, special}
-use Rattle.kmin_disk.specs.Disks.{Disk, DiskState, IsUnchanged, Replaces, content_at}
+use Rattle.kmin_disk.specs.Disks.{Disk, DiskState, MayFailOnce, IsUnchanged, Replaces, content_at}
 use Rattle.kmin_disk.proofs.Places.{same_place_or_other}
 use Rattle.kmin_tidy.specs.Options.{Settings, Notices, refuses_notices}
 use Rattle.kmin_tidy.specs.MinimalFiles.{IsReadAs, HasMinimalFile, IsNotMinimal}
@@ -15,10 +15,25 @@ use Rattle.kmin_tidy.specs.Refusals.{IsRefused}
 use Rattle.kmin_tidy.proofs.KeptPlaces.{stays_same, minimal_not, written_minimal, holds_read, holds_written}
 use Rattle.kmin_report.specs.Reports.{ErrorLine}
 
+same_state : (a b : Disk) → b ≡ a → b.state ≡ a.state
+same_state a b e = ap (λ (d : Disk). d.state) e
+
+-- a call that failed and changes no file leaves the state of the disk as it was
+pub once_same : (a b : Disk) → MayFailOnce a b → b.state ≡ a.state
+once_same a b (inl e) = same_state a b e
+once_same a b (inr h) = h.same
+
 module _ (s : Settings) (a b : Disk) (path : List ℕ) where
-  -- on a disk that is unchanged, each place is as it was
-  pub same_kept : b ≡ a → (place : List ℕ) → IsKept s (a.state.history place) (b.state.history place)
-  same_kept e place = inl (stays_same (a.state.history place) (b.state.history place) (ap (λ (d : Disk). d.state.history place) e))
+  -- a file that is refused leaves the state of the disk as it was
+  refused_same : (line : ErrorLine) (outcome : FileOutcome) → IsRefused s a b path outcome line → b.state ≡ a.state
+  refused_same line outcome (refusals.faulty bytes kind number r first h o l) = once_same a b h
+  refused_same line outcome (refusals.unread front rest number r first h o l) = h.same
+  refused_same line outcome (refusals.unopened may opens h o l) = h.same
+  refused_same line outcome (refusals.not_regular w k e o l) = same_state a b e
+
+  -- on a disk whose state is unchanged, each place is as it was
+  pub same_kept : b.state ≡ a.state → (place : List ℕ) → IsKept s (a.state.history place) (b.state.history place)
+  same_kept e place = inl (stays_same (a.state.history place) (b.state.history place) (ap (λ (d : DiskState). d.history place) e))
 
   pub unchanged_kept : IsUnchanged a.state b.state → (place : List ℕ) → IsKept s (a.state.history place) (b.state.history place)
   unchanged_kept u place = inl (u.histories place)
@@ -48,16 +63,16 @@ module _ (s : Settings) (a b : Disk) (path : List ℕ) where
   -- after one file of a run, each place is as before, or its file was replaced by its minimal file
   pub step_kept : (line : List ℕ) (reports : List ErrorLine) (outcome : FileOutcome) → Step s a b path line reports outcome
       → (place : List ℕ) → IsKept s (a.state.history place) (b.state.history place)
-  step_kept line reports outcome (refused report r e l k) place = same_kept e place
-  step_kept line reports outcome (noticed bytes notices r h some asked e l k o) place = same_kept e place
-  step_kept line reports outcome (minimal bytes notices m e l k o) place = same_kept e place
-  step_kept line reports outcome (shown bytes least notices d w e l k o) place = same_kept e place
+  step_kept line reports outcome (refused report r l k) place = same_kept (refused_same report outcome r) place
+  step_kept line reports outcome (noticed bytes notices r h some asked e l k o) place = same_kept (same_state a b e) place
+  step_kept line reports outcome (minimal bytes notices m e l k o) place = same_kept (same_state a b e) place
+  step_kept line reports outcome (shown bytes least notices d w e l k o) place = same_kept (same_state a b e) place
   step_kept line reports outcome (replaced bytes least notices d w r f l k o) place = replaced_kept bytes least notices d r place
   step_kept line reports outcome (unwritten bytes least notices d w u l k o) place = unwritten_kept u place
   step_kept line reports outcome (unsynced bytes least notices d w u l k o) place = replaced_kept bytes least notices d u.replaced place
 
-  same_places : b ≡ a → (any : List ℕ) → b.state.place any ≡ a.state.place any
-  same_places e any = ap (λ (d : Disk). d.state.place any) e
+  same_places : b.state ≡ a.state → (any : List ℕ) → b.state.place any ≡ a.state.place any
+  same_places e any = ap (λ (d : DiskState). d.place any) e
 
   unwritten_places : IsUnwritten a b path → (any : List ℕ) → b.state.place any ≡ a.state.place any
   unwritten_places (call_failed u f) any = u.places any
@@ -67,35 +82,35 @@ module _ (s : Settings) (a b : Disk) (path : List ℕ) where
   -- each path leads to the same place before and after one file of a run
   pub step_places : (line : List ℕ) (reports : List ErrorLine) (outcome : FileOutcome) → Step s a b path line reports outcome
       → (any : List ℕ) → b.state.place any ≡ a.state.place any
-  step_places line reports outcome (refused report r e l k) any = same_places e any
-  step_places line reports outcome (noticed bytes notices r h some asked e l k o) any = same_places e any
-  step_places line reports outcome (minimal bytes notices m e l k o) any = same_places e any
-  step_places line reports outcome (shown bytes least notices d w e l k o) any = same_places e any
+  step_places line reports outcome (refused report r l k) any = same_places (refused_same report outcome r) any
+  step_places line reports outcome (noticed bytes notices r h some asked e l k o) any = same_places (same_state a b e) any
+  step_places line reports outcome (minimal bytes notices m e l k o) any = same_places (same_state a b e) any
+  step_places line reports outcome (shown bytes least notices d w e l k o) any = same_places (same_state a b e) any
   step_places line reports outcome (replaced bytes least notices d w r f l k o) any = r.places any
   step_places line reports outcome (unwritten bytes least notices d w u l k o) any = unwritten_places u any
   step_places line reports outcome (unsynced bytes least notices d w u l k o) any = u.replaced.places any
 
-  -- without `write`, one file of a run leaves the disk unchanged
+  -- without `write`, one file of a run leaves the state of the disk unchanged
   pub step_unasked : (line : List ℕ) (reports : List ErrorLine) (outcome : FileOutcome) → Step s a b path line reports outcome
-      → s.options.write ≡ false → b ≡ a
-  step_unasked line reports outcome (refused report r e l k) unasked = e
-  step_unasked line reports outcome (noticed bytes notices r h some asked e l k o) unasked = e
-  step_unasked line reports outcome (minimal bytes notices m e l k o) unasked = e
-  step_unasked line reports outcome (shown bytes least notices d w e l k o) unasked = e
+      → s.options.write ≡ false → b.state ≡ a.state
+  step_unasked line reports outcome (refused report r l k) unasked = refused_same report outcome r
+  step_unasked line reports outcome (noticed bytes notices r h some asked e l k o) unasked = same_state a b e
+  step_unasked line reports outcome (minimal bytes notices m e l k o) unasked = same_state a b e
+  step_unasked line reports outcome (shown bytes least notices d w e l k o) unasked = same_state a b e
   step_unasked line reports outcome (replaced bytes least notices d w r f l k o) unasked = let z : true ≡ false = sym w ∙ unasked in (cc)
   step_unasked line reports outcome (unwritten bytes least notices d w u l k o) unasked = let z : true ≡ false = sym w ∙ unasked in (cc)
   step_unasked line reports outcome (unsynced bytes least notices d w u l k o) unasked = let z : true ≡ false = sym w ∙ unasked in (cc)
 
-  refused_not_minimal : (line : ErrorLine) (outcome : FileOutcome) → IsRefused s a.state path outcome line → outcome ≡ Minimal → ⊥
-  refused_not_minimal line outcome (refusals.faulty bytes kind number r first o l) m = let z : Refused ≡ Minimal = sym o ∙ m in (cc)
-  refused_not_minimal line outcome (refusals.unread front rest number r first o l) m = let z : Failed ≡ Minimal = sym o ∙ m in (cc)
-  refused_not_minimal line outcome (refusals.unopened may opens o l) m = let z : Failed ≡ Minimal = sym o ∙ m in (cc)
-  refused_not_minimal line outcome (refusals.not_regular w k o l) m = let z : Failed ≡ Minimal = sym o ∙ m in (cc)
+  refused_not_minimal : (line : ErrorLine) (outcome : FileOutcome) → IsRefused s a b path outcome line → outcome ≡ Minimal → ⊥
+  refused_not_minimal line outcome (refusals.faulty bytes kind number r first h o l) m = let z : Refused ≡ Minimal = sym o ∙ m in (cc)
+  refused_not_minimal line outcome (refusals.unread front rest number r first h o l) m = let z : Failed ≡ Minimal = sym o ∙ m in (cc)
+  refused_not_minimal line outcome (refusals.unopened may opens h o l) m = let z : Failed ≡ Minimal = sym o ∙ m in (cc)
+  refused_not_minimal line outcome (refusals.not_regular w k e o l) m = let z : Failed ≡ Minimal = sym o ∙ m in (cc)
 
   -- after one file of a run with the outcome `Minimal`, its path leads to a minimal file
   pub step_minimal : (line : List ℕ) (reports : List ErrorLine) (outcome : FileOutcome) → Step s a b path line reports outcome
       → outcome ≡ Minimal → HoldsMinimalFile s (b.state.history (b.state.place path))
-  step_minimal line reports outcome (refused report r e l k) m = absurd (refused_not_minimal report outcome r m)
+  step_minimal line reports outcome (refused report r l k) m = absurd (refused_not_minimal report outcome r m)
   step_minimal line reports outcome (noticed bytes notices r h some asked e l k o) m = let z : Refused ≡ Minimal = sym o ∙ m in (cc)
   step_minimal line reports outcome (minimal bytes notices h e l k o) m =
       subst (λ (d : Disk). HoldsMinimalFile s (d.state.history (d.state.place path))) (sym e)
@@ -125,12 +140,13 @@ pub tidy_same : (s : Settings) (disk : DiskState) (path bytes least : List ℕ) 
 tidy_same s disk path bytes least notices t d =
     tidy_content s (content_at disk path) bytes least notices t d.minimises.read.bytes_are d.minimises.minimal d.minimises.allowed d.differs
 
--- a path that leads to no file, or to a minimal or refused one, has no line of standard output, and leaves the disk unchanged
+-- a path that leads to no file, or to a minimal or refused one, has no line of standard output, and leaves the state of the disk
+-- unchanged
 pub step_tidy : (s : Settings) (a b : Disk) (path line : List ℕ) (reports : List ErrorLine) (outcome : FileOutcome) → Step s a b path line reports outcome
-    → IsTidy s (content_at a.state path) → (b ≡ a) × (line ≡ [])
-step_tidy s a b path line reports outcome (refused report r e l k) t = (e, l)
-step_tidy s a b path line reports outcome (noticed bytes notices r h some asked e l k o) t = (e, l)
-step_tidy s a b path line reports outcome (minimal bytes notices m e l k o) t = (e, l)
+    → IsTidy s (content_at a.state path) → (b.state ≡ a.state) × (line ≡ [])
+step_tidy s a b path line reports outcome (refused report r l k) t = (refused_same s a b path report outcome r, l)
+step_tidy s a b path line reports outcome (noticed bytes notices r h some asked e l k o) t = (same_state a b e, l)
+step_tidy s a b path line reports outcome (minimal bytes notices m e l k o) t = (same_state a b e, l)
 step_tidy s a b path line reports outcome (shown bytes least notices d w e l k o) t = absurd (tidy_same s a.state path bytes least notices t d)
 step_tidy s a b path line reports outcome (replaced bytes least notices d w r f l k o) t = absurd (tidy_same s a.state path bytes least notices t d)
 step_tidy s a b path line reports outcome (unwritten bytes least notices d w u l k o) t = absurd (tidy_same s a.state path bytes least notices t d)

@@ -1,5 +1,5 @@
 -- Whole runs, by their paths.
-use Rattle.std.proofs.Common.{◌≡◌, ℕ, ◌+◌, List, [], ◌∷◌, ◌++◌, refl, sym, ap, ◌∙◌, subst, inl, inr, Result, Ok, Err, IfErr}
+use Rattle.std.proofs.Common.{◌≡◌, ℕ, List, [], ◌∷◌, ◌++◌, refl, sym, ap, ◌∙◌, subst, inl, inr, Result, Ok, Err, IfErr}
 use Rattle.std.specs.Result.{IsErr, IsErrAnd}
 use Rattle.kmin_tidy.specs.Options.{Settings}
 use Rattle.kmin_disk.specs.Disks.{Disk}
@@ -42,7 +42,7 @@ stops_run s a b c paths front back path text earlier made stop e t (inr h) = at_
 
 -- a run for which memory runs out before its first file ends early, and leaves the disk unchanged
 pub stops_first : (s : Settings) (a : Disk) (paths : List (List ℕ)) → StopsRun s a a paths [] Memory
-stops_first s a paths = before_write a [] paths [] 0 refl (tidies_none s a) refl refl
+stops_first s a paths = before_write a [] paths [] 0 refl (tidies_none s a) (inl refl) refl
 
 -- the reason of a result that failed for lack of memory has every property that `Memory` has
 pub memory_stop : {T : Type 0} (r : Result T Stop) (P : Stop → Type 0) → IsErr r × IsErrAnd r (λ stop. stop ≡ Memory) → P Memory → IfErr r P

@@ -2,7 +2,7 @@
 use Rattle.std.specs.Prelude.{◌≡◌, ◌<◌, ℕ, true, List, [], ◌∷◌, ◌++◌, Option, length, take}
 use Rattle.std.specs.Io.KnownBytes.{Appends}
 use Rattle.kc_value.specs.Streams.{one_failure_more}
-use Rattle.kmin_disk.specs.Disks.{Disk, IsUnchanged, Leaves}
+use Rattle.kmin_disk.specs.Disks.{Disk, MayFailOnce, IsUnchanged, Leaves}
 use Rattle.kmin_disk.specs.NewFiles.{IsNewPath}
 use Rattle.kmin_tidy.specs.Options.{Settings, Notices}
 use Rattle.kmin_tidy.specs.MinimalFiles.{IsNotMinimal}
@@ -26,10 +26,10 @@ pub record LeavesNewFile (old new : Disk) (path new_path : List ℕ) : Type 0 wh
   pub failures : new.failures ≡ one_failure_more (one_failure_more old.failures)
 
 -- A run went over the first of its paths and ended early: memory ran out before or during the replacement of a file (status 6),
--- or a new file couldn't be removed (status 5).
+-- or a new file couldn't be removed (status 5). Where memory ran out before, a read of the file may have failed.
 pub data Stops (s : Settings) (old new : Disk) (paths : List (List ℕ)) (reports : List ErrorLine) (status : ℕ) : Type 0 where
   before_write : (between : Disk) (front back : List (List ℕ)) (text : List ℕ) (earlier : List ErrorLine) (made : ℕ)
-      → paths ≡ front ++ back → Tidies s old between front text earlier made → new ≡ between
+      → paths ≡ front ++ back → Tidies s old between front text earlier made → MayFailOnce between new
       → reports ≡ earlier ++ memory_line ∷ [] → status ≡ 6 → Stops s old new paths reports status
   at_write : (between : Disk) (front back : List (List ℕ)) (path text : List ℕ) (earlier : List ErrorLine) (made : ℕ)
       → paths ≡ front ++ path ∷ back → Tidies s old between front text earlier made → IsToBeReplaced s between path

@@ -4,7 +4,7 @@ use Rattle.kc_dotconfig_model.specs.declared.fault.LoadKind.{LoadKind}
 use Rattle.kc_dotconfig_model.specs.declared.fault.LoadKind.TheVariants.{Read}
 use Rattle.kc_dotconfig_model.specs.LoadFaults.{IsFirstFault, complete, cut_short}
 use Rattle.kmin_disk.specs.Contents.{IsOfKind, OpensAs, readable}
-use Rattle.kmin_disk.specs.Disks.{DiskState, content_at}
+use Rattle.kmin_disk.specs.Disks.{Disk, FailsOnce, MayFailOnce, content_at}
 use Rattle.kmin_disk.specs.declared.kind.FileKind.TheVariants.{NotRegular}
 use Rattle.kmin_tidy.specs.Options.{Settings}
 use Rattle.kmin_tidy.specs.MinimalFiles.{MayBeRead, IsReadAt}
@@ -12,16 +12,17 @@ use Rattle.kmin_report.specs.Reports.{ErrorLine, fault_line, not_regular_line}
 use Rattle.kmin_tidy.specs.declared.outcome.FileOutcome.{FileOutcome}
 use Rattle.kmin_tidy.specs.declared.outcome.FileOutcome.TheVariants.{Refused, Failed}
 
--- The file at a path is refused, with this outcome and this line of standard error: it has a first fault, a read fails before
--- one, it can't be opened, or under the option `--write` it isn't a regular file.
-pub data IsRefused (s : Settings) (disk : DiskState) (path : List ℕ) (outcome : FileOutcome) (line : ErrorLine) : Type 0 where
-  faulty : (bytes : List ℕ) (kind : LoadKind) (number : ℕ) → IsReadAt s disk path bytes
-      → IsFirstFault s.format s.tree complete bytes kind number → outcome ≡ Refused → line ≡ fault_line path number kind
-      → IsRefused s disk path outcome line
-  unread : (front rest : List ℕ) (number : ℕ) → IsReadAt s disk path (front ++ rest)
-      → IsFirstFault s.format s.tree cut_short front Read number → outcome ≡ Failed → line ≡ fault_line path number Read
-      → IsRefused s disk path outcome line
-  unopened : MayBeRead s disk path → OpensAs (readable (content_at disk path)) None → outcome ≡ Failed → line ≡ fault_line path 0 Read
-      → IsRefused s disk path outcome line
-  not_regular : s.options.write ≡ true → IsOfKind (content_at disk path) NotRegular → outcome ≡ Failed
-      → line ≡ not_regular_line path → IsRefused s disk path outcome line
+-- The file at a path is refused, with this outcome and this line of standard error, and no file changes: it has a first fault, and a
+-- read after the fault may have failed; a read fails before one, or it can't be opened, and that failure is counted; or under the
+-- option `--write` it isn't a regular file.
+pub data IsRefused (s : Settings) (old new : Disk) (path : List ℕ) (outcome : FileOutcome) (line : ErrorLine) : Type 0 where
+  faulty : (bytes : List ℕ) (kind : LoadKind) (number : ℕ) → IsReadAt s old.state path bytes
+      → IsFirstFault s.format s.tree complete bytes kind number → MayFailOnce old new → outcome ≡ Refused
+      → line ≡ fault_line path number kind → IsRefused s old new path outcome line
+  unread : (front rest : List ℕ) (number : ℕ) → IsReadAt s old.state path (front ++ rest)
+      → IsFirstFault s.format s.tree cut_short front Read number → FailsOnce old new → outcome ≡ Failed
+      → line ≡ fault_line path number Read → IsRefused s old new path outcome line
+  unopened : MayBeRead s old.state path → OpensAs (readable (content_at old.state path)) None → FailsOnce old new → outcome ≡ Failed
+      → line ≡ fault_line path 0 Read → IsRefused s old new path outcome line
+  not_regular : s.options.write ≡ true → IsOfKind (content_at old.state path) NotRegular → new ≡ old → outcome ≡ Failed
+      → line ≡ not_regular_line path → IsRefused s old new path outcome line

@@ -31,8 +31,8 @@ pub record IsUnsynced (old new : Disk) (path least : List ℕ) : Type 0 where
 -- standard error and its outcome.
 pub data Step (s : Settings) (old new : Disk) (path line : List ℕ) (reports : List ErrorLine) (outcome : FileOutcome) : Type 0 where
   -- the file isn't accepted
-  refused : (report : ErrorLine) → IsRefused s old.state path outcome report → new ≡ old → line ≡ []
-      → reports ≡ report ∷ [] → Step s old new path line reports outcome
+  refused : (report : ErrorLine) → IsRefused s old new path outcome report → line ≡ [] → reports ≡ report ∷ []
+      → Step s old new path line reports outcome
   -- the file is refused for its notices
   noticed : (bytes : List ℕ) (notices : Notices) → IsReadAt s old.state path bytes → HasNotices s bytes notices
       → notices ≢ [] → refuses_notices s.options ≡ true → new ≡ old → line ≡ []

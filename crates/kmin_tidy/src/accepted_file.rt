@@ -1,10 +1,10 @@
 //! Reading a configuration file, and keeping its bytes.
-ghost use Rattle.std.specs.Prelude.{◌≡◌, ◌≢◌, ◌⊎◌, ◌≤◌, ℕ, List, Option, Some, length, IfOk, IfErr};
+ghost use Rattle.std.specs.Prelude.{◌≡◌, ◌≢◌, ◌⊎◌, ◌≤◌, ℕ, List, Option, Some, length, IfOk, IfErr, OnOk};
 ghost use Rattle.kc_rules.specs.between.SettledViews.{tree_of_settled};
 ghost use Rattle.kc_dotconfig_model.specs.between.Formats.{file_format};
 ghost use Rattle.kmin_disk.specs.Contents.{readable, OpensAs};
-ghost use Rattle.kmin_disk.specs.Disks.{content_at};
-ghost use Rattle.kc_files.specs.TreeContents.{HasRisen};
+ghost use Rattle.kmin_disk.specs.Disks.{FailsOnce, MayFailOnce, content_at};
+ghost use Rattle.kc_value.specs.Streams.{one_failure_more};
 ghost use Rattle.kmin_tidy.specs.checker.Readings.{IsAcceptedAs, IsFaulty, IsFaultOf, IsFaultOfPart, IsFragmentOf};
 
 use crate::part_reader::PartReader;
@@ -16,32 +16,32 @@ use std::alloc::{AllocError, Global};
 
 /// The bytes of an accepted configuration file, with their assignments and notices.
 #[derive(Drop)]
-pub(crate) struct AcceptedFile {
-    pub(crate) bytes: Vec<u8>,
-    pub(crate) fragment: Fragment,
+pub struct AcceptedFile {
+    pub bytes: Vec<u8>,
+    pub fragment: Fragment,
 }
 
 /// Reads the configuration file of a path.
 ///
 /// # Errors
 ///
-/// The first fault of the file. It is `Read` at line 0 where the file can't be opened.
+/// The first fault of the file. It is `Read` at line 0 where the file can't be opened. A `Read` is counted at the disk.
 pub(crate) fn read_file<D: ReadDisk>(
     alloc: Global,
     settled: &Settled,
     format: &Format,
     path: &str,
-    disk: &D,
+    disk: &mut D,
 ) -> Result<AcceptedFile, LoadFault>
-    ensures ok { IfOk result (IsAcceptedAs (file_format format.now) (tree_of_settled settled.now) (readable (content_at (D.disk disk.now).state path.now))) }
+    ensures ok { IfOk result (IsAcceptedAs (file_format format.now) (tree_of_settled settled.now) (readable (content_at (D.disk disk.old).state path.now))) }
     ensures fault { IfErr result (λ fault. IsFaulty (file_format format.now) (tree_of_settled settled.now)
-        (readable (content_at (D.disk disk.now).state path.now)) fault.kind fault.line) }
+        (readable (content_at (D.disk disk.old).state path.now)) fault.kind fault.line) }
+    ensures unfailed { OnOk result (D.disk disk.new ≡ D.disk disk.old) }
+    ensures failed { IfErr result (λ fault. fault.kind ≡ LoadKind.Read → FailsOnce (D.disk disk.old) (D.disk disk.new)) }
+    ensures once { MayFailOnce (D.disk disk.old) (D.disk disk.new) }
 {
     match disk.open(path) {
-        Some(mut file) => {
-            let room = disk.size_of(&file);
-            read_source(alloc, settled, format, &mut file, room)
-        }
+        Some(file) => read_opened(alloc, settled, format, file, disk),
         None => Err(LoadFault {
             line: 0,
             kind: LoadKind::Read,
@@ -49,8 +49,35 @@ pub(crate) fn read_file<D: ReadDisk>(
     }
 }
 
+/// Reads an open configuration file to its end, and closes it.
+fn read_opened<D: ReadDisk>(
+    alloc: Global,
+    settled: &Settled,
+    format: &Format,
+    mut file: D::File,
+    disk: &mut D,
+) -> Result<AcceptedFile, LoadFault>
+    requires unread { D.File.Source.failures file ≡ 0 }
+    ensures ok { IfOk result (λ accepted. (known : Option (Option (List ℕ))) → OpensAs known (Some (D.File.Source.left file))
+        → IsAcceptedAs (file_format format.now) (tree_of_settled settled.now) known accepted) }
+    ensures fault { IfErr result (λ fault. (known : Option (Option (List ℕ))) → OpensAs known (Some (D.File.Source.left file))
+        → IsFaulty (file_format format.now) (tree_of_settled settled.now) known fault.kind fault.line) }
+    ensures unfailed { OnOk result (D.disk disk.new ≡ D.disk disk.old) }
+    ensures failed { IfErr result (λ fault. fault.kind ≡ LoadKind.Read → FailsOnce (D.disk disk.old) (D.disk disk.new)) }
+    ensures once { MayFailOnce (D.disk disk.old) (D.disk disk.new) }
+{
+    let room = disk.size_of(&file);
+    let read = read_source(alloc, settled, format, &mut file, room);
+    disk.close(file);
+    read
+}
+
 /// Reads a configuration file to its end. It is likely to have `room` bytes.
-fn read_source<S: Source>(
+///
+/// # Errors
+///
+/// The first fault of the file, or a read that fails before one; or out of memory.
+pub fn read_source<S: Source>(
     alloc: Global,
     settled: &Settled,
     format: &Format,
@@ -61,7 +88,9 @@ fn read_source<S: Source>(
         → IsAcceptedAs (file_format format.now) (tree_of_settled settled.now) known file) }
     ensures fault { IfErr result (λ fault. (known : Option (Option (List ℕ))) → OpensAs known (Some (S.left source.old))
         → IsFaulty (file_format format.now) (tree_of_settled settled.now) known fault.kind fault.line) }
-    ensures failed { IfErr result (λ fault. fault.kind ≡ LoadKind.Read → HasRisen (S.failures source.old) (S.failures source.new)) }
+    ensures unfailed { OnOk result (S.failures source.new ≡ S.failures source.old) }
+    ensures failed { IfErr result (λ fault. fault.kind ≡ LoadKind.Read → S.failures source.new ≡ one_failure_more (S.failures source.old)) }
+    ensures once { (S.failures source.new ≡ S.failures source.old) ⊎ (S.failures source.new ≡ one_failure_more (S.failures source.old)) }
 {
     let limit = MAX_CONFIG_BYTES + 1;
     match read_up_to(alloc, source, limit, room.min(limit)) {

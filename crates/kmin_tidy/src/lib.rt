@@ -13,6 +13,7 @@ mod run;
 mod stop;
 mod whole_run;
 
+pub use accepted_file::{AcceptedFile, read_source};
 pub use laws::files_with_the_same_values_get_the_same_bytes;
 pub use options::TidyOptions;
 pub use outcome::FileOutcome;

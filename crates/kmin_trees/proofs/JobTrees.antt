@@ -5,8 +5,6 @@ use Rattle.kc_tree_model.specs.TreeFiles.{Files}
 use Rattle.kc_macros_model.specs.Programs.{Notice}
 use Rattle.kc_macros_model.specs.AnswerFiles.{RecordedAnswers}
 use Rattle.kc_macros_model.specs.ReadingStates.{ExpandedFile}
-use Rattle.kc_rules.specs.declared.rules.Settled.{Settled}
-use Rattle.kc_rules.specs.between.SettledViews.{tree_of_settled}
 use Rattle.kc_expansion.specs.Expansions.{IsExpansion}
 use Rattle.kmin_options.specs.Jobs.{Expansion, Settings}
 use Rattle.kmin_report.specs.declared.run_error.RunError.{RunError}
@@ -15,7 +13,6 @@ use Rattle.kmin_inputs.specs.FileContents.{Surroundings, AreTextsBelow}
 use Rattle.kmin_inputs.specs.JobAnswers.{AreJobAnswers}
 use Rattle.kmin_trees.specs.JobTexts.{TreeTexts, AreExpandedTexts, AreTextsOfJob, as_they_are, expanded, expanded_texts, named_texts}
 use Rattle.kmin_trees.specs.TreeFolders.{contents_below}
-use Rattle.kmin_trees.specs.AcceptedTrees.{AreAccepted}
 use Rattle.kmin_report.specs.Reports.{ErrorLine, macro_notice_line}
 use Rattle.kmin_report.specs.StandardError.{SpelledBytes, TakesLines}
 use Rattle.kmin_trees.specs.Stops.{StopsInExpansion, StopsAtTree}
@@ -28,12 +25,9 @@ use Rattle.kmin_trees.specs.between.ExpansionStops as expanding
 use Rattle.kmin_report.specs.between.RunErrors.{status_of}
 use Rattle.kmin_trees.specs.between.TreeStops.{StopsAtTexts}
 use Rattle.kmin_trees.specs.between.TreeStops as tree_stops
+use Rattle.kmin_trees.specs.between.JobTrees.{plain_texts}
 use Rattle.kmin_inputs.proofs.FailureCounts.{rises_later}
 use Rattle.kmin_report.proofs.WriterLemmas.{lines_append}
-
--- the texts of a tree without expansion: they are named by their paths, and there are no notices
-abbrev pub plain_texts : Files → TreeTexts
-plain_texts texts = record { texts = texts; names = texts; lines = [] }
 
 pub are_plain : (known : Surroundings) (settings : Settings) (texts : Files) → settings.expansion ≡ None
     → AreTextsBelow known.content settings.root settings.language texts
@@ -57,22 +51,20 @@ not_plain settings expansion e none = absurd (let z : ⊥ = cc in z)
 module _ (known : Surroundings) (settings : Settings) (taken taken_after : SpelledBytes) (failed failed_after : ℕ) where
   -- without the expansion of macros
   module _ (e : settings.expansion ≡ None) where
-    pub plain_accepted : (r : Result Settled RunError)
-        → IfOk r (λ settled. (texts : Files) × AreTextsBelow known.content settings.root settings.language texts
-        × AreAccepted texts settings.tree (tree_of_settled settled))
-        → IfOk r (λ settled. TakesLines taken failed [] taken_after failed_after)
-        → IfOk r (λ settled. (t : TreeTexts) × AreTextsOfJob known settings t × AreAccepted t.texts settings.tree (tree_of_settled settled)
-        × TakesLines taken failed t.lines taken_after failed_after)
-    plain_accepted (Err stop) h k = tt
-    plain_accepted (Ok settled) h k = (plain_texts h.0, are_plain known settings h.0 e h.1, h.2, k)
+    pub plain_accepted : {T : Type 0} (Is : TreeTexts → T → Type 0) (r : Result T RunError)
+        → IfOk r (λ tree. (texts : Files) × AreTextsBelow known.content settings.root settings.language texts × Is (plain_texts texts) tree)
+        → IfOk r (λ tree. TakesLines taken failed [] taken_after failed_after)
+        → IfOk r (λ tree. (t : TreeTexts) × AreTextsOfJob known settings t × Is t tree × TakesLines taken failed t.lines taken_after failed_after)
+    plain_accepted Is (Err stop) h k = tt
+    plain_accepted Is (Ok tree) h k = (plain_texts h.0, are_plain known settings h.0 e h.1, h.2, k)
 
-    pub plain_stopped : (counted counted_after : ℕ) (r : Result Settled RunError)
+    pub plain_stopped : {T : Type 0} (counted counted_after : ℕ) (r : Result T RunError)
         → IfErr r (λ stop. (texts : Files) × (lines : List ErrorLine) × AreTextsBelow known.content settings.root settings.language texts
         × StopsAtTexts texts texts settings.tree (status_of stop) lines × TakesLines taken failed lines taken_after failed_after
         × (status_of stop ≡ 3 → MissesOnlyMissing known.content settings.root settings.tree texts counted counted_after))
         → IfErr r (λ stop. (lines : List ErrorLine) × StopsAtTree known counted counted_after settings (status_of stop) lines
         × TakesLines taken failed lines taken_after failed_after)
-    plain_stopped counted counted_after (Ok settled) h = tt
+    plain_stopped counted counted_after (Ok tree) h = tt
     plain_stopped counted counted_after (Err stop) h = (
       h.1,
       texts_stop known counted counted_after settings (plain_texts h.0) (status_of stop) h.1 h.1 (are_plain known settings h.0 e h.2) h.3
@@ -82,13 +74,12 @@ module _ (known : Surroundings) (settings : Settings) (taken taken_after : Spell
 
   -- with the expansion of macros
   module _ (expansion : Expansion) (e : settings.expansion ≡ Some expansion) where
-    pub expanded_accepted : (r : Result Settled RunError)
-        → IfOk r (λ settled. (t : TreeTexts) × AreExpandedTexts known settings.root settings.tree settings.language expansion t
-        × AreAccepted t.texts settings.tree (tree_of_settled settled) × TakesLines taken failed t.lines taken_after failed_after)
-        → IfOk r (λ settled. (t : TreeTexts) × AreTextsOfJob known settings t × AreAccepted t.texts settings.tree (tree_of_settled settled)
+    pub expanded_accepted : {T : Type 0} (Is : TreeTexts → T → Type 0) (r : Result T RunError)
+        → IfOk r (λ tree. (t : TreeTexts) × AreExpandedTexts known settings.root settings.tree settings.language expansion t × Is t tree
         × TakesLines taken failed t.lines taken_after failed_after)
-    expanded_accepted (Err stop) h = tt
-    expanded_accepted (Ok settled) h = (h.0, expanded expansion e h.1, h.2, h.3)
+        → IfOk r (λ tree. (t : TreeTexts) × AreTextsOfJob known settings t × Is t tree × TakesLines taken failed t.lines taken_after failed_after)
+    expanded_accepted Is (Err stop) h = tt
+    expanded_accepted Is (Ok tree) h = (h.0, expanded expansion e h.1, h.2, h.3)
 
     stops_of : (counted counted_after status : ℕ) (lines : List ErrorLine)
         → StopsAtExpanded known counted counted_after settings.root settings.tree settings.language expansion status lines
@@ -97,39 +88,39 @@ module _ (known : Surroundings) (settings : Settings) (taken taken_after : Spell
     stops_of counted counted_after status lines (expanded_stops.at_texts t more h s l) =
         texts_stop known counted counted_after settings t status more lines (expanded expansion e h) s (λ three none. not_plain settings expansion e none) l
 
-    pub expanded_stopped : (counted counted_after : ℕ) (r : Result Settled RunError)
+    pub expanded_stopped : {T : Type 0} (counted counted_after : ℕ) (r : Result T RunError)
         → IfErr r (λ stop. (lines : List ErrorLine)
         × StopsAtExpanded known counted counted_after settings.root settings.tree settings.language expansion (status_of stop) lines
         × TakesLines taken failed lines taken_after failed_after)
         → IfErr r (λ stop. (lines : List ErrorLine) × StopsAtTree known counted counted_after settings (status_of stop) lines
         × TakesLines taken failed lines taken_after failed_after)
-    expanded_stopped counted counted_after (Ok settled) h = tt
+    expanded_stopped counted counted_after (Ok tree) h = tt
     expanded_stopped counted counted_after (Err stop) h = (h.0, stops_of counted counted_after (status_of stop) h.0 h.1, h.2)
 
 -- expanded files, settled
-module _ (known : Surroundings) (root first : List ℕ) (language : Language) (expansion : Expansion) (texts names : Files)
+module _ {T : Type 0} (known : Surroundings) (root first : List ℕ) (language : Language) (expansion : Expansion) (texts names : Files)
     (taken middle taken_after : SpelledBytes) (failed failed_middle failed_after : ℕ)
     (h : (t : TreeTexts) × AreExpandedTexts known root first language expansion t × (t.texts ≡ texts) × (t.names ≡ names)
     × TakesLines taken failed t.lines middle failed_middle) where
-  pub settled_accepted : (r : Result Settled RunError) → IfOk r (λ settled. AreAccepted texts first (tree_of_settled settled))
-      → IfOk r (λ settled. TakesLines middle failed_middle [] taken_after failed_after)
-      → IfOk r (λ settled. (t : TreeTexts) × AreExpandedTexts known root first language expansion t × AreAccepted t.texts first (tree_of_settled settled)
+  pub settled_accepted : (Is : TreeTexts → T → Type 0) (r : Result T RunError) → IfOk r (λ tree. (t : TreeTexts) → t.texts ≡ texts → t.names ≡ names → Is t tree)
+      → IfOk r (λ tree. TakesLines middle failed_middle [] taken_after failed_after)
+      → IfOk r (λ tree. (t : TreeTexts) × AreExpandedTexts known root first language expansion t × Is t tree
       × TakesLines taken failed t.lines taken_after failed_after)
-  settled_accepted (Err stop) a k = tt
-  settled_accepted (Ok settled) a k = (
+  settled_accepted Is (Err stop) a k = tt
+  settled_accepted Is (Ok tree) a k = (
     h.0,
     h.1,
-    subst (λ (fs : Files). AreAccepted fs first (tree_of_settled settled)) (sym h.2) a,
+    a h.0 h.2 h.3,
     subst (λ ls. TakesLines taken failed ls taken_after failed_after) (append-nil h.0.lines)
         (lines_append taken middle failed failed_middle h.0.lines [] taken_after failed_after h.4 k),
   )
 
-  pub settled_stopped : (counted counted_after : ℕ) (r : Result Settled RunError)
+  pub settled_stopped : (counted counted_after : ℕ) (r : Result T RunError)
       → IfErr r (λ stop. (lines : List ErrorLine) × StopsAtTexts texts names first (status_of stop) lines
       × TakesLines middle failed_middle lines taken_after failed_after)
       → IfErr r (λ stop. (lines : List ErrorLine) × StopsAtExpanded known counted counted_after root first language expansion (status_of stop) lines
       × TakesLines taken failed lines taken_after failed_after)
-  settled_stopped counted counted_after (Ok settled) s = tt
+  settled_stopped counted counted_after (Ok tree) s = tt
   settled_stopped counted counted_after (Err stop) s =
       let a = subst (λ (fs : Files). StopsAtTexts fs names first (status_of stop) s.0) (sym h.2) s.1 in
       let b = subst (λ (fs : Files). StopsAtTexts h.0.texts fs first (status_of stop) s.0) (sym h.3) a in (

@@ -7,5 +7,6 @@ pub mod UnfailedStops
 pub mod FileNameLemmas
 pub mod ListedQuestions
 pub mod JobTrees
+pub mod PathLists
 pub mod KnownTrees
 pub mod KnownExpansions

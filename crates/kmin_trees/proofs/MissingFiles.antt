@@ -19,7 +19,8 @@ use Rattle.kc_tree_model.specs.declared.fault.TreeFault.{TreeFault}
 use Rattle.kc_tree_model.specs.declared.fault.TreeKind.TheVariants.{MissingFile, OutOfMemory}
 use Rattle.kc_tree_model.proofs.ReadingLaws.TreesOfRelation.{tree_related, reported_related}
 use Rattle.kc_tree.specs.TreeModel.{TreeModel}
-use Rattle.kmin_trees.specs.between.Readings.{IsRead}
+use Rattle.kmin_trees.specs.between.Readings.{IsReadWith}
+use Rattle.kmin_trees.specs.declared.read_trees.ReadTree.{ReadTree}
 use Rattle.kc_files.specs.TreeContents.{FileContent, HasRisen}
 use Rattle.kmin_disk.specs.Contents.{OpensAs}
 use Rattle.kmin_inputs.specs.FileContents.{path_below}
@@ -121,15 +122,15 @@ both_err (Ok x) P Q h k = tt
 both_err (Err e) P Q h k = (h, k)
 
 -- texts that are refused for a missing file lack only files that may count as missing, if their reading does
-pub misses_only : (content_of : List ℕ → FileContent) (root first : List ℕ) (texts : Files) (a b : ℕ) (read : Result TreeModel TreeFault)
-    → IsRead texts first read → IfErr read (λ f. f.kind ≢ OutOfMemory)
+pub misses_only : {L : Type 0} (AreOf : Files → List ℕ → TreeModel → L → Type 0) (content_of : List ℕ → FileContent) (root first : List ℕ) (texts : Files) (a b : ℕ)
+    (read : Result (ReadTree L) TreeFault) → IsReadWith L AreOf texts first read → IfErr read (λ f. f.kind ≢ OutOfMemory)
     → IfErr read (λ f. f.kind ≡ MissingFile → LacksOnlyMissing content_of root first texts a b)
     → MissesOnlyMissing content_of root first texts a b
-misses_only content_of root first texts a b (Ok tree) is n l = λ fault reported missing.
-    let none : first_tree_fault texts first ≡ None = ((tree_related texts first tree.tree).1 is).0 in
+misses_only AreOf content_of root first texts a b (Ok tree) is n l = λ fault reported missing.
+    let none : first_tree_fault texts first ≡ None = ((tree_related texts first tree.tree.tree).1 is.0).0 in
     let some : first_tree_fault texts first ≡ Some fault = (reported_related texts first fault).1 reported in
     absurd (let z : ⊥ = cc in z)
-misses_only content_of root first texts a b (Err f) is n l = λ fault reported missing.
+misses_only AreOf content_of root first texts a b (Err f) is n l = λ fault reported missing.
     let one : first_tree_fault texts first ≡ Some f = (reported_related texts first f).1 (is n) in
     let other : first_tree_fault texts first ≡ Some fault = (reported_related texts first fault).1 reported in
     let same : f ≡ fault = cc in

@@ -1,6 +1,7 @@
 pub mod AcceptedTrees
 pub mod TreeFolders
 pub mod JobTexts
+pub mod LinedTrees
 pub mod Stops
 pub mod MissingFiles
 pub mod KnownTrees

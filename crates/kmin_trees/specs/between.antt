@@ -4,4 +4,5 @@ pub mod TreeStops
 pub mod ExpansionStops
 pub mod ExpandedStops
 pub mod FileNames
+pub mod JobTrees
 pub mod FilesByPlace

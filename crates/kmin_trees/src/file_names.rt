@@ -1,8 +1,8 @@
 //! The names of a tree's files in messages.
-ghost use Rattle.std.specs.Prelude.{◌≡◌, None, Some, option_map};
+ghost use Rattle.std.specs.Prelude.{◌≡◌, length, option_map};
 ghost use Rattle.kc_tree_model.specs.TreeFiles.{path_at};
-ghost use Rattle.kmin_trees.specs.JobTexts.{name_of_key, named_texts};
-ghost use Rattle.kmin_trees.specs.between.FileNames.{names_of};
+ghost use Rattle.kmin_trees.specs.JobTexts.{name_of_key};
+ghost use Rattle.kmin_trees.specs.between.FileNames.{names_of, texts_named};
 
 use kc_expansion::ExpandedTree;
 use kc_tree::Texts;
@@ -33,14 +33,24 @@ impl<'a> FileNames<'a> {
         }
     }
 
-    /// The names of the files of an expanded tree: the paths that were read for their keys.
-    pub(crate) fn of_expanded(texts: &'a Texts, tree: &'a ExpandedTree) -> FileNames<'a>
-        ensures { names_of result ≡ named_texts tree.now texts.now }
+    /// The names of the files of a tree that may be expanded: those of an expanded one are the paths that were read for their keys.
+    pub(crate) fn of_tree(texts: &'a Texts, expanded: &'a Option<ExpandedTree>) -> FileNames<'a>
+        ensures { names_of result ≡ texts_named expanded.now texts.now }
     {
-        FileNames {
-            texts,
-            expanded: Some(tree),
+        match expanded {
+            Some(tree) => FileNames {
+                texts,
+                expanded: Some(tree),
+            },
+            None => FileNames::of_texts(texts),
         }
+    }
+
+    /// The count of the files.
+    pub(crate) fn len(&self) -> usize
+        ensures { result ≡ length (names_of self.now).list }
+    {
+        self.texts.len()
     }
 
     /// The name, in messages, of the file of this number among the texts; `None` if there is no such file.

@@ -8,22 +8,22 @@ ghost use Rattle.kc_files.specs.TreeContents.{HasRisen};
 ghost use Rattle.kmin_inputs.specs.FileContents.{AreTextsBelow, MatchContentStart, path_below};
 ghost use Rattle.kmin_trees.specs.MissingFiles.{MayBeMissing, LacksOnlyMissing};
 ghost use Rattle.kmin_trees.specs.between.InsertedFiles.{AreInserted};
-ghost use Rattle.kmin_trees.specs.between.Readings.{IsRead};
+ghost use Rattle.kmin_trees.specs.between.Readings.{IsReadWith};
 
 use crate::prefetch::absent_paths_of_file;
-use crate::trees::read_texts;
+use crate::read_trees::{KeptLines, ReadTree};
 use kc_builder::wanted;
 use kc_tokens::Language;
-use kc_tree::{Texts, Tree, TreeFault, TreeKind};
+use kc_tree::{Texts, TreeFault, TreeKind};
 use kc_value::{MAX_FILE_BYTES, MAX_FILES, ReadBytes, ReadEnd, Source, read_up_to};
 use kmin_inputs::Files;
 use std::alloc::{AllocError, Global};
 
-/// The texts of a tree's files, and the result of reading them as a tree.
+/// The texts of a tree's files, and the result of reading them as a tree, with what is kept of their lines.
 #[derive(Drop)]
-pub(crate) struct TreeReading {
+pub(crate) struct TreeReading<L> {
     pub(crate) texts: Texts,
-    pub(crate) read: Result<Tree, TreeFault>,
+    pub(crate) read: Result<ReadTree<L>, TreeFault>,
 }
 
 /// The room that is left for the files of a tree: their number and their bytes.
@@ -56,25 +56,25 @@ impl Room {
 
 /// The files of a tree, and the result of reading them. The first file is opened, and files that `source` lines seem to name; if
 /// the reading lacks a file, further ones are added until it lacks none that can be opened and read.
-pub(crate) fn gather<F: Files>(
+pub(crate) fn gather<L: KeptLines, F: Files>(
     alloc: Global,
     root: &str,
     first: &str,
     language: Language,
     files: &mut F,
-) -> Result<TreeReading, AllocError>
+) -> Result<TreeReading<L>, AllocError>
     ensures same { F.surroundings files.new ≡ F.surroundings files.old }
     ensures below { IfOk result (λ g. AreTextsBelow (F.surroundings files.old).content root.now language g.texts) }
-    ensures read { IfOk result (λ g. IsRead g.texts first.now g.read) }
+    ensures read { IfOk result (λ g. IsReadWith L L.are_of g.texts first.now g.read) }
     ensures missing { IfOk result (λ g. IfErr g.read (λ fault. fault.kind ≡ MissingFile → LacksOnlyMissing (F.surroundings files.old).content root.now first.now g.texts (F.failures files.old) (F.failures files.new))) }
     ensures rising { F.failures files.old ≤ F.failures files.new }
 {
     let mut texts = Texts::with_language(alloc, files.seed(), language);
     open_first(alloc, root, first, files, &mut texts)?;
-    let read = read_texts(alloc, &texts, first);
+    let read = L::read(alloc, &texts, first);
     if lacks_file(&read) {
         drop(read);
-        return gather_wanted(alloc, root, first, files, texts);
+        return gather_wanted::<L, F>(alloc, root, first, files, texts);
     }
     Ok(TreeReading { texts, read })
 }
@@ -99,27 +99,27 @@ fn open_first<F: Files>(
 
 /// Adds the files that a tree wants beside those of `texts`, until a reading misses none, and returns the result of
 /// that reading.
-fn gather_wanted<F: Files>(
+fn gather_wanted<L: KeptLines, F: Files>(
     alloc: Global,
     root: &str,
     first: &str,
     files: &mut F,
     mut texts: Texts,
-) -> Result<TreeReading, AllocError>
+) -> Result<TreeReading<L>, AllocError>
     requires below { AreTextsBelow (F.surroundings files.old).content root.now texts.language texts }
     ensures same { F.surroundings files.new ≡ F.surroundings files.old }
     ensures below { IfOk result (λ g. AreTextsBelow (F.surroundings files.old).content root.now texts.language g.texts) }
-    ensures read { IfOk result (λ g. IsRead g.texts first.now g.read) }
+    ensures read { IfOk result (λ g. IsReadWith L L.are_of g.texts first.now g.read) }
     ensures missing { IfOk result (λ g. LacksOnlyMissing (F.surroundings files.old).content root.now first.now g.texts (F.failures files.old) (F.failures files.new)) }
     ensures rising { F.failures files.old ≤ F.failures files.new }
 {
     open_wanted(alloc, root, first, files, &mut texts)?;
-    let read = read_texts(alloc, &texts, first);
+    let read = L::read(alloc, &texts, first);
     Ok(TreeReading { texts, read })
 }
 
 /// Whether a reading missed a file.
-fn lacks_file(read: &Result<Tree, TreeFault>) -> bool
+fn lacks_file<T>(read: &Result<T, TreeFault>) -> bool
     ensures { result ≡ false → IfErr read.now (λ fault. fault.kind ≢ MissingFile) }
 {
     match read {

@@ -1,3 +1,4 @@
+pub mod ExplainRefusals
 pub mod CommandWords
 pub mod TidyRefusals
 pub mod WordOrders

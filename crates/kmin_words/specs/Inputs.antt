@@ -1,9 +1,9 @@
 -- Words that name standard input.
 use Rattle.std.specs.Prelude.{ℕ, Bool, false, ◌||◌, List, Option, Some, None, bytes_eq, codes, count_by}
 use Rattle.std.specs.List.{list_any}
-use Rattle.kmin_options.specs.Jobs.{Settings, PathList, TidyJob, paths_of, questions_view, settings_view, task_view, tidy_job_view}
+use Rattle.kmin_options.specs.Jobs.{Settings, PathList, TidyJob, paths_of, questions_view, settings_view, task_view, tidy_job_view, explain_job_view}
 use Rattle.kmin_words.specs.declared.command_line.ParsedWords.{ParsedWords}
-use Rattle.kmin_words.specs.declared.command_line.ParsedWords.TheVariants.{Job, Save, Questions as TheQuestions, Tidy}
+use Rattle.kmin_words.specs.declared.command_line.ParsedWords.TheVariants.{Job, Save, Questions as TheQuestions, Tidy, Explain}
 
 -- whether a path names standard input: `-` or `/dev/stdin`, compared as texts
 abbrev pub is_input : (path : List ℕ) → Bool
@@ -33,6 +33,7 @@ reads_input (Save output_job) =
     do_settings_read_input (settings_view output_job.job.settings) || list_any is_input (paths_of (task_view output_job.job.task))
 reads_input (TheQuestions questions) = list_any is_input (questions_view questions).expansion.answers
 reads_input (Tidy tidy_job) = does_tidy_read_input (tidy_job_view tidy_job)
+reads_input (Explain explain_job) = do_settings_read_input (settings_view explain_job.settings) || list_any is_input (explain_job_view explain_job).files
 reads_input parsed = false
 
 -- the message with which standard input that is named twice is refused

@@ -8,6 +8,7 @@ ghost use Rattle.kmin_options.specs.between.OptionValues as options;
 ghost use Rattle.kmin_words.specs.between.WordValues as parsed;
 ghost use Rattle.kmin_options.specs.between.Refusals.{Agrees};
 
+use crate::explain_words::explain_job_of;
 use crate::names::{nearest, with_tip};
 use crate::output_words::job_and_output;
 use crate::tidy_words::tidy_job_of;
@@ -19,7 +20,7 @@ use kc_tokens::{Language, LinuxVersion};
 use kmin_commands::{command_names, explained_names, kind_asked, message_tables, program};
 use kmin_messages::Form;
 use kmin_options::{
-    Job, OutputJob, Questions, Refusal, Settings, Task, TidyJob, Verb, check_inputs,
+    ExplainJob, Job, OutputJob, Questions, Refusal, Settings, Task, TidyJob, Verb, check_inputs,
     expansion_if_given, expansion_of, is_given, name_prefix_of, value_of, values_of,
 };
 use std::alloc::{AllocError, Global};
@@ -35,6 +36,8 @@ pub enum ParsedWords<'a> {
     Questions(Questions<'a>),
     /// `kmin tidy`, which compares each file with its minimal file, or replaces it.
     Tidy(TidyJob<'a>),
+    /// `kmin explain`, which says why symbols have their values.
+    Explain(ExplainJob<'a>),
     /// The text of the help or of the version, if the words request it.
     Help(String),
     /// The message for words that are refused.
@@ -112,6 +115,7 @@ fn named_job<'a>(
     match name {
         "wants" => parsed_questions(alloc, matches),
         "tidy" => parsed_tidy_job(alloc, matches),
+        "explain" => parsed_explain_job(alloc, matches),
         _ => parsed_job(alloc, name, matches),
     }
 }
@@ -139,6 +143,20 @@ fn parsed_tidy_job<'a>(
 {
     match tidy_job_of(alloc, matches) {
         Ok(tidy_job) => Ok(ParsedWords::Tidy(tidy_job)),
+        Err(Refusal::Words(line)) => Ok(ParsedWords::Refused(String::from_str(alloc, line)?)),
+        Err(Refusal::OutOfMemory) => Err(AllocError),
+    }
+}
+
+/// The command `explain`, or the message for a value that isn't allowed.
+fn parsed_explain_job<'a>(
+    alloc: Global,
+    matches: &ArgMatches<'a>,
+) -> Result<ParsedWords<'a>, AllocError>
+    ensures { IfOk result (parsed.IsExplainJob (parsed.explain_job_of (found_of matches.now))) }
+{
+    match explain_job_of(alloc, matches) {
+        Ok(explain_job) => Ok(ParsedWords::Explain(explain_job)),
         Err(Refusal::Words(line)) => Ok(ParsedWords::Refused(String::from_str(alloc, line)?)),
         Err(Refusal::OutOfMemory) => Err(AllocError),
     }

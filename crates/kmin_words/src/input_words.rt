@@ -3,11 +3,11 @@ ghost use Rattle.std.specs.Prelude.{◌≡◌, ◌&&◌, ◌||◌, map, option_m
 ghost use Rattle.std.specs.List.{list_any};
 ghost use Rattle.std.specs.Borrow.{Bor};
 ghost use Rattle.kmin_words.specs.Inputs.{do_settings_read_input, does_tidy_read_input, inputs_named, is_input, is_list_input, reads_input};
-ghost use Rattle.kmin_options.specs.Jobs.{list_view, paths_of, settings_view, task_view, tidy_job_view};
+ghost use Rattle.kmin_options.specs.Jobs.{explain_job_view, list_view, paths_of, settings_view, task_view, tidy_job_view};
 ghost use Rattle.kmin_words.specs.Parses.{AreParsedBeside};
 
 use crate::command_line::{ParsedWords, read_words};
-use kmin_options::{Job, PathList, Settings, Task, TidyJob};
+use kmin_options::{ExplainJob, Job, PathList, Settings, Task, TidyJob};
 use std::alloc::{AllocError, Global};
 
 /// The message with which standard input that is named twice is refused.
@@ -74,6 +74,7 @@ fn reads_input(parsed: &ParsedWords<'_>) -> bool
         ParsedWords::Save(output_job) => does_job_read_input(&output_job.job),
         ParsedWords::Questions(questions) => is_any_input(&questions.expansion.answers),
         ParsedWords::Tidy(tidy_job) => does_tidy_read_input(tidy_job),
+        ParsedWords::Explain(explain_job) => does_explain_read_input(explain_job),
         ParsedWords::Help(_) => false,
         ParsedWords::Refused(_) => false,
     }
@@ -116,6 +117,14 @@ fn does_tidy_read_input(tidy_job: &TidyJob<'_>) -> bool
     do_settings_read_input(&tidy_job.settings)
         || is_any_input(&tidy_job.files)
         || is_list_input(tidy_job.list)
+}
+
+/// Whether the command `explain` reads standard input.
+#[tactic(auto, using(kmin_options::proofs::Lists::any_map))]
+fn does_explain_read_input(explain_job: &ExplainJob<'_>) -> bool
+    ensures { result ≡ (do_settings_read_input (settings_view explain_job.now.settings) || list_any is_input (explain_job_view explain_job.now).files) }
+{
+    do_settings_read_input(&explain_job.settings) || is_any_input(&explain_job.files)
 }
 
 /// Whether the list of `tidy`, if there is one, is standard input.

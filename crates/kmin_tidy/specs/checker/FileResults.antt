@@ -1,6 +1,6 @@
 -- Results of a file that was read, and of a run that ends early.
 use Rattle.std.specs.Prelude.{◌≡◌, ◌≢◌, ◌⊎◌, ℕ, Bool, true, false, List, [], ◌∷◌, ◌++◌, Some, None, string_bytes}
-use Rattle.kmin_disk.specs.Disks.{Disk, IsUnchanged, Replaces}
+use Rattle.kmin_disk.specs.Disks.{Disk, MayFailOnce, IsUnchanged, Replaces}
 use Rattle.kmin_tidy.specs.Options.{Settings}
 use Rattle.kmin_tidy.specs.Reports.{difference_line}
 use Rattle.kmin_tidy.specs.Steps.{IsUnwritten, IsUnsynced}
@@ -50,12 +50,12 @@ StopsRewrite write old new path bytes least stop = ((stop ≡ Memory) × (new �
 
 -- the run ended at the file at a path: memory ran out before it was replaced, or replacing it ended the run
 abbrev pub StopsFile : Settings → (old new : Disk) → (path : List ℕ) → Stop → Type 0
-StopsFile s old new path stop = ((stop ≡ Memory) × (new ≡ old)) ⊎ (IsToBeReplaced s old path × StopsWrite old new path stop)
+StopsFile s old new path stop = ((stop ≡ Memory) × MayFailOnce old new) ⊎ (IsToBeReplaced s old path × StopsWrite old new path stop)
 
 -- a run over these paths ended early for this reason, after these lines of standard error
 pub data StopsRun (s : Settings) (old new : Disk) (paths : List (List ℕ)) (earlier : List ErrorLine) (stop : Stop) : Type 0 where
   before_write : (between : Disk) (front back : List (List ℕ)) (text : List ℕ) (made : ℕ) → paths ≡ front ++ back
-      → Tidies s old between front text earlier made → new ≡ between → stop ≡ Memory → StopsRun s old new paths earlier stop
+      → Tidies s old between front text earlier made → MayFailOnce between new → stop ≡ Memory → StopsRun s old new paths earlier stop
   at_write : (between : Disk) (front back : List (List ℕ)) (path text : List ℕ) (made : ℕ) → paths ≡ front ++ path ∷ back
       → Tidies s old between front text earlier made → IsToBeReplaced s between path → StopsWrite between new path stop
       → StopsRun s old new paths earlier stop

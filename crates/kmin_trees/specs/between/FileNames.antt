@@ -1,9 +1,20 @@
 -- The names of a tree's files in messages.
-use Rattle.std.specs.Prelude.{Some, None}
-use Rattle.kc_tree_model.specs.TreeFiles.{Files}
+use Rattle.std.specs.Prelude.{ℕ, List, [], Option, Some, None, option_map, unwrap_or}
+use Rattle.kc_tree_model.specs.TreeFiles.{Files, path_at}
+use Rattle.kc_macros_model.specs.ReadingStates.{ExpandedFile}
 use Rattle.kmin_trees.specs.declared.file_names.FileNames.{FileNames}
 use Rattle.kmin_trees.specs.JobTexts.{named_texts}
+use Rattle.kmin_trees.specs.LinedTrees.{name_text}
 
 -- the texts of a tree, each at the name in messages that a `FileNames` gives to its file
 abbrev pub names_of : FileNames → Files
 names_of n = elim n.expanded [ None ↦ n.texts.now | Some files ↦ named_texts files.now n.texts.now ]
+
+-- the texts of a tree, each at its name in messages, where the files may be expanded ones
+abbrev pub texts_named : Option (List ExpandedFile) → Files → Files
+texts_named None texts = texts
+texts_named (Some files) texts = named_texts files texts
+
+-- the name of the file with this number as a text; the empty one if there is no such file
+abbrev pub text_at : Files → ℕ → List ℕ
+text_at names number = unwrap_or (option_map name_text (path_at names number)) []

@@ -1,5 +1,5 @@
 -- The job of accepted words, by the values that their parser found.
-use Rattle.std.specs.Prelude.{◌≡◌, ℕ, Bool, true, false, not, ◌&&◌, ◌||◌, List, [], ◌∷◌, ◌++◌, drop, Option, Some, None, Ok, Err, is_some, codes, option_map, bytes_eq, if◌then◌else◌}
+use Rattle.std.specs.Prelude.{◌≡◌, ℕ, Bool, true, false, not, ◌&&◌, ◌||◌, List, [], ◌∷◌, ◌++◌, drop, Option, Some, None, Ok, Err, is_some, codes, option_map, option_to_list, bytes_eq, if◌then◌else◌}
 use Rattle.std.specs.List.{list_all, list_any}
 use Rattle.clap.specs.Words.{first_value}
 use Rattle.clap.specs.declared.parser.matches.Found.{Found}
@@ -14,11 +14,12 @@ use Rattle.kc_value.specs.Lines.{has_newline}
 use Rattle.kmin_messages.specs.declared.message.Form.{Form}
 use Rattle.kmin_messages.specs.declared.message.Form.TheVariants.{Long, Json}
 use Rattle.kmin_options.specs.declared.job.TidyFlags.{TidyFlags}
+use Rattle.kmin_options.specs.declared.job.ExplainFlags.{ExplainFlags}
 use Rattle.kmin_options.specs.declared.job.Verb.{Verb}
 use Rattle.kmin_options.specs.declared.job.Verb.TheVariants.{Min, Full, Missed, Check}
 use Rattle.kmin_words.specs.declared.command_line.ParsedWords.{ParsedWords}
-use Rattle.kmin_words.specs.declared.command_line.ParsedWords.TheVariants.{Job, Save, Questions as TheQuestions, Tidy, Refused}
-use Rattle.kmin_options.specs.Jobs.{Settings, Questions, PathList, TidyJob, Task, over, compare, paths_of, settings_view, questions_view, tidy_job_view, task_view}
+use Rattle.kmin_words.specs.declared.command_line.ParsedWords.TheVariants.{Job, Save, Questions as TheQuestions, Tidy, Explain, Refused}
+use Rattle.kmin_options.specs.Jobs.{Settings, Questions, PathList, TidyJob, ExplainJob, Task, over, compare, paths_of, settings_view, questions_view, tidy_job_view, explain_job_view, task_view}
 use Rattle.kmin_options.specs.between.OptionValues.{value_of, values_of, is_given, ValueResult, names_file, paths_beside, and_then, expansion_of, is_expanded, expansion_if_given, name_prefix_of}
 
 -- whether `--exit-code` is given
@@ -164,6 +165,25 @@ tidy_job_of found =
     and_then (settings_of found (paths_read files (list_of found))) (λ settings.
     Ok (record { settings = settings; flags = flags_of found; list = list_of found; files = files })))
 
+-- whether the flags `--deep`, `--all` and `--exit-code` are given
+abbrev pub explain_flags_of : Found → ExplainFlags
+explain_flags_of found = record { deep = is_given found (codes "deep"); all = is_given found (codes "all"); exit_code = exit_code_of found }
+
+-- the first word of `explain`, which with `--every` is the first file, and else the names
+abbrev pub names_of : Found → Option (List ℕ)
+names_of found = if is_given found (codes "every") then None else Some (value_of found (codes "NAME"))
+
+abbrev pub explained_files_of : Found → List (List ℕ)
+explained_files_of found = if is_given found (codes "every")
+    then option_to_list (first_value found (codes "NAME")) ++ values_of found (codes "FILE")
+    else values_of found (codes "FILE")
+
+-- the values of the command `explain`: its options, flags, names and files
+abbrev pub explain_job_of : Found → ValueResult ExplainJob
+explain_job_of found =
+    and_then (settings_of found (explained_files_of found)) (λ settings.
+    Ok (record { settings = settings; flags = explain_flags_of found; names = names_of found; files = explained_files_of found }))
+
 -- parsed words are the command `wants` with these values, or the message with which a value is refused
 abbrev pub AreQuestions : ValueResult Questions → ParsedWords → Type 0
 AreQuestions found (TheQuestions questions) = found ≡ Ok (questions_view questions)
@@ -184,9 +204,18 @@ IsTidyJob found (Tidy tidy_job) = found ≡ Ok (tidy_job_view tidy_job)
 IsTidyJob found (Refused text) = found ≡ Err text.bytes.items
 IsTidyJob found words = ⊥
 
+-- parsed words are the command `explain` with these values, or the message with which a value is refused
+abbrev pub IsExplainJob : ValueResult ExplainJob → ParsedWords → Type 0
+IsExplainJob found (Explain explain_job) = found ≡ Ok (explain_job_view explain_job)
+IsExplainJob found (Refused text) = found ≡ Err text.bytes.items
+IsExplainJob found words = ⊥
+
 -- parsed words are the command of this name with the values that were found, or the message with which one is refused
 abbrev pub HasValues : (name : List ℕ) → Found → ParsedWords → Type 0
 HasValues name found words = elim (bytes_eq name (codes "wants")) [
   | true ↦ AreQuestions (questions_of found) words
-  | false ↦ elim (bytes_eq name (codes "tidy")) [ true ↦ IsTidyJob (tidy_job_of found) words | false ↦ AreJob (job_and_output_of name found) words ]
+  | false ↦ elim (bytes_eq name (codes "tidy")) [
+    | true ↦ IsTidyJob (tidy_job_of found) words
+    | false ↦ elim (bytes_eq name (codes "explain")) [ true ↦ IsExplainJob (explain_job_of found) words | false ↦ AreJob (job_and_output_of name found) words ]
+  ]
 ]

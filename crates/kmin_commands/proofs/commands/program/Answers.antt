@@ -8,14 +8,16 @@ use Rattle.kmin_commands.proofs.commands.program.Goals as goal
 pub returns-clause-required : goal.returns-clause-required
 returns-clause-required c =
     let listing = c.in_ok-program-2.ensures _ (c.in_ok-program.ensures _ c.in_ok-named.ensures) in
-    let compare = with_command _ _ _ _ _ c.in_ok-program-3.ensures c.in_ok-compare.ensures listing in
+    let explain = with_command _ _ _ _ _ c.in_ok-program-3.ensures c.in_ok-explain.ensures listing in
+    let compare = with_command _ _ _ _ _ c.in_ok-program-4.ensures c.in_ok-compare.ensures explain in
     IfOk-weaker c.with_tidy_and_wants.result _ _ (λ made adds.
     let has = adds _ compare in (has.0, ap (λ (app : App). app.top.subcommand_required) has.1)) c.with_tidy_and_wants.ensures
 
 pub returns-clause-declared : goal.returns-clause-declared
 returns-clause-declared c =
     let listing = c.in_ok-program-2.ensures _ (c.in_ok-program.ensures _ c.in_ok-named.ensures) in
-    let compare = with_command _ _ _ _ _ c.in_ok-program-3.ensures c.in_ok-compare.ensures listing in
+    let explain = with_command _ _ _ _ _ c.in_ok-program-3.ensures c.in_ok-explain.ensures listing in
+    let compare = with_command _ _ _ _ _ c.in_ok-program-4.ensures c.in_ok-compare.ensures explain in
     IfOk-weaker c.with_tidy_and_wants.result _ _ (λ made adds.
     (_, record { languages = search rules; forms = search rules; profiles = search rules; messages = search rules }, (adds _ compare).1)) c.with_tidy_and_wants.ensures
 

@@ -9,5 +9,8 @@ returns-in-Save-clause-set g c = rw c.in-Save.is c.set_form_of-in-Save.ensures.s
 pub returns-in-Questions-clause-set : goal.returns-in-Questions-clause-set
 returns-in-Questions-clause-set g c = rw c.in-Questions.is c.set_form_of_questions.ensures.set
 
+pub returns-in-Explain-clause-set : goal.returns-in-Explain-clause-set
+returns-in-Explain-clause-set g c = rw c.in-Explain.is c.set_form_of-in-Explain.ensures.set
+
 pub returns-in-Tidy-clause-set : goal.returns-in-Tidy-clause-set
 returns-in-Tidy-clause-set g c = rw c.in-Tidy.is c.set_form_of-in-Tidy.ensures.set

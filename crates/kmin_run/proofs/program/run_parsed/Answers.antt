@@ -1,10 +1,10 @@
 use Rattle.std.proofs.Common.{[], ◌∷◌, inl, inr, refl, arith}
-use Rattle.kmin_options.specs.Jobs.{settings_view, questions_view, task_view}
+use Rattle.kmin_options.specs.Jobs.{explain_job_view, settings_view, questions_view, task_view}
 use Rattle.kmin_report.specs.Reports.{refused_line}
 use Rattle.kmin_report.proofs.WriterLemmas.{lines_one}
 use Rattle.kmin_run.specs.TidyRuns.{outputs_of}
 use Rattle.kmin_run.proofs.RunFailures.{help_rises}
-use Rattle.kmin_run.proofs.RunEnds.{job_ended, questions_ended}
+use Rattle.kmin_run.proofs.RunEnds.{explain_ended, job_ended, questions_ended}
 use Rattle.kmin_run.proofs.RunStatuses.{on_four_of_outputs, two_at_most_six, help_at_most_six, help_no_other, help_not_four}
 use Rattle.kmin_run.proofs.TidyLemmas.{by_asking}
 use Rattle.kmin_run.proofs.program.run_parsed.Goals as goal
@@ -51,6 +51,22 @@ returns-in-Questions g c =
       refused = λ four. inl (on_four_of_outputs c.list_questions.result four c.list_questions.ensures.unwritten);
       unwritten = λ zero one four five. c.list_questions.ensures.unwritten zero one five;
       failed = λ five. inl (elim (c.list_questions.ensures.failed five) [ inl files ↦ inl files | inr out ↦ inr (inr out) ]);
+    }
+
+pub returns-in-Explain : goal.returns-in-Explain
+returns-in-Explain g c =
+    let disk = g.D.ReadDisk.disk c.args.disk.now in record {
+      status = c.explain.ensures.status;
+      ends = rw c.in-Explain.is (
+          explain_ended (g.F.Files.surroundings c.args.files.now) _ _
+          (outputs_of disk (g.O.Sink.taken c.args.out.now) (g.O.Sink.failures c.args.out.now))
+          _ c.explain.result _ _ _ _ refl c.explain.ensures.accepted_words c.explain.ensures.unfailed c.explain.ensures.unwritten
+          (explain_job_view c.in-Explain.explain_job) c.explain.ensures.done c.explain.ensures.stopped c.explain.ensures.part
+          );
+      unasked = inl refl;
+      refused = λ four. inl (on_four_of_outputs c.explain.result four c.explain.ensures.unwritten);
+      unwritten = λ zero one four five. c.explain.ensures.unwritten zero one five;
+      failed = λ five. inl (elim (c.explain.ensures.failed five) [ inl files ↦ inl files | inr out ↦ inr (inr out) ]);
     }
 
 pub returns-in-Tidy : goal.returns-in-Tidy

@@ -1,4 +1,4 @@
-use Rattle.std.proofs.Common.{◌≡◌, ℕ, List, length, sym, subst, refl}
+use Rattle.std.proofs.Common.{◌≡◌, ℕ, List, length, sym, subst, refl, inl}
 use Rattle.kc_value.specs.declared.reader_bytes.ReadEnd.TheVariants.{AtEnd}
 use Rattle.kc_value.specs.declared.limits.TheConstants.{MAX_CONFIG_BYTES}
 use Rattle.kc_rules.specs.between.SettledViews.{tree_of_settled}
@@ -7,7 +7,7 @@ use Rattle.kmin_report.specs.KnownBytes.{AreKnownBytes}
 use Rattle.kmin_tidy.specs.checker.Readings.{IsFragmentOf, for_memory}
 use Rattle.kmin_report.proofs.Results.{if_ok_map, if_err_map}
 use Rattle.kmin_report.proofs.KnownContents.{whole_content}
-use Rattle.kmin_tidy.proofs.ReadingLemmas.{faulty_read, ended_at_failure}
+use Rattle.kmin_tidy.proofs.ReadingLemmas.{faulty_read, ended_unfailed, ended_once, ended_at_failure, if_ok_on}
 use Rattle.kmin_tidy.proofs.accepted_file.read_source.Goals as goal
 
 pub returns-in-Ok-clause-ok : goal.returns-in-Ok-clause-ok
@@ -39,3 +39,15 @@ returns-in-Ok-clause-failed g c =
     let unread = h is in
     ended_at_failure c.in-Ok.read.end (g.S.Source.failures c.args.source.now) (g.S.Source.failures c.read_up_to.new.source) (length c.in-Ok.read.bytes.items)
     MAX_CONFIG_BYTES c.in-Ok.ensures.at_limit unread.0 unread.1 c.in-Ok.ensures.failures)) c.accept_read.ensures.unread
+
+pub returns-in-Ok-clause-unfailed : goal.returns-in-Ok-clause-unfailed
+returns-in-Ok-clause-unfailed g c =
+    if_ok_on c.accept_read.result _ _ (λ file h. ended_unfailed c.in-Ok.read.end (g.S.Source.failures c.args.source.now)
+    (g.S.Source.failures c.read_up_to.new.source) h.0 c.in-Ok.ensures.failures) c.accept_read.ensures.ok
+
+pub returns-in-Ok-clause-once : goal.returns-in-Ok-clause-once
+returns-in-Ok-clause-once g c =
+    ended_once c.in-Ok.read.end (g.S.Source.failures c.args.source.now) (g.S.Source.failures c.read_up_to.new.source) c.in-Ok.ensures.failures
+
+pub returns-in-Err-clause-once : goal.returns-in-Err-clause-once
+returns-in-Err-clause-once g c = inl c.in-Err.ensures.unfailed

@@ -1,9 +1,9 @@
-use Rattle.std.proofs.Common.{◌≡◌, ◌≢◌, ℕ, List, [], map, sym, ap, ◌∙◌, append-nil, inl, inr, rules}
+use Rattle.std.proofs.Common.{◌≡◌, ◌≢◌, [], map, sym, ap, ◌∙◌, append-nil, inl, inr, rules}
 use Rattle.kc_rules.specs.between.SettledViews.{tree_of_settled}
 use Rattle.kc_dotconfig_model.specs.between.Formats.{file_format}
 use Rattle.kc_dotconfig.specs.Fragments.{notice_pair}
 use Rattle.kmin_tidy.specs.Options.{settings_of}
-use Rattle.kmin_tidy.specs.MinimalFiles.{IsReadAt, Minimises, of_lines}
+use Rattle.kmin_tidy.specs.MinimalFiles.{IsReadAt, of_lines}
 use Rattle.kmin_tidy.specs.checker.Readings.{IsFragmentOf}
 use Rattle.kmin_report.proofs.Results.{if_err}
 use Rattle.kmin_tidy.proofs.FileLemmas.{notices_step, rewritten_step, map_some, has_minimal_file, has_choice_notices, stops_rewrite}
@@ -55,7 +55,7 @@ returns-in_err-end-clause-stopped g c =
     rw c.deref-3.ensures.value c.requires.accepted.fragment in
     let read : IsReadAt s a.state c.args.path.now bytes = record { may = c.requires.may; bytes_are = rw c.deref-3.ensures.value c.requires.accepted.read } in
     if_err c.from_residual-in_err-end.result c.in_err-end.field-0.0 _ (search rules) (elim c.in_err-end.ensures.stopped [
-      | inl memory ↦ inl memory
+      | inl memory ↦ inl (memory.0, inl memory.1)
       | inr h ↦ stops_rewrite s a b c.args.path.now bytes h.0 (map notice_pair noted) c.in_err-end.field-0.0 (record {
         read = read;
         minimal = has_minimal_file c.args.config.now.system c.solve.new.config.system c.args.format.now c.args.options bytes c.args.file.fragment noted

@@ -1,6 +1,4 @@
-use Rattle.std.proofs.Common.{ap}
 use Rattle.kmin_tidy.specs.Options.{settings_of}
-use Rattle.kmin_disk.specs.Disks.{Disk}
 use Rattle.kmin_tidy.proofs.EndLemmas.{ends_became, ends_unasked, ends_again, ends_silent}
 use Rattle.kmin_tidy.proofs.run.tidy_files.Goals as goal
 
@@ -12,17 +10,15 @@ returns-clause-became g c =
 
 pub returns-clause-unasked : goal.returns-clause-unasked
 returns-clause-unasked g c = λ unasked.
-    ap (λ (d : Disk). d.state)
-    (ends_unasked (settings_of c.args.settled.now c.args.format.now c.args.options)
+    ends_unasked (settings_of c.args.settled.now c.args.format.now c.args.options)
     (g.D.ReadDisk.disk c.args.disk.now)
-    _ _ _ _ _ _ _ _ c.run_to_end.ensures.1 unasked)
+    _ _ _ _ _ _ _ _ c.run_to_end.ensures.1 unasked
 
 pub returns-clause-again : goal.returns-clause-again
 returns-clause-again g c = λ tidy.
-    ap (λ (d : Disk). d.state)
-    (ends_again (settings_of c.args.settled.now c.args.format.now c.args.options)
+    ends_again (settings_of c.args.settled.now c.args.format.now c.args.options)
     (g.D.ReadDisk.disk c.args.disk.now)
-    _ _ _ _ _ _ _ _ c.run_to_end.ensures.1 tidy)
+    _ _ _ _ _ _ _ _ c.run_to_end.ensures.1 tidy
 
 pub returns-clause-silent : goal.returns-clause-silent
 returns-clause-silent g c = λ tidy.

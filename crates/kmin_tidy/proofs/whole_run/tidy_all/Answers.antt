@@ -1,4 +1,4 @@
-use Rattle.std.proofs.Common.{ℕ, List, [], IfOk, IfErr, subst}
+use Rattle.std.proofs.Common.{List, [], IfOk, IfErr, subst}
 use Rattle.kc_rules.specs.declared.rules.Settled.{Settled}
 use Rattle.kmin_tidy.specs.Options.{settings_of}
 use Rattle.kmin_tidy.specs.Runs.{Tidies, paths_of}

@@ -1,0 +1,9 @@
+use Rattle.std.proofs.lemmas.Result.{IfOk-weaker}
+use Rattle.kmin_commands.proofs.CommandParts.{with_argument}
+use Rattle.kmin_commands.proofs.commands.explain.Goals as goal
+
+pub returns : goal.returns
+returns c =
+    let flags = c.in_ok-command.ensures _ c.in_ok-with_options.ensures in
+    let names = with_argument _ _ _ _ _ c.in_ok-command-2.ensures c.in_ok-named_symbols.ensures flags in
+    IfOk-weaker c.arg-2.result _ _ (λ made adds. with_argument _ made _ _ _ adds c.any_number.ensures names) c.arg-2.ensures

@@ -1,0 +1,9 @@
+pub mod AskedTexts
+pub mod EachOnce
+pub mod SymbolTexts
+pub mod NameLists
+pub mod ReasonTexts
+pub mod OnceLemmas
+pub mod MarkLemmas
+pub mod BlamedLemmas
+pub mod DeepLemmas

@@ -1,0 +1,4 @@
+pub mod Marks
+pub mod FileLineTexts
+pub mod Bounds
+pub mod BlamedWalk

@@ -1,0 +1,18 @@
+//! What `explain` answers: the text that says of symbols why they have their values, and the symbols that its names mean.
+#![tactic(auto)]
+
+mod asked_lines;
+mod blame;
+mod deep;
+mod each_once;
+mod explanations;
+mod names;
+mod nearest_names;
+mod sources;
+mod symbol_reasons;
+
+pub use deep::deep_symbols;
+pub use explanations::{explanation_of, explanation_of_all, is_one_hindered};
+pub use names::{named_symbols, unknown_name};
+pub use nearest_names::nearest_name;
+pub use sources::Sources;

@@ -1,0 +1,89 @@
+-- `explain` as a whole: its output with all lines of standard error, or where it ends.
+use Rattle.std.proofs.Common.{◌≡◌, ℕ, List, [], ◌∷◌, ◌++◌, Option, Result, Ok, Err, IfOk, IfErr, inl, inr, refl, sym, subst, append_assoc, append-nil}
+use Rattle.kc_rules.specs.between.SettledViews.{tree_of_settled}
+use Rattle.kmin_options.specs.Jobs.{ExplainJob}
+use Rattle.kmin_inputs.specs.FileContents.{Surroundings}
+use Rattle.kmin_report.specs.Reports.{ErrorLine, last_lines, output_line, refused_line}
+use Rattle.kmin_report.specs.StandardError.{SpelledBytes, TakesLines}
+use Rattle.kmin_report.specs.declared.run_error.RunError.{RunError}
+use Rattle.kmin_report.specs.between.RunErrors.{status_of}
+use Rattle.kmin_report.proofs.WriterLemmas.{lines_append}
+use Rattle.kmin_trees.specs.JobTexts.{TreeTexts, AreTextsOfJob}
+use Rattle.kmin_trees.specs.LinedTrees.{IsLinedTree}
+use Rattle.kmin_trees.specs.declared.lined_trees.LinedTree.{LinedTree}
+use Rattle.kmin_answers.specs.Stops.{StopsBefore, among_files, at_choices}
+use Rattle.kmin_answers.specs.declared.verb_texts.AnswerText.{AnswerText}
+use Rattle.kmin_answers.specs.between.LoadStops.{StopsOverTree}
+use Rattle.kmin_explain_command.specs.Explains.{Explains}
+use Rattle.kmin_explain_command.specs.Stops.{StopsExplaining, task_of, unknown_text}
+use Rattle.kmin_explain_command.specs.Stops as stops
+use Rattle.kmin_explain_command.specs.between.Ends.{AnswersOver, StopsOver}
+use Rattle.kmin_explain_command.specs.between.Ends as ends
+
+-- over a tree of the job
+module _ (known : Surroundings) (job : ExplainJob) (tree : LinedTree) (t : TreeTexts) (are : AreTextsOfJob known job.settings t)
+    (lined : IsLinedTree t job.settings.tree tree) (taken middle after : SpelledBytes) (failed failed_middle failed_after : ℕ)
+    (before : TakesLines taken failed t.lines middle failed_middle) where
+  pub job_answers : (r : Result AnswerText RunError)
+      → IfOk r (λ answer. AnswersOver known.content job tree answer.text.items answer.status middle failed_middle after failed_after)
+      → IfOk r (λ answer. (t : TreeTexts) × (lines : List ErrorLine) × AreTextsOfJob known job.settings t
+      × Explains known.content job t answer.text.items answer.status lines × TakesLines taken failed lines after failed_after)
+  job_answers (Err stop) h = tt
+  job_answers (Ok answer) h = (
+    t,
+    t.lines ++ h.own,
+    are,
+    h.explains t lined,
+    lines_append taken middle failed failed_middle t.lines h.own after failed_after before h.reported,
+  )
+
+  either : (counted counted_after status : ℕ) (own : List ErrorLine) → StopsOverTree known.content job.settings (tree_of_settled tree.settled) (task_of job) status own
+      → StopsBefore known counted counted_after job.settings (task_of job) status (t.lines ++ own)
+  either counted counted_after status own (inl k) = among_files t (tree_of_settled tree.settled) own are lined.accepted k refl
+  either counted counted_after status own (inr k) = at_choices t (tree_of_settled tree.settled) own are lined.accepted k refl
+
+  stops_of : (counted counted_after status : ℕ) → StopsOver known.content job tree status middle failed_middle after failed_after
+      → (lines : List ErrorLine) × StopsExplaining known counted counted_after job status lines × TakesLines taken failed lines after failed_after
+  stops_of counted counted_after status (ends.before_output own k h) = (
+    t.lines ++ own,
+    stops.before_output (either counted counted_after status own k),
+    lines_append taken middle failed failed_middle t.lines own after failed_after before h,
+  )
+  stops_of counted counted_after status (ends.at_name own name near refuses four h) = (
+    (t.lines ++ own) ++ refused_line (unknown_text name near) ∷ [],
+    stops.at_name t name near (t.lines ++ own) are (refuses t lined) four refl,
+    subst (λ ls. TakesLines taken failed ls after failed_after) (sym (append_assoc t.lines own (refused_line (unknown_text name near) ∷ [])))
+        (lines_append taken middle failed failed_middle t.lines _ after failed_after before h),
+  )
+
+  pub job_stops : (counted counted_after : ℕ) (r : Result AnswerText RunError)
+      → IfErr r (λ stop. StopsOver known.content job tree (status_of stop) middle failed_middle after failed_after)
+      → IfErr r (λ stop. (lines : List ErrorLine) × StopsExplaining known counted counted_after job (status_of stop) lines × TakesLines taken failed lines after failed_after)
+  job_stops counted counted_after (Ok answer) h = tt
+  job_stops counted counted_after (Err stop) h = stops_of counted counted_after (status_of stop) h
+
+-- a run that failed to write its output, and reported that, ends as `StopsExplaining` defines, with all lines that were reported
+pub write_stops : (known : Surroundings) (counted counted_after : ℕ) (job : ExplainJob) (text : List ℕ) (made status : ℕ) (taken middle after : SpelledBytes)
+    (failed failed_middle failed_after : ℕ) → status ≡ 5
+    → (t : TreeTexts) × (lines : List ErrorLine) × AreTextsOfJob known job.settings t × Explains known.content job t text made lines
+    × TakesLines taken failed lines middle failed_middle
+    → TakesLines middle failed_middle (output_line ∷ []) after failed_after
+    → (lines : List ErrorLine) × StopsExplaining known counted counted_after job status lines × TakesLines taken failed (lines ++ last_lines status) after failed_after
+write_stops known counted counted_after job text made status taken middle after failed failed_middle failed_after five w h = (
+  w.1 ++ output_line ∷ [],
+  stops.at_write w.0 text made w.1 w.2 w.3 five refl,
+  rw five (subst (λ ls. TakesLines taken failed ls after failed_after) (sym (append-nil (w.1 ++ output_line ∷ [])))
+      (lines_append taken middle failed failed_middle w.1 (output_line ∷ []) after failed_after w.4 h)),
+)
+
+-- a run that ended before its output, and then reported its last line, ends as `StopsExplaining` defines, with all these lines
+pub explain_ends : (known : Surroundings) (counted counted_after : ℕ) (job : ExplainJob) (stop : RunError) (status : ℕ) (taken middle after : SpelledBytes)
+    (failed failed_middle failed_after : ℕ) → status ≡ status_of stop
+    → (lines : List ErrorLine) × StopsExplaining known counted counted_after job (status_of stop) lines × TakesLines taken failed lines middle failed_middle
+    → TakesLines middle failed_middle (last_lines status) after failed_after
+    → (lines : List ErrorLine) × StopsExplaining known counted counted_after job status lines × TakesLines taken failed (lines ++ last_lines status) after failed_after
+explain_ends known counted counted_after job stop status taken middle after failed failed_middle failed_after e w h = (
+  w.0,
+  subst (λ n. StopsExplaining known counted counted_after job n w.0) (sym e) w.1,
+  lines_append taken middle failed failed_middle w.0 (last_lines status) after failed_after w.2 h,
+)

@@ -1,0 +1,7 @@
+pub mod LinedFiles
+pub mod ReadFiles
+pub mod SourceParts
+pub mod OverEnds
+pub mod TextEnds
+pub mod Endings
+pub mod Statuses

@@ -1,0 +1,125 @@
+-- The output of `explain` over its tree, or its end, once its files were read.
+use Rattle.std.proofs.Common.{◌≡◌, ℕ, List, [], ◌∷◌, ◌++◌, Option, Result, Ok, Err, IfOk, IfErr, inl, refl, sym, subst, arith}
+use Rattle.kc_tree_model.specs.Blocks.{Group}
+use Rattle.kc_rules.specs.declared.rules.Settled.{Settled}
+use Rattle.kc_rules.specs.between.SettledViews.{tree_of_settled, profile_of}
+use Rattle.kc_dotconfig_model.specs.ConfigFiles.{empty_assignment}
+use Rattle.kc_dotconfig_model.specs.ConfigLines.{LineMeaning}
+use Rattle.kc_dotconfig_model.specs.OtherChoices.{other_choices}
+use Rattle.kc_dotconfig_model.specs.between.Formats.{file_format}
+use Rattle.kc_dotconfig.specs.ConfigStates.{IsSolved, tree_in}
+use Rattle.kc_files.specs.TreeContents.{FileContent}
+use Rattle.kmin_options.specs.Jobs.{explain_job_view, settings_view}
+use Rattle.kmin_options.specs.declared.job.ExplainJob.{ExplainJob}
+use Rattle.kmin_options.specs.declared.job.Verb.TheVariants.{Min}
+use Rattle.kmin_report.specs.Reports.{ErrorLine, notice_lines, choice_notice_lines, refused_line}
+use Rattle.kmin_report.specs.StandardError.{SpelledBytes, TakesLines}
+use Rattle.kmin_report.specs.declared.run_error.RunError.{RunError}
+use Rattle.kmin_report.specs.between.RunErrors.{status_of}
+use Rattle.kmin_report.proofs.WriterLemmas.{lines_append}
+use Rattle.kmin_trees.specs.declared.lined_trees.LinedTree.{LinedTree}
+use Rattle.kmin_answers.specs.Stops.{StopsAmongFiles}
+use Rattle.kmin_answers.specs.declared.verb_texts.AnswerText.{AnswerText}
+use Rattle.kmin_answers.specs.between.Comparisons.{AreNoticed}
+use Rattle.kmin_answers.specs.between.LoadResults.{lists_of}
+use Rattle.kmin_answers.specs.between.LoadStops.{StopsOverTree}
+use Rattle.kmin_answers.proofs.ReadFailures.{noticing_unfailed}
+use Rattle.kmin_answers.proofs.JobOutputs.{noticed_are, stopped_noticing, stopped_after}
+use Rattle.kmin_explain_command.specs.Explains.{IsExplained}
+use Rattle.kmin_explain_command.specs.Stops.{task_of}
+use Rattle.kmin_explain_command.specs.between.Ends.{AnswersOver, StopsOver}
+use Rattle.kmin_explain_command.specs.between.Ends as ends
+use Rattle.kmin_explain_command.specs.between.LinedFiles.{AreLined}
+use Rattle.kmin_explain_command.specs.between.Texts.{AreOfSources, StopsAfterFiles, paths_of_job, sources_of}
+use Rattle.kmin_explain_command.specs.between.Texts as after_files
+use Rattle.kmin_explain_command.specs.declared.lined_files.LinedFiles.{LinedFiles}
+use Rattle.kmin_explain_command.proofs.SourceParts.{are_of_sources, are_sources}
+
+module _ (content_of : List ℕ → FileContent) (job : ExplainJob) (tree : LinedTree) (found : LinedFiles) (taken middle after : SpelledBytes)
+    (failed failed_middle failed_after : ℕ)
+    (same : found.read.config.system ≡ tree.settled) (p : profile_of tree.settled ≡ job.settings.profile) (s : IsSolved found.read.config)
+    (l : AreLined content_of (file_format job.settings.format) job.settings.strict (tree_of_settled tree.settled) (paths_of_job job)
+    (empty_assignment (tree_of_settled tree.settled)) found.read.config.users [] (lists_of found.read.chosen.items) [] found.lines.items
+    taken failed middle failed_middle) where
+  -- the notices of the files' lines and on the choices
+  abbrev notices : List ErrorLine
+  notices = notice_lines (paths_of_job job) l.read.loaded.meanings
+      ++ choice_notice_lines (paths_of_job job) (other_choices (tree_in found.read.config) found.read.config.values l.read.loaded.meanings)
+
+  noted : (to : SpelledBytes) (failed_to : ℕ) → AreNoticed job.settings.strict (paths_of_job job) found.read middle failed_middle to failed_to
+      → TakesLines taken failed notices to failed_to
+  noted to failed_to n =
+      lines_append taken middle failed failed_middle _ _ to failed_to l.read.loaded.reported
+      (subst (λ (sys : Settled). TakesLines middle failed_middle (choice_notice_lines (paths_of_job job) (other_choices (tree_of_settled sys) found.read.config.values l.read.loaded.meanings)) to failed_to)
+      (sym same)
+      (noticed_are content_of (settings_view job.settings) found.read.config tree.settled (paths_of_job job) (lists_of found.read.chosen.items) taken middle
+      failed failed_middle same l.read middle to failed_middle failed_to n.noticed))
+
+  answers_of : (text : List ℕ) (status : ℕ)
+      → ((read : List Group) (meanings : List (List LineMeaning)) → AreOfSources tree found read meanings
+      → IsExplained (explain_job_view job) (sources_of job tree found read meanings) text status)
+      → AreNoticed job.settings.strict (paths_of_job job) found.read middle failed_middle after failed_after
+      → AnswersOver content_of (explain_job_view job) tree text status taken failed after failed_after
+  answers_of text status h n = record {
+    own = notices;
+    explains = λ t lined. record {
+      sources = sources_of job tree found lined.lines.groups l.read.loaded.meanings;
+      are = are_sources content_of job tree found taken middle after failed failed_middle failed_after same p s l n t lined;
+      explained = h lined.lines.groups l.read.loaded.meanings
+          (are_of_sources content_of job tree found taken middle after failed failed_middle failed_after same p s l n t lined);
+      lines_are = refl;
+    };
+    reported = noted after failed_after n;
+  }
+
+  pub answers_over : (r : Result AnswerText RunError)
+      → IfOk r (λ answer. (read : List Group) (meanings : List (List LineMeaning)) → AreOfSources tree found read meanings
+      → IsExplained (explain_job_view job) (sources_of job tree found read meanings) answer.text.items answer.status)
+      → IfOk r (λ answer. AreNoticed job.settings.strict (paths_of_job job) found.read middle failed_middle after failed_after)
+      → IfOk r (λ answer. AnswersOver content_of (explain_job_view job) tree answer.text.items answer.status taken failed after failed_after)
+  answers_over (Err stop) h n = tt
+  answers_over (Ok answer) h n = answers_of answer.text.items answer.status h n
+
+  by_lines : (status : ℕ) → (lines : List ErrorLine)
+      × StopsOverTree content_of (settings_view job.settings) (tree_of_settled tree.settled) (task_of (explain_job_view job)) status lines
+      × TakesLines taken failed lines after failed_after
+      → StopsOver content_of (explain_job_view job) tree status taken failed after failed_after
+  by_lines status w = ends.before_output w.0 w.1 w.2
+
+  stops_of : (status : ℕ) → StopsAfterFiles job tree found status middle failed_middle after failed_after
+      → StopsOver content_of (explain_job_view job) tree status taken failed after failed_after
+  stops_of status (after_files.at_choices n) =
+      by_lines status (stopped_noticing content_of (settings_view job.settings) Min found.read.config tree.settled (paths_of_job job)
+      (lists_of found.read.chosen.items) taken middle failed failed_middle same p s l.read status after failed_after n)
+  stops_of status (after_files.at_name between failed_between name near n unknown t four) =
+      ends.at_name notices name near
+      (λ texts lined. record {
+        sources = sources_of job tree found lined.lines.groups l.read.loaded.meanings;
+        are = are_sources content_of job tree found taken middle between failed failed_middle failed_between same p s l n texts lined;
+        unknown = unknown lined.lines.groups l.read.loaded.meanings;
+        lines_are = refl;
+      }) four
+      (lines_append taken between failed failed_between notices _ after failed_after (noted between failed_between n) t)
+  stops_of status (after_files.for_memory n six) =
+      by_lines status (stopped_after content_of (settings_view job.settings) Min found.read.config tree.settled (paths_of_job job)
+      (lists_of found.read.chosen.items) taken middle failed failed_middle same p s l.read status after failed_after six n.allowed n.noticed)
+
+  pub stops_over : (r : Result AnswerText RunError) → IfErr r (λ stop. StopsAfterFiles job tree found (status_of stop) middle failed_middle after failed_after)
+      → IfErr r (λ stop. StopsOver content_of (explain_job_view job) tree (status_of stop) taken failed after failed_after)
+  stops_over (Ok answer) h = tt
+  stops_over (Err stop) h = stops_of (status_of stop) h
+
+-- a run that ended among its files
+pub stops_among : (content_of : List ℕ → FileContent) (job : ExplainJob) (tree : LinedTree) (status : ℕ) (taken after : SpelledBytes) (failed failed_after : ℕ)
+    → (lines : List ErrorLine) × StopsAmongFiles content_of (file_format job.settings.format) job.settings.strict (tree_of_settled tree.settled) (paths_of_job job)
+    status lines × TakesLines taken failed lines after failed_after
+    → StopsOver content_of (explain_job_view job) tree status taken failed after failed_after
+stops_among content_of job tree status taken after failed failed_after w = ends.before_output w.0 (inl w.1) w.2
+
+-- it doesn't end with the status of a failure once its files were read
+pub unfailed : (job : ExplainJob) (tree : LinedTree) (found : LinedFiles) (status : ℕ) (taken after : SpelledBytes) (failed failed_after : ℕ)
+    → StopsAfterFiles job tree found status taken failed after failed_after → status ≡ 5 → ⊥
+unfailed job tree found status taken after failed failed_after (after_files.at_choices n) five =
+    noticing_unfailed _ _ _ _ _ status taken after failed failed_after n five
+unfailed job tree found status taken after failed failed_after (after_files.at_name between failed_between name near n unknown t four) five = omega arith
+unfailed job tree found status taken after failed failed_after (after_files.for_memory n six) five = omega arith

@@ -1,0 +1,136 @@
+-- The text of `explain` for a configuration whose files were read, or its end there.
+use Rattle.std.proofs.Common.{◌≡◌, ℕ, Bool, true, false, List, [], Vec, Option, Some, None, if◌then◌else◌, refl, sym, ap, subst, ◌∙◌}
+use Rattle.std.specs.Borrow.{Bor}
+use Rattle.std.specs.declared.alloc.AllocError.{AllocError}
+use Rattle.std.specs.declared.alloc.Global.{Global}
+use Rattle.std.specs.Prelude.{option_map, IfOk, Result, Ok, Err}
+use Rattle.kc_tree_model.specs.Blocks.{Group}
+use Rattle.kc_tree_model.specs.Trees.{Tree}
+use Rattle.kc_dotconfig_model.specs.ConfigLines.{LineMeaning}
+use Rattle.kc_dotconfig.specs.ConfigStates.{tree_in}
+use Rattle.kmin_explain.specs.Deep.{AreDeep}
+use Rattle.kmin_explain.specs.Explanations.{SourcesModel, explained_in, is_one_hindered}
+use Rattle.kmin_explain.specs.between.Sources.{AreSourcesOf, config_of, sources_model}
+use Rattle.kmin_explain.specs.declared.sources.Sources.{Sources}
+use Rattle.kmin_options.specs.Jobs.{explain_job_view}
+use Rattle.kmin_options.specs.declared.job.ExplainFlags.{ExplainFlags}
+use Rattle.kmin_options.specs.declared.job.ExplainJob.{ExplainJob}
+use Rattle.kmin_report.specs.StandardError.{SpelledBytes, TakesLines}
+use Rattle.kmin_trees.specs.declared.lined_trees.LinedTree.{LinedTree}
+use Rattle.kmin_answers.specs.between.Comparisons.{AreNoticed}
+use Rattle.kmin_answers.specs.declared.verb_texts.AnswerText.{AnswerText}
+use Rattle.kmin_answers.proofs.JobOutputs.{lines_kept}
+use Rattle.kmin_explain_command.specs.Explains.{AreExplainedFor, IsExplained, symbols_in, unknown_for}
+use Rattle.kmin_explain_command.specs.between.Texts.{AreOfSources, StopsAfterFiles, IsAnswerOf, IsTextOf, paths_of_job, sources_of, status_by}
+use Rattle.kmin_explain_command.specs.between.Texts as after_files
+use Rattle.kmin_explain_command.specs.between.UnknownNames.{StopsAtName}
+use Rattle.kmin_explain_command.specs.between.UnknownNames as names
+use Rattle.kmin_explain_command.specs.declared.lined_files.LinedFiles.{LinedFiles}
+
+module _ (job : ExplainJob) (tree : LinedTree) (found : LinedFiles) (taken middle after : SpelledBytes) (failed failed_middle failed_after : ℕ)
+    (n : AreNoticed job.settings.strict (paths_of_job job) found.read taken failed middle failed_middle) where
+  -- nothing was reported after the notices on choices
+  pub noticed_alone : TakesLines middle failed_middle [] after failed_after
+      → AreNoticed job.settings.strict (paths_of_job job) found.read taken failed after failed_after
+  noticed_alone t = record { allowed = n.allowed; noticed = lines_kept taken middle after failed failed_middle failed_after _ n.noticed t }
+
+  -- a name, or memory, ended the run after them
+  pub name_stops : (status : ℕ) → StopsAtName (explain_job_view job) (tree_in found.read.config) status middle failed_middle after failed_after
+      → StopsAfterFiles job tree found status taken failed after failed_after
+  name_stops status (names.unknown name near u k t four) =
+      after_files.at_name middle failed_middle name near n (λ read meanings. record { unknown = u; nearest = k }) t four
+  name_stops status (names.for_memory t six) = after_files.for_memory (noticed_alone t) six
+
+  -- also where the names were looked up in a tree that is the same
+  pub name_stops_in : (named : Tree) → named ≡ tree_in found.read.config → (status : ℕ)
+      → StopsAtName (explain_job_view job) named status middle failed_middle after failed_after
+      → StopsAfterFiles job tree found status taken failed after failed_after
+  name_stops_in named is status s =
+      name_stops status (subst (λ (t : Tree). StopsAtName (explain_job_view job) t status middle failed_middle after failed_after) is s)
+
+-- where each name means a symbol, the answer is the output
+pub explained_by : (job : ExplainJob) (tree : LinedTree) (found : LinedFiles) (read : List Group) (meanings : List (List LineMeaning)) (text : List ℕ) (status : ℕ)
+    → unknown_for (explain_job_view job) (tree_in found.read.config) ≡ None
+    → IsAnswerOf (explain_job_view job) (sources_of job tree found read meanings) text status
+    → IsExplained (explain_job_view job) (sources_of job tree found read meanings) text status
+explained_by job tree found read meanings text status known a = record {
+  known = known;
+  symbols = a.symbols;
+  explained = a.explained;
+  text_is = a.text_is;
+  status_is = a.status_is;
+}
+
+-- the name that was found is the first that means no symbol
+pub found_name : (name : Bor (List ℕ)) (found : Option (Bor (List ℕ))) (first : Option (List ℕ)) → found ≡ Some name
+    → option_map (λ (n : Bor (List ℕ)). n.now) found ≡ first → first ≡ Some name.now
+found_name name found first is e = sym e ∙ (let s : found ≡ Some name = is in rw s refl)
+
+pub found_none : (found : Option (Bor (List ℕ))) (first : Option (List ℕ)) → found ≡ None
+    → option_map (λ (n : Bor (List ℕ)). n.now) found ≡ first → first ≡ None
+found_none found first is e = sym e ∙ (let s : found ≡ None = is in rw s refl)
+
+-- the text and the status for the symbols of a job are its answer
+pub named_is : (job : ExplainJob) (g : SourcesModel) (named text : List ℕ) (status : ℕ) → named ≡ symbols_in (explain_job_view job) g.tree
+    → IsTextOf job.flags g named text → status ≡ status_by job.flags g named → IsAnswerOf (explain_job_view job) g text status
+named_is job g named text status e t s = record {
+  symbols = t.0;
+  explained = subst (λ (n : List ℕ). AreExplainedFor job.flags.deep g n t.0) e t.1;
+  text_is = t.2;
+  status_is = s ∙ ap (λ (n : List ℕ). status_by job.flags g n) e;
+}
+
+-- what symbols are explained by is of the tree and the files that were read
+pub answer_from : (by : Sources) (job : ExplainJob) (tree : LinedTree) (found : LinedFiles) (read : List Group) (meanings : List (List LineMeaning)) (text : List ℕ)
+    (status : ℕ) → config_of by ≡ found.read.config → by.lines.now ≡ tree.lines → by.files.now ≡ found.lines.items → by.tree_paths.now ≡ tree.paths.items
+    → by.file_paths.now ≡ job.files.items → by.strings ≡ job.settings.format.strings → AreOfSources tree found read meanings
+    → (AreSourcesOf by read meanings → IsAnswerOf (explain_job_view job) (sources_model by read meanings) text status)
+    → IsAnswerOf (explain_job_view job) (sources_of job tree found read meanings) text status
+answer_from by job tree found read meanings text status config lines files paths named strings are h =
+    let of_these : AreSourcesOf by read meanings =
+    record { tree_is = rw config are.tree_is; has = rw (config, lines) are.has; kept = rw (config, files) are.kept } in
+    rw (config, paths, named, strings) at (h of_these)
+
+-- the status for symbols, by whether one of them has a line that isn't taken
+pub status_is : (flags : ExplainFlags) (g : SourcesModel) (named : List ℕ) (hindered : Bool) → flags.exit_code ≡ true → hindered ≡ is_one_hindered g named
+    → (if hindered then 1 else 0) ≡ status_by flags g named
+status_is flags g named hindered e h = rw (e, h) refl
+
+pub no_status : (flags : ExplainFlags) (g : SourcesModel) (named : List ℕ) → flags.exit_code ≡ false → 0 ≡ status_by flags g named
+no_status flags g named e = rw e refl
+
+-- and so of a result that has both
+pub both_answered : (job : ExplainJob) (by : Sources) (r : Result AnswerText AllocError) (named : List ℕ)
+    → named ≡ symbols_in (explain_job_view job) (tree_in (config_of by))
+    → IfOk r (λ answer. (read : List Group) (meanings : List (List LineMeaning)) → AreSourcesOf by read meanings
+    → IsTextOf job.flags (sources_model by read meanings) named answer.text.items)
+    → IfOk r (λ answer. (read : List Group) (meanings : List (List LineMeaning)) → AreSourcesOf by read meanings
+    → answer.status ≡ status_by job.flags (sources_model by read meanings) named)
+    → IfOk r (λ answer. (read : List Group) (meanings : List (List LineMeaning)) → AreSourcesOf by read meanings
+    → IsAnswerOf (explain_job_view job) (sources_model by read meanings) answer.text.items answer.status)
+both_answered job by (Err e) named is t s = tt
+both_answered job by (Ok answer) named is t s = λ read meanings are.
+    named_is job (sources_model by read meanings) named answer.text.items answer.status is (t read meanings are) (s read meanings are)
+
+-- the text for some symbols is that for the named ones, by the flags
+module _ (flags : ExplainFlags) (by : Sources) (named symbols : List ℕ) where
+  pub text_by : (r : Result (Vec ℕ Global) AllocError)
+      → ((read : List Group) (meanings : List (List LineMeaning))
+      → AreExplainedFor flags.deep (sources_model by read meanings) named symbols)
+      → ((read : List Group) (meanings : List (List LineMeaning)) → AreSourcesOf by read meanings
+      → IfOk r (λ text. text.items ≡ explained_in (sources_model by read meanings) flags.all symbols))
+      → IfOk r (λ text. (read : List Group) (meanings : List (List LineMeaning)) → AreSourcesOf by read meanings
+      → IsTextOf flags (sources_model by read meanings) named text.items)
+  text_by (Err e) k h = tt
+  text_by (Ok text) k h = λ read meanings are. (symbols, k read meanings, h read meanings are)
+
+  -- with `--deep` they are those to go on with, without it the named ones
+  pub deep_symbols : flags.deep ≡ true → ((read : List Group) (meanings : List (List LineMeaning)) → AreDeep (sources_model by read meanings) named symbols)
+      → (read : List Group) (meanings : List (List LineMeaning))
+      → AreExplainedFor flags.deep (sources_model by read meanings) named symbols
+  deep_symbols deep k read meanings = rw deep (k read meanings)
+
+  pub plain_symbols : flags.deep ≡ false → symbols ≡ named
+      → (read : List Group) (meanings : List (List LineMeaning))
+      → AreExplainedFor flags.deep (sources_model by read meanings) named symbols
+  plain_symbols plain same read meanings = rw plain same

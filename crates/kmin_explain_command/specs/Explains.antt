@@ -1,0 +1,88 @@
+-- The output of `explain`.
+use Rattle.std.specs.Prelude.{◌≡◌, ℕ, Bool, true, false, ◌&&◌, List, [], ◌∷◌, ◌++◌, Option, Some, None, if◌then◌else◌}
+use Rattle.kc_tree_model.specs.Trees.{Tree}
+use Rattle.kc_tree_model.specs.Contents.{tree_of_groups}
+use Rattle.kc_tree_model.specs.ReadingRelation.{IsWholeReading}
+use Rattle.kc_tree_model.specs.TreeFaults.{tree_faults}
+use Rattle.kc_tree_model.specs.TreesOfFiles.{origin_of}
+use Rattle.kc_dotconfig_model.specs.ConfigFiles.{files_assignment}
+use Rattle.kc_dotconfig_model.specs.OtherChoices.{other_choices}
+use Rattle.kc_files.specs.TreeContents.{FileContent}
+use Rattle.kmin_explain.specs.Names.{names_in, symbols_named, unknown_in}
+use Rattle.kmin_explain.specs.NearestNames.{nearest_name}
+use Rattle.kmin_explain.specs.Explanations.{SourcesModel, explained_in, all_symbols, is_one_hindered}
+use Rattle.kmin_explain.specs.Deep.{AreDeep}
+use Rattle.kmin_options.specs.Jobs.{ExplainJob}
+use Rattle.kmin_trees.specs.AcceptedTrees.{AreAccepted}
+use Rattle.kmin_trees.specs.JobTexts.{TreeTexts}
+use Rattle.kmin_trees.specs.LinedTrees.{names_by_number}
+use Rattle.kmin_report.specs.Reports.{ErrorLine, notice_lines, choice_notice_lines}
+use Rattle.kmin_answers.specs.Answers.{Resolve}
+use Rattle.kmin_answers.specs.Strictness.{AllowsNotices}
+
+-- What the symbols of a job are explained by: its tree is accepted and of the groups of the one reading of its texts, and its files
+-- are accepted, have these meanings and the one solution.
+pub record AreSourcesOfJob (content_of : List ℕ → FileContent) (job : ExplainJob) (t : TreeTexts) (g : SourcesModel) : Type 0 where
+  pub accepted : AreAccepted t.texts job.settings.tree g.tree
+  pub whole : IsWholeReading (origin_of t.texts job.settings.tree) g.read
+  pub faultless : tree_faults t.texts.language g.read ≡ []
+  pub tree_is : g.tree ≡ tree_of_groups t.texts.language g.read
+  pub tree_paths : g.tree_paths ≡ names_by_number t.names
+  pub resolved : Resolve content_of job.settings g.tree job.files g.meanings g.values
+  pub users : g.users ≡ files_assignment g.tree g.meanings
+  pub profile : g.profile ≡ job.settings.profile
+  pub file_paths : g.file_paths ≡ job.files
+  pub strings : g.strings ≡ job.settings.format.strings
+  pub allowed : AllowsNotices job.settings.strict (other_choices g.tree g.values g.meanings)
+
+-- the lines of standard error for a job's tree and files
+abbrev pub lines_before : ExplainJob → TreeTexts → SourcesModel → List ErrorLine
+lines_before job t g = t.lines ++ (notice_lines job.files g.meanings ++ choice_notice_lines job.files (other_choices g.tree g.values g.meanings))
+
+-- the first name of a job that means no symbol of a tree, if there is one
+abbrev pub unknown_for : ExplainJob → Tree → Option (List ℕ)
+unknown_for job tree = elim job.names [ None ↦ None | Some names ↦ unknown_in tree job.settings.format.prefix (names_in names) ]
+
+-- the symbols of a tree that a job names, or all with `--every`
+abbrev pub symbols_in : ExplainJob → Tree → List ℕ
+symbols_in job tree = elim job.names [ None ↦ all_symbols tree | Some names ↦ symbols_named tree job.settings.format.prefix (names_in names) ]
+
+-- these are the symbols that are explained for some named ones: just those, or with `--deep` those to go on with too
+abbrev pub AreExplainedFor : (deep : Bool) → SourcesModel → (named : List ℕ) → (symbols : List ℕ) → Type 0
+AreExplainedFor true g named symbols = AreDeep g named symbols
+AreExplainedFor false g named symbols = symbols ≡ named
+
+-- these are the symbols that are explained for a job
+abbrev pub AreExplained : ExplainJob → SourcesModel → (symbols : List ℕ) → Type 0
+AreExplained job g symbols = AreExplainedFor job.flags.deep g (symbols_in job g.tree) symbols
+
+-- the status: 1 with `--exit-code` where a line for one of the symbols of the job isn't taken
+abbrev pub explain_status : ExplainJob → SourcesModel → ℕ
+explain_status job g = if job.flags.exit_code && is_one_hindered g (symbols_in job g.tree) then 1 else 0
+
+-- the text and the status of `explain` by what symbols are explained by: no name means none, and all symbols are explained
+pub record IsExplained (job : ExplainJob) (g : SourcesModel) (text : List ℕ) (status : ℕ) : Type 0 where
+  pub known : unknown_for job g.tree ≡ None
+  pub symbols : List ℕ
+  pub explained : AreExplained job g symbols
+  pub text_is : text ≡ explained_in g job.flags.all symbols
+  pub status_is : status ≡ explain_status job g
+
+-- `explain` has this output, this status and these lines of notices
+pub record Explains (content_of : List ℕ → FileContent) (job : ExplainJob) (t : TreeTexts) (text : List ℕ) (status : ℕ) (lines : List ErrorLine) : Type 0 where
+  pub sources : SourcesModel
+  pub are : AreSourcesOfJob content_of job t sources
+  pub explained : IsExplained job sources text status
+  pub lines_are : lines ≡ lines_before job t sources
+
+-- a name means no symbol, and is the first such of a job, and this one is the nearest to it
+pub record IsUnknown (job : ExplainJob) (g : SourcesModel) (name : List ℕ) (near : Option (List ℕ)) : Type 0 where
+  pub unknown : unknown_for job g.tree ≡ Some name
+  pub nearest : near ≡ nearest_name g.tree job.settings.format.prefix name
+
+-- `explain` is refused, with status 4, for a name that means no symbol, after these lines, with the name that is nearest to it
+pub record RefusesName (content_of : List ℕ → FileContent) (job : ExplainJob) (t : TreeTexts) (name : List ℕ) (near : Option (List ℕ)) (lines : List ErrorLine) : Type 0 where
+  pub sources : SourcesModel
+  pub are : AreSourcesOfJob content_of job t sources
+  pub unknown : IsUnknown job sources name near
+  pub lines_are : lines ≡ lines_before job t sources

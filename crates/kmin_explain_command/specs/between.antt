@@ -1,0 +1,4 @@
+pub mod LinedFiles
+pub mod UnknownNames
+pub mod Texts
+pub mod Ends

@@ -1,0 +1,162 @@
+//! The text of `explain` for a configuration whose files were read.
+ghost use Rattle.std.specs.Prelude.{◌≡◌, ◌≤◌, ◌<◌, List, All, length, IfOk, IfErr};
+ghost use Rattle.std.specs.List.{range_with_len};
+ghost use Rattle.kc_tree_model.specs.Blocks.{Group};
+ghost use Rattle.kc_rules.specs.between.SettledViews.{tree_model_of};
+ghost use Rattle.kc_dotconfig.specs.ConfigStates.{tree_in};
+ghost use Rattle.kc_dotconfig_model.specs.ConfigLines.{LineMeaning};
+ghost use Rattle.kc_symbol_lines.specs.between.Indexes.{IsReadTree};
+ghost use Rattle.kmin_answers.specs.between.Comparisons.{AreNoticed};
+ghost use Rattle.kmin_explain.specs.between.Sources.{AreReadSources, AreSourcesOf, config_of, sources_model};
+ghost use Rattle.kmin_explain_command.specs.Explains.{IsExplained, symbols_in};
+ghost use Rattle.kmin_explain_command.specs.between.Texts.{AreOfSources, IsAnswerOf, StopsAfterFiles, IsTextOf, paths_of_job, sources_of, status_by};
+ghost use Rattle.kmin_options.specs.Jobs.{explain_job_view};
+ghost use Rattle.kmin_report.specs.between.RunErrors.{status_of};
+
+use crate::lined_files::LinedFiles;
+use crate::unknown_names::refuse_unknown;
+use kc_symbol_lines::LineIndex;
+use kc_tree::{Sym, Tree};
+use kmin_answers::{AnswerText, notice_choices};
+use kmin_explain::{Sources, deep_symbols, explanation_of, is_one_hindered, named_symbols};
+use kmin_options::{ExplainFlags, ExplainJob};
+use kmin_report::{Messages, RunError};
+use kmin_trees::LinedTree;
+use std::alloc::{AllocError, Global};
+
+/// The output for a configuration whose files were read, and its status, once the notices on its choices are reported. Reports why
+/// there is no output.
+pub(crate) fn explained_files<E: Messages>(
+    alloc: Global,
+    job: &ExplainJob<'_>,
+    tree: &LinedTree,
+    found: &LinedFiles<'_>,
+    err: &mut E,
+) -> Result<AnswerText, RunError>
+    requires system { found.now.read.config.system ≡ tree.now.settled }
+    requires read { IsReadTree (tree_model_of tree.now.settled) tree.now.lines }
+    ensures status { IfOk result (λ answer. answer.status ≤ 1) }
+    ensures answer { IfOk result (λ answer. (read : List Group) (meanings : List (List LineMeaning)) → AreOfSources tree.now found.now read meanings → IsExplained (explain_job_view job.now) (sources_of job.now tree.now found.now read meanings) answer.text.items answer.status) }
+    ensures noticed { IfOk result (λ answer. AreNoticed job.now.settings.strict (paths_of_job job.now) found.now.read (E.taken err.old) (E.failures err.old) (E.taken err.new) (E.failures err.new)) }
+    ensures stopped { IfErr result (λ stop. StopsAfterFiles job.now tree.now found.now (status_of stop) (E.taken err.old) (E.failures err.old) (E.taken err.new) (E.failures err.new)) }
+{
+    notice_choices(alloc, &job.settings, &job.files, &found.read, err)?;
+    let symbols = found.read.config.settled().tree();
+    refuse_unknown(alloc, job, symbols, err)?;
+    Ok(text_of(alloc, job, tree, found)?)
+}
+
+/// The output for a configuration whose files were read, and its status.
+fn text_of(
+    alloc: Global,
+    job: &ExplainJob<'_>,
+    tree: &LinedTree,
+    found: &LinedFiles<'_>,
+) -> Result<AnswerText, AllocError>
+    requires system { found.now.read.config.system ≡ tree.now.settled }
+    requires read { IsReadTree (tree_model_of tree.now.settled) tree.now.lines }
+    ensures status { IfOk result (λ answer. answer.status ≤ 1) }
+    ensures answer { IfOk result (λ answer. (read : List Group) (meanings : List (List LineMeaning)) → AreOfSources tree.now found.now read meanings → IsAnswerOf (explain_job_view job.now) (sources_of job.now tree.now found.now read meanings) answer.text.items answer.status) }
+{
+    let index = LineIndex::new(alloc, tree.settled.tree(), &tree.lines)?;
+    let by = Sources {
+        config: &found.read.config,
+        lines: &tree.lines,
+        index: &index,
+        files: &found.lines,
+        tree_paths: &tree.paths,
+        file_paths: &job.files,
+        strings: job.settings.format.strings,
+    };
+    answer_by(alloc, job, &by)
+}
+
+/// The output by what symbols are explained by, and its status.
+fn answer_by(
+    alloc: Global,
+    job: &ExplainJob<'_>,
+    by: &Sources<'_>,
+) -> Result<AnswerText, AllocError>
+    requires read { AreReadSources by.now }
+    ensures status { IfOk result (λ answer. answer.status ≤ 1) }
+    ensures answer { IfOk result (λ answer. (read : List Group) (meanings : List (List LineMeaning)) → AreSourcesOf by.now read meanings → IsAnswerOf (explain_job_view job.now) (sources_model by.now read meanings) answer.text.items answer.status) }
+{
+    let symbols = symbols_for(alloc, job, by.config.settled().tree())?;
+    named_answer(alloc, job.flags, by, &symbols)
+}
+
+/// The symbols that a job names, or all with `--every`.
+fn symbols_for(alloc: Global, job: &ExplainJob<'_>, tree: &Tree) -> Result<Vec<Sym>, AllocError>
+    ensures symbols { IfOk result (λ symbols. symbols.items ≡ symbols_in (explain_job_view job.now) tree.now.tree) }
+    ensures there { IfOk result (λ symbols. All (λ s. s < length tree.now.tree.symbols) symbols.items) }
+{
+    match job.names {
+        None => every_symbol(alloc, tree.symbol_count()),
+        Some(names) => named_symbols(alloc, tree, &job.settings.format.prefix, names),
+    }
+}
+
+/// The symbols with the numbers below a count.
+fn every_symbol(alloc: Global, count: u32) -> Result<Vec<Sym>, AllocError>
+    ensures { IfOk result (λ symbols. symbols.items ≡ range_with_len 0 count) }
+{
+    let mut symbols = Vec::new(alloc);
+    for s in 0..count {
+        symbols.push(Sym::at(s))?;
+    }
+    Ok(symbols)
+}
+
+/// The output for symbols, and its status.
+fn named_answer(
+    alloc: Global,
+    flags: ExplainFlags,
+    by: &Sources<'_>,
+    symbols: &[Sym],
+) -> Result<AnswerText, AllocError>
+    requires read { AreReadSources by.now }
+    requires there { All (λ s. s < length (tree_in (config_of by.now)).symbols) symbols.now }
+    ensures text { IfOk result (λ answer. (read : List Group) (meanings : List (List LineMeaning)) → AreSourcesOf by.now read meanings → IsTextOf flags (sources_model by.now read meanings) symbols.now answer.text.items) }
+    ensures status { IfOk result (λ answer. (read : List Group) (meanings : List (List LineMeaning)) → AreSourcesOf by.now read meanings → answer.status ≡ status_by flags (sources_model by.now read meanings) symbols.now) }
+    ensures small { IfOk result (λ answer. answer.status ≤ 1) }
+{
+    let text = named_text(alloc, flags, by, symbols)?;
+    let status = status_for(alloc, flags, by, symbols)?;
+    Ok(AnswerText { text, status })
+}
+
+/// The text for symbols, and with `--deep` for those to go on with.
+fn named_text(
+    alloc: Global,
+    flags: ExplainFlags,
+    by: &Sources<'_>,
+    symbols: &[Sym],
+) -> Result<Vec<u8>, AllocError>
+    requires read { AreReadSources by.now }
+    requires there { All (λ s. s < length (tree_in (config_of by.now)).symbols) symbols.now }
+    ensures { IfOk result (λ text. (read : List Group) (meanings : List (List LineMeaning)) → AreSourcesOf by.now read meanings → IsTextOf flags (sources_model by.now read meanings) symbols.now text.items) }
+{
+    if flags.deep {
+        let deep = deep_symbols(alloc, by, symbols)?;
+        return explanation_of(alloc, by, flags.all, &deep);
+    }
+    explanation_of(alloc, by, flags.all, symbols)
+}
+
+/// The status for symbols: 1 with `--exit-code` where a line for one isn't taken, else 0.
+fn status_for(
+    alloc: Global,
+    flags: ExplainFlags,
+    by: &Sources<'_>,
+    symbols: &[Sym],
+) -> Result<u8, AllocError>
+    requires there { All (λ s. s < length (tree_in (config_of by.now)).symbols) symbols.now }
+    ensures status { IfOk result (λ status. (read : List Group) (meanings : List (List LineMeaning)) → AreSourcesOf by.now read meanings → status ≡ status_by flags (sources_model by.now read meanings) symbols.now) }
+    ensures small { IfOk result (λ status. status ≤ 1) }
+{
+    if !flags.exit_code {
+        return Ok(0);
+    }
+    let is_hindered = is_one_hindered(alloc, by, symbols)?;
+    Ok(if is_hindered { 1 } else { 0 })
+}

@@ -1,0 +1,14 @@
+use Rattle.std.proofs.Common.{sym, ◌∙◌}
+use Rattle.std.proofs.lemmas.Result.{IfOk-weaker}
+use Rattle.kc_dependencies.proofs.Pushes.{any_map}
+use Rattle.kc_tree_model.specs.Trees.{MemberDefault}
+use Rattle.kc_tree.specs.between.Views.{default_view, member_default_view, range_view, reverse_dependency_view}
+use Rattle.kc_expr.specs.between.Arena.{node_expr}
+use Rattle.kmin_faults.specs.Causes.{default_names_unit, names_unit, range_names_unit, reverse_names_unit}
+use Rattle.kmin_faults.proofs.causes.makes_choice_depend.Goals as goal
+
+pub returns-in-Default : goal.returns-in-Default
+returns-in-Default c = record {
+  value = rw c.in-Default.is (IfOk-weaker c.is_in_member_defaults.result _ _
+      (λ is e. e ∙ sym (any_map (λ (d : MemberDefault). names_unit c.args.tree.now.tree c.args.unit d.condition) (member_default_view c.args.tree.now.exprs) c.args.choice.now.defaults.now)) c.is_in_member_defaults.ensures.value);
+}

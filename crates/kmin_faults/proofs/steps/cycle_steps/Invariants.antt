@@ -1,0 +1,10 @@
+use Rattle.std.proofs.Common.{◌≡◌, ◌-◌, length, map, string_bytes}
+use Rattle.kmin_faults.specs.Cycles.{cycle_steps, step_at}
+use Rattle.kmin_faults.specs.between.Steps.{step_of}
+use Rattle.kmin_faults.proofs.Circles.{after}
+use Rattle.kmin_faults.proofs.steps.cycle_steps.Given as goal
+
+abbrev pub invariant-loop-at : goal.invariant-loop-at
+invariant-loop-at l =
+    after (step_at l.tree.tree l.units (map string_bytes l.names)) (map step_of l.steps.items) l.at (length l.units - l.at)
+    ≡ cycle_steps l.tree.tree l.units (map string_bytes l.names)

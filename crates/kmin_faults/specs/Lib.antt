@@ -1,0 +1,5 @@
+pub mod Causes
+pub mod Cycles
+pub mod SourcedPaths
+pub mod PassedLimits
+pub mod between

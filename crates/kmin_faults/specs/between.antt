@@ -1,0 +1,3 @@
+pub mod StoredStatements
+pub mod Steps
+pub mod StoredDefinitions

@@ -1,0 +1,30 @@
+//! The statements of the texts of a tree.
+ghost use Rattle.std.specs.Prelude.{◌≡◌, ◌≢◌, false, Some, IfOk};
+ghost use Rattle.kc_listing.specs.between.ListingView.{RepresentsListing};
+ghost use Rattle.kc_listing.specs.between.MemoryFaults.{no_memory};
+ghost use Rattle.kc_tree_model.specs.TreeReading.{reading};
+
+use kc_listing::{Listing, read_files};
+use kc_tree::{Texts, TreeFault, TreeKind};
+use std::alloc::{AllocError, Global};
+
+/// The statements of the texts that are read from the path `first` on, up to their first fault. An `Err` means out of memory.
+pub(crate) fn listing_of(alloc: Global, texts: &Texts, first: &str) -> Result<Listing, AllocError>
+    ensures { IfOk result (λ listing. RepresentsListing listing (reading texts.now first.now).read) }
+{
+    let (listing, fault) = read_files(alloc, texts, first);
+    if is_out_of_memory(&fault) {
+        return Err(AllocError);
+    }
+    Ok(listing)
+}
+
+/// Whether a reading ended since memory ran out.
+fn is_out_of_memory(fault: &Option<TreeFault>) -> bool
+    ensures { result ≡ false → fault.now ≢ Some no_memory }
+{
+    match fault {
+        Some(fault) => fault.kind == TreeKind::OutOfMemory,
+        None => false,
+    }
+}

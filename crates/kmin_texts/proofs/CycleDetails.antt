@@ -1,0 +1,28 @@
+-- The detail of a cycle.
+use Rattle.std.proofs.Common.{◌≡◌, ℕ, List, [], map, Option, Some, None, refl, ap, sym, ◌∙◌}
+use Rattle.kc_tree_model.specs.Trees.{Tree}
+use Rattle.kmin_faults.specs.Cycles.{Step, cycle_steps, unit_names}
+use Rattle.kmin_faults.specs.between.Steps.{step_of}
+use Rattle.kmin_faults.specs.declared.steps.Step.{Step as CodeStep}
+use Rattle.kmin_report.specs.StandardError.{Detail}
+use Rattle.kmin_report.proofs.Lists.{map_twice}
+use Rattle.kmin_texts.specs.LineDetails.{of_cycle, of_steps, spaced, words}
+use Rattle.kmin_texts.specs.Texts.{cycle_text}
+
+module _ (tree : Tree) (units : List ℕ) (names : List (List ℕ)) (are : names ≡ unit_names tree units) (found : Option (List Step))
+    (steps : found ≡ cycle_steps tree units names) where
+  of_found : (o : Option (List Step)) → found ≡ o → of_cycle tree units ≡ of_steps names o
+  of_found o e =
+      ap (λ ns. of_steps ns (cycle_steps tree units ns)) (sym are) ∙ ap (of_steps names) (sym steps ∙ e)
+
+  pub with_steps : (some : List CodeStep) → found ≡ Some (map step_of some)
+      → of_cycle tree units ≡ record { text = cycle_text (map step_of some); names = map (λ step. step.name.now) some }
+  with_steps some e =
+      of_found (Some (map step_of some)) e
+      ∙ ap (λ ns. detail (cycle_text (map step_of some)) ns) (sym (map_twice (λ (step : Step). step.name) step_of some))
+    where
+      detail : List ℕ → List (List ℕ) → Detail
+      detail text ns = record { text = text; names = ns }
+
+  pub without_steps : found ≡ None → of_cycle tree units ≡ words (spaced names)
+  without_steps e = of_found None e

@@ -1,0 +1,76 @@
+-- Details that are those of lines.
+use Rattle.std.proofs.Common.{◌≡◌, ◌⊎◌, inl, inr, ℕ, Bool, true, false, ◌||◌, ◌&&◌, cond, List, [], ◌∷◌, map, Option, Some, None, refl, sym, ap, subst, ◌∙◌}
+use Rattle.std.specs.Prelude.{bytes_eq, slice_get}
+use Rattle.std.proofs.Math.Bool.{or-true}
+use Rattle.std.proofs.lemmas.Slice.Eq.{bytes_eq-Decides}
+use Rattle.kmin_messages.specs.ShownTexts.{shown}
+use Rattle.kmin_report.specs.Reports.{ErrorLine}
+use Rattle.kmin_report.specs.StandardError.{Detail}
+use Rattle.kmin_texts.specs.KnownLines.{IsLineOf, KnownLines}
+use Rattle.kmin_texts.specs.LineDetails.{are_same_names, is_detail_of, is_given, is_one_of, is_same_detail, no_detail}
+use Rattle.kmin_texts.specs.NumberedLines.{line_at}
+use Rattle.kmin_texts.specs.ReportMessages.{line_in}
+use Rattle.kmin_texts.specs.Spellings.{AskedForm, spelling_of}
+use Rattle.kmin_texts.specs.between.KeptDetails.{MayBe}
+use Rattle.kmin_texts.specs.between.Wordings.{IsDetailOf, IsSpelled}
+
+-- each detail is the same as itself
+same_names : (xs : List (List ℕ)) → are_same_names xs xs ≡ true
+same_names [] = refl
+same_names (x ∷ xs) = ap (λ b. b && are_same_names xs xs) ((bytes_eq-Decides x x).1 refl) ∙ same_names xs
+
+pub same_detail : (d : Detail) → is_same_detail d d ≡ true
+same_detail d = ap (λ b. b && are_same_names d.names d.names) ((bytes_eq-Decides d.text d.text).1 refl) ∙ same_names d.names
+
+pub first_one : (d : Detail) (others : List Detail) → is_one_of (d ∷ others) d ≡ true
+first_one d others = ap (λ b. b || is_one_of others d) (same_detail d)
+
+pub later_one : (d e : Detail) (others : List Detail) → is_one_of others d ≡ true → is_one_of (e ∷ others) d ≡ true
+later_one d e others h = ap (λ b. is_same_detail d e || b) h ∙ or-true (is_same_detail d e)
+
+-- what a line gives, a file that is known so far may give, if it may have that line
+pub by_line : (known : Option (Option (List ℕ))) (number : ℕ) (line : Option (List ℕ)) (f : Option (List ℕ) → List Detail) (otherwise : List Detail) (d : Detail)
+    → IsLineOf known number line → is_one_of (f line) d ≡ true → is_given known (λ bytes. f (line_at bytes number)) otherwise d ≡ true
+by_line None number line f otherwise d h is = refl
+by_line (Some None) number line f otherwise d h is = absurd h
+by_line (Some (Some bytes)) number line f otherwise d h is =
+    subst (λ l. (is_one_of otherwise d || is_one_of (f l) d) ≡ true) (sym h)
+    (ap (λ b. is_one_of otherwise d || b) is ∙ or-true (is_one_of otherwise d))
+
+pub may_by_line : (known : Option (Option (List ℕ))) (number : ℕ) (line : Option (List ℕ)) (f : Option (List ℕ) → List Detail) (otherwise : List Detail) (d : Detail)
+    → IsLineOf known number line → MayBe (is_one_of (f line)) d → MayBe (is_given known (λ bytes. f (line_at bytes number)) otherwise) d
+may_by_line known number line f otherwise d h (inl none) = inl none
+may_by_line known number line f otherwise d h (inr is) = inr (by_line known number line f otherwise d h is)
+
+pub by_reason : (known : Option (Option (List ℕ))) (of_bytes : List ℕ → List Detail) (otherwise : List Detail) (d : Detail) → is_one_of otherwise d ≡ true
+    → is_given known of_bytes otherwise d ≡ true
+by_reason None of_bytes otherwise d is = refl
+by_reason (Some None) of_bytes otherwise d is = is
+by_reason (Some (Some bytes)) of_bytes otherwise d is = ap (λ b. b || is_one_of (of_bytes bytes) d) is
+
+-- a detail that passes a test passes one that is implied
+pub may_also : (p q : Detail → Bool) (d : Detail) → (p d ≡ true → q d ≡ true) → MayBe p d → MayBe q d
+may_also p q d f (inl none) = inl none
+may_also p q d f (inr is) = inr (f is)
+
+-- a line of a report with a detail of it is spelled
+same_either : (b : Bool) (d : Detail) → cond b d d ≡ d
+same_either true d = refl
+same_either false d = refl
+
+pub spelled : (asked : AskedForm) (known : KnownLines) (line : ErrorLine) (d : Detail) (bytes : List ℕ) → IsDetailOf asked known line d
+    → bytes ≡ line_in asked.form asked.root line (shown d.text) d.names → IsSpelled asked known line bytes
+spelled asked known line d bytes (inl none) e = (
+  Some no_detail,
+  e ∙ ap (λ (own : Detail). line_in asked.form asked.root line (shown own.text) own.names)
+      (none ∙ sym (same_either (is_detail_of asked.root asked.language asked.prefix known line no_detail) no_detail)),
+)
+spelled asked known line d bytes (inr is) e = (
+  Some d,
+  e ∙ ap (λ (own : Detail). line_in asked.form asked.root line (shown own.text) own.names) (sym (ap (λ b. cond b d no_detail) is)),
+)
+
+-- a detail is its text and its names
+pub same_parts : (a : Detail) (text : List ℕ) (names : List (List ℕ)) → text ≡ a.text → names ≡ a.names
+    → ◌≡◌ {A = Detail} (record { text = text; names = names }) a
+same_parts a text names e f = rw (e, f) refl
