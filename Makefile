@@ -39,7 +39,6 @@ test:            # the gate: tries the wrong bodies that changed, proves all, ru
 	tests/cut_trees
 	tests/cut_configurations
 	tests/random_trees
-	tests/random_reasons
 	tests/read_in_pieces
 	tests/check_texts
 	tests/run_examples

@@ -1,6 +1,4 @@
 //! The files that messages are about, as they are on the system.
-ghost use Rattle.kmin_texts.specs.KnownLines.{nothing_known};
-
 use kc_value::{FromRead, MAX_FILE_BYTES, ReadEnd, read_up_to};
 use kmin_texts::{LineFiles, Reread, Unreadable, after_lines, line_at};
 use std::alloc::{AllocError, Global};
@@ -91,8 +89,6 @@ fn last_bytes(bytes: &[u8], count: usize) -> &[u8] {
 }
 
 impl LineFiles for SystemLines<'_> {
-    ghost known = { nothing_known };
-
     fn tree_line(
         &mut self,
         alloc: Global,

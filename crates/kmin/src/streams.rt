@@ -1,6 +1,5 @@
 //! Standard output and standard error.
 ghost use Rattle.std.specs.Prelude.{None};
-ghost use Rattle.kmin_texts.specs.KnownLines.{nothing_known};
 
 use crate::line_files::SystemLines;
 use kc_value::{Failed, Sink, ToWrite};
@@ -94,8 +93,6 @@ impl<'a, W: Write> Messages for StandardError<'a, W> {
 }
 
 impl<'a, W: Write> FormMessages for StandardError<'a, W> {
-    ghost known = { nothing_known };
-
     fn set_form(&mut self, wording: &Wording<'_>) -> Result<(), AllocError> {
         self.messages.set_form(wording)
     }

@@ -125,7 +125,7 @@ mean_append content_of format strict tree ys ns xs ms k none = k
 mean_append content_of format strict tree ys ns xs ms k (file path bytes more own rest matches accepted means allowed h) =
     file path bytes (more ++ ys) own (rest ++ ns) matches accepted means allowed (mean_append content_of format strict tree ys ns more rest k h)
 
-pub overlaid_append : (tree : Tree) (users : List (Option UserValue)) (ms ns : List (List LineMeaning))
+overlaid_append : (tree : Tree) (users : List (Option UserValue)) (ms ns : List (List LineMeaning))
     → overlaid_by tree users (ms ++ ns) ≡ overlaid_by tree (overlaid_by tree users ms) ns
 overlaid_append tree users [] ns = refl
 overlaid_append tree users (m ∷ ms) ns = overlaid_append tree (overlay (file_assignment tree m) users) ms ns
@@ -138,7 +138,7 @@ notices_append content_of format strict tree ys ns xs ms (file path bytes more o
     ap (λ lines. file_notices path own ++ lines) (notices_append content_of format strict tree ys ns more rest h)
     ∙ sym (append_assoc (file_notices path own) (notice_lines more rest) (notice_lines ys ns))
 
-unfoldable pub loaded_one : (content_of : List ℕ → FileContent) (format : FileFormat) (strict : Bool) (tree : Tree) (path : List ℕ)
+pub loaded_one : (content_of : List ℕ → FileContent) (format : FileFormat) (strict : Bool) (tree : Tree) (path : List ℕ)
     (before after : List (Option UserValue)) (fragment : Fragment) (taken taken_after : SpelledBytes) (failed failed_after : ℕ)
     → IsLoaded (content_of path) format tree path fragment taken failed taken_after failed_after
     → AllowsNotices strict (map notice_pair fragment.notices.items)
@@ -151,7 +151,7 @@ loaded_one content_of format strict tree path before after fragment taken taken_
   reported = subst (λ lines. TakesLines taken failed lines taken_after failed_after) (sym (append-nil (file_notices path l.meanings))) l.reported;
 }
 
-unfoldable pub loaded_append : (content_of : List ℕ → FileContent) (format : FileFormat) (strict : Bool) (tree : Tree) (xs ys : List (List ℕ))
+pub loaded_append : (content_of : List ℕ → FileContent) (format : FileFormat) (strict : Bool) (tree : Tree) (xs ys : List (List ℕ))
     (before between after : List (Option UserValue)) (taken middle taken_after : SpelledBytes) (failed failed_middle failed_after : ℕ)
     → AreLoaded content_of format strict tree xs before between taken failed middle failed_middle
     → AreLoaded content_of format strict tree ys between after middle failed_middle taken_after failed_after
@@ -172,7 +172,7 @@ lists_pushed old new lines e = ap lists_of e ∙ map-append (λ (l : Vec ChoiceL
 
 -- files that are loaded, with their lines of members
 module _ (content_of : List ℕ → FileContent) (format : FileFormat) (strict : Bool) (tree : Tree) where
-  unfoldable pub read_one : (path : List ℕ) (before after : List (Option UserValue)) (fragment : Fragment) (lists_before lists : List (List ChoiceLine))
+  pub read_one : (path : List ℕ) (before after : List (Option UserValue)) (fragment : Fragment) (lists_before lists : List (List ChoiceLine))
       (taken taken_after : SpelledBytes) (failed failed_after : ℕ)
       → IsLoaded (content_of path) format tree path fragment taken failed taken_after failed_after
       → AllowsNotices strict (map notice_pair fragment.notices.items)
@@ -191,7 +191,7 @@ module _ (content_of : List ℕ → FileContent) (format : FileFormat) (strict :
       rw (nil_from_length paths n)
       (record { loaded = record { meanings = []; mean = none; users_are = e; reported = taking.none }; chosen_are = m ∙ sym (append-nil lists_before) })
 
-  unfoldable pub read_append : (xs ys : List (List ℕ)) (before between after : List (Option UserValue)) (lists_before lists_between lists : List (List ChoiceLine))
+  pub read_append : (xs ys : List (List ℕ)) (before between after : List (Option UserValue)) (lists_before lists_between lists : List (List ChoiceLine))
       (taken middle taken_after : SpelledBytes) (failed failed_middle failed_after : ℕ)
       → AreRead content_of format strict tree xs before between lists_before lists_between taken failed middle failed_middle
       → AreRead content_of format strict tree ys between after lists_between lists middle failed_middle taken_after failed_after

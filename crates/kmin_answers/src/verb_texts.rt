@@ -85,7 +85,7 @@ fn unmet_answer(
 }
 
 /// The exit status of a list of symbols: 1 if it has any and `exit_code` is set, else 0.
-fn list_status(exit_code: bool, symbols: &[Sym]) -> u8
+pub fn list_status(exit_code: bool, symbols: &[Sym]) -> u8
     ensures { result ≡ status_of_list exit_code symbols.now }
 {
     if exit_code && !symbols.is_empty() {

@@ -7,3 +7,10 @@ pub mod OnceLemmas
 pub mod MarkLemmas
 pub mod BlamedLemmas
 pub mod DeepLemmas
+pub mod OneLine
+pub mod CauseTexts
+pub mod RowTexts
+pub mod MissedMarks
+pub mod UnmetTexts
+pub mod CauseLists
+pub mod CauseOrder

@@ -2,5 +2,8 @@ pub mod Names
 pub mod Explanations
 pub mod Deep
 pub mod NearestNames
+pub mod MissedLines
+pub mod MissedCauses
+pub mod UnmetLines
 pub mod between
 pub mod checker

@@ -1,4 +1,5 @@
 pub mod Marks
 pub mod FileLineTexts
+pub mod CauseGroups
 pub mod Bounds
 pub mod BlamedWalk

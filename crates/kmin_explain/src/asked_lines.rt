@@ -31,7 +31,7 @@ pub(crate) struct AskedSymbol {
 }
 
 /// The path of this number; empty if there is none.
-fn path_at<'a>(paths: &[&'a str], file: usize) -> &'a str
+pub(crate) fn path_at<'a>(paths: &[&'a str], file: usize) -> &'a str
     ensures { result.now ≡ unwrap_or (slice_get (map (λ (path : Bor (List ℕ)). path.now) paths.now) file) [] }
 {
     match paths.get(file) {
@@ -65,7 +65,11 @@ fn push_asks_at(
 }
 
 /// The line that the file with a number has for a symbol, if there is one.
-fn line_in<'a>(files: &'a [FileLines], symbol: &AskedSymbol, file: usize) -> Option<&'a AskingLine>
+pub(crate) fn line_in<'a>(
+    files: &'a [FileLines],
+    symbol: &AskedSymbol,
+    file: usize,
+) -> Option<&'a AskingLine>
     ensures { option_copied result ≡ line_in files.now symbol.now.unit symbol.now.s file }
 {
     match files.get(file) {

@@ -1,13 +1,6 @@
 //! The first definitions of the symbols of a tree.
-ghost use Rattle.std.specs.Prelude.{◌≡◌, ◌<◌, ◌&&◌, ◌==◌, ℕ, IfOk, length, nat_le};
-ghost use Rattle.std.specs.List.{list_any};
-ghost use Rattle.kc_checks.specs.between.Summaries.{attributes_end, group_at};
-ghost use Rattle.kc_listing.specs.between.ListingView.{RepresentsListing};
-ghost use Rattle.kc_tree_model.specs.TreeReading.{reading};
-ghost use Rattle.kmin_faults.specs.between.StoredDefinitions.{IsDefinitionAt, IsFoundFor, begins_before, defined_by, defines, first_of, first_typed, gives_type, has_type, is_same_place, is_typed, other_place, place_of, unless_same};
-
-use crate::listings::listing_of;
-use kc_listing::{Group, GroupHead, Line, Listing};
+use crate::passed_limits::is_out_of_memory;
+use kc_listing::{Group, GroupHead, Line, Listing, read_files};
 use kc_statements::Attribute;
 use kc_tree::Texts;
 use std::alloc::{AllocError, Global};
@@ -26,11 +19,12 @@ pub fn first_type(
     texts: &Texts,
     first: &str,
     at: TextPlace,
-) -> Result<Option<TextPlace>, AllocError>
-    ensures { IfOk result (λ place. (listing : Listing) × RepresentsListing listing (reading texts.now first.now).read × IsFoundFor listing at (first_typed listing) place) }
-{
+) -> Result<Option<TextPlace>, AllocError> {
     let listing = listing_of(alloc, texts, first)?;
-    Ok(first_type_in(&listing, at))
+    match definition_at(&listing.groups, at) {
+        Some(symbol) => Ok(first_typed(&listing, symbol)),
+        None => Ok(None),
+    }
 }
 
 /// The place of the first definition of the symbol whose definition begins at a line, if that is another; else of the first other one
@@ -40,108 +34,58 @@ pub fn other_definition(
     texts: &Texts,
     first: &str,
     at: TextPlace,
-) -> Result<Option<TextPlace>, AllocError>
-    ensures { IfOk result (λ place. (listing : Listing) × RepresentsListing listing (reading texts.now first.now).read × IsFoundFor listing at (other_place listing at) place) }
-{
+) -> Result<Option<TextPlace>, AllocError> {
     let listing = listing_of(alloc, texts, first)?;
-    Ok(other_definition_in(&listing, at))
-}
-
-/// The place of the first definition with a type of the symbol whose definition has this place.
-fn first_type_in(listing: &Listing, at: TextPlace) -> Option<TextPlace>
-    ensures { IsFoundFor listing.now at (first_typed listing.now) result }
-{
-    match definition_at(&listing.groups, at) {
-        Some(symbol) => first_typed(listing, symbol),
-        None => None,
+    let Some(symbol) = definition_at(&listing.groups, at) else {
+        return Ok(None);
+    };
+    match first_of(&listing.groups, symbol) {
+        Some(place) if !is_same(place, at) => Ok(Some(place)),
+        _ => Ok(unless_same(first_typed(&listing, symbol), at)),
     }
 }
 
-/// The place of another definition of the symbol whose definition has this place.
-fn other_definition_in(listing: &Listing, at: TextPlace) -> Option<TextPlace>
-    ensures { IsFoundFor listing.now at (other_place listing.now at) result }
-{
-    match definition_at(&listing.groups, at) {
-        Some(symbol) => other_place(listing, at, symbol),
-        None => None,
+/// The statements of the texts that are read from the path `first` on, up to their first fault.
+fn listing_of(alloc: Global, texts: &Texts, first: &str) -> Result<Listing, AllocError> {
+    let (listing, fault) = read_files(alloc, texts, first);
+    if is_out_of_memory(&fault) {
+        return Err(AllocError);
     }
-}
-
-/// The place of a symbol's first definition, if it is another than this; else of its first one with a type, if that is another.
-fn other_place(listing: &Listing, at: TextPlace, symbol: u32) -> Option<TextPlace>
-    ensures { result ≡ other_place listing.now at symbol }
-{
-    match unless_same(first_of(&listing.groups, symbol), at) {
-        Some(place) => Some(place),
-        None => unless_same(first_typed(listing, symbol), at),
-    }
+    Ok(listing)
 }
 
 /// Whether two places are the same.
-fn is_same_place(one: TextPlace, other: TextPlace) -> bool
-    ensures { result ≡ is_same_place one other }
-{
+fn is_same(one: TextPlace, other: TextPlace) -> bool {
     one.file == other.file && one.line == other.line
 }
 
 /// A place, unless it is this one.
-fn unless_same(place: Option<TextPlace>, at: TextPlace) -> Option<TextPlace>
-    ensures { result ≡ unless_same place at }
-{
+fn unless_same(place: Option<TextPlace>, at: TextPlace) -> Option<TextPlace> {
     match place {
-        Some(place) if !is_same_place(place, at) => Some(place),
+        Some(place) if !is_same(place, at) => Some(place),
         _ => None,
     }
 }
 
-/// The number of the symbol that a statement defines, if it defines one.
-fn defined_by(head: GroupHead) -> Option<u32>
-    ensures { result ≡ defined_by head }
-{
-    match head {
-        GroupHead::Config(symbol) => Some(symbol),
-        _ => None,
-    }
-}
-
-/// Whether a statement defines a symbol, and begins in the file of a place, at its line or before.
-fn begins_before(at: TextPlace, group: &Group) -> bool
-    ensures { result ≡ begins_before at group.now }
-{
-    match defined_by(group.head) {
-        Some(_) => group.file == at.file && group.line <= at.line,
-        None => false,
-    }
-}
-
-/// The number of the symbol whose definition has a place: that of the last line before it, or at it, where a definition begins.
-fn definition_at(groups: &[Group], at: TextPlace) -> Option<u32>
-    ensures { IsDefinitionAt groups.now at result }
-{
+/// The number of the symbol whose definition has a line: the last one that begins in its file at that line or before.
+fn definition_at(groups: &[Group], at: TextPlace) -> Option<u32> {
     let mut found = None;
     let mut nearest = 0;
     for group in groups {
-        if is_nearer(at, group, nearest) {
-            found = defined_by(group.head);
-            nearest = group.line;
+        if let GroupHead::Config(symbol) = group.head {
+            if group.file == at.file && group.line <= at.line && group.line >= nearest {
+                found = Some(symbol);
+                nearest = group.line;
+            }
         }
     }
     found
 }
 
-/// Whether a definition begins before a place or at it, at this line or after it.
-fn is_nearer(at: TextPlace, group: &Group, nearest: u32) -> bool
-    ensures { result ≡ (begins_before at group.now && nat_le nearest group.now.line) }
-{
-    begins_before(at, group) && nearest <= group.line
-}
-
 /// The place of the first definition of a symbol.
-fn first_of(groups: &[Group], symbol: u32) -> Option<TextPlace>
-    ensures { result ≡ first_of groups.now symbol }
-{
+fn first_of(groups: &[Group], symbol: u32) -> Option<TextPlace> {
     for group in groups {
-        if defines(symbol, group) {
+        if is_of_symbol(group, symbol) {
             return Some(place_of(group));
         }
     }
@@ -149,86 +93,54 @@ fn first_of(groups: &[Group], symbol: u32) -> Option<TextPlace>
 }
 
 /// The place of the first definition of a symbol that has a type.
-fn first_typed(listing: &Listing, symbol: u32) -> Option<TextPlace>
-    ensures { result ≡ first_typed listing.now symbol }
-{
-    for number in 0..listing.groups.len() {
-        if is_typed_definition(listing, symbol, number) {
-            return Some(place_of(&listing.groups[number]));
+fn first_typed(listing: &Listing, symbol: u32) -> Option<TextPlace> {
+    let groups = listing.groups.as_slice();
+    for number in 0..groups.len() {
+        let group = &groups[number];
+        if is_of_symbol(group, symbol) {
+            let end = end_of(groups.get(number + 1), listing.lines.len());
+            if has_type(&listing.lines, group.attributes, end) {
+                return Some(place_of(group));
+            }
         }
     }
     None
 }
 
-/// Whether a statement, by its number, defines a symbol and has a type.
-fn is_typed_definition(listing: &Listing, symbol: u32, number: usize) -> bool
-    requires there { number < length listing.now.groups.items }
-    ensures value { result ≡ (defines symbol (group_at listing.now.groups.items number) && is_typed listing.now number) }
-{
-    defines(symbol, &listing.groups[number]) && is_typed(listing, number)
-}
-
 /// Whether a statement defines a symbol.
-fn defines(symbol: u32, group: &Group) -> bool
-    ensures { result ≡ defines symbol group.now }
-{
-    match defined_by(group.head) {
-        Some(number) => number == symbol,
-        None => false,
+fn is_of_symbol(group: &Group, symbol: u32) -> bool {
+    match group.head {
+        GroupHead::Config(number) => number == symbol,
+        _ => false,
     }
 }
 
 /// The place of a statement.
-fn place_of(group: &Group) -> TextPlace
-    ensures { result ≡ place_of group.now }
-{
+fn place_of(group: &Group) -> TextPlace {
     TextPlace {
         file: group.file,
         line: group.line,
     }
 }
 
-/// Whether a statement, by its number, has a type.
-fn is_typed(listing: &Listing, number: usize) -> bool
-    requires there { number < length listing.now.groups.items }
-    ensures value { result ≡ is_typed listing.now number }
-{
-    let begin = listing.groups[number].attributes;
-    has_type(&listing.lines, begin, attributes_end(listing, number))
-}
-
-/// Where the attributes of a statement end: where those of the next one begin, or at the end of all.
-fn attributes_end(listing: &Listing, number: usize) -> usize
-    requires there { number < length listing.now.groups.items }
-    ensures value { result ≡ attributes_end listing.now.groups.items listing.now.lines.items number }
-{
-    if number + 1 < listing.groups.len() {
-        return listing.groups[number + 1].attributes;
+/// Where the attributes of a statement end, by the statement after it; `all` is the number of all attributes.
+fn end_of(next: Option<&Group>, all: usize) -> usize {
+    match next {
+        Some(group) => group.attributes,
+        None => all,
     }
-    listing.lines.len()
 }
 
-/// Whether one of the attributes from one place up to another gives a type; false where the list doesn't have them.
-fn has_type(lines: &[Line], begin: usize, end: usize) -> bool
-    ensures { result ≡ has_type lines.now begin end }
-{
-    if begin > end || end > lines.len() {
-        return false;
+/// Whether one of the attributes from one place up to another gives a type.
+fn has_type(lines: &[Line], from: usize, to: usize) -> bool {
+    match lines.get(from..to) {
+        Some(lines) => lines.iter().any(|line| gives_type(&line.attribute)),
+        None => false,
     }
-    has_typed_line(&lines[begin..end])
-}
-
-/// Whether one of some attributes gives a type.
-fn has_typed_line(lines: &[Line]) -> bool
-    ensures { result ≡ list_any (λ (line : Line). gives_type line.attribute) lines.now }
-{
-    lines.iter().any(|line| gives_type(&line.attribute))
 }
 
 /// Whether an attribute gives a type.
-fn gives_type(attribute: &Attribute) -> bool
-    ensures { result ≡ gives_type attribute.now }
-{
+fn gives_type(attribute: &Attribute) -> bool {
     matches!(
         *attribute,
         Attribute::Typed(_) | Attribute::TypedPrompt(..) | Attribute::TypedDefault(..)

@@ -4,7 +4,6 @@
 
 mod causes;
 mod first_places;
-mod listings;
 mod passed_limits;
 mod sourced_paths;
 mod steps;

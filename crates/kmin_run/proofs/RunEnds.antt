@@ -4,7 +4,6 @@ use Rattle.std.proofs.lemmas.Bool.Decides.{eqb_tells}
 use Rattle.std.specs.Io.KnownBytes.{Appends}
 use Rattle.kmin_report.specs.Reports.{ErrorLine, last_lines}
 use Rattle.kmin_report.specs.StandardError.{SpelledBytes, TakesLine, TakesLines, none, one_more}
-use Rattle.kmin_texts.specs.KnownLines.{KnownLines}
 use Rattle.kmin_texts.specs.Spellings.{AskedForm, as_asked}
 use Rattle.kmin_run.specs.between.WordRuns.{FormedEnds}
 use Rattle.kmin_run.specs.between.WordRuns as formed
@@ -184,13 +183,13 @@ nothing_taken lines taken middle failed failed_middle e (one_more some all line 
     absurd (omega (arith, empty, length-append some (line ∷ [])))
 
 -- lines in a form that standard error took after no lines are those that it took since before that
-pub formed_since : (form : Option AskedForm) (line_files : KnownLines) (lines : List ErrorLine) (taken middle after : SpelledBytes) (failed failed_middle failed_after : ℕ)
-    → TakesLines taken failed [] middle failed_middle → TakesLines (as_asked form line_files middle) failed_middle lines after failed_after
-    → TakesLines (as_asked form line_files taken) failed lines after failed_after
-formed_since form line_files lines taken middle after failed failed_middle failed_after before h =
+pub formed_since : (form : Option AskedForm) (lines : List ErrorLine) (taken middle after : SpelledBytes) (failed failed_middle failed_after : ℕ)
+    → TakesLines taken failed [] middle failed_middle → TakesLines (as_asked form middle) failed_middle lines after failed_after
+    → TakesLines (as_asked form taken) failed lines after failed_after
+formed_since form lines taken middle after failed failed_middle failed_after before h =
     let same = nothing_taken [] taken middle failed failed_middle refl before in
-    subst (λ (s : SpelledBytes). TakesLines (as_asked form line_files s) failed lines after failed_after) same.0
-    (subst (λ n. TakesLines (as_asked form line_files middle) n lines after failed_after) same.1 h)
+    subst (λ (s : SpelledBytes). TakesLines (as_asked form s) failed lines after failed_after) same.0
+    (subst (λ n. TakesLines (as_asked form middle) n lines after failed_after) same.1 h)
 
 -- the status of a run that a file of words ended
 list_at_most_six : (content : FileContent) (path : List ℕ) (status : ℕ) (lines : List ErrorLine) → StopsReadingList content path status lines → status ≤ 6
@@ -207,19 +206,19 @@ words_at_most_six content_of left words status lines (stops.for_memory s e) = om
 
 module _ (known : Surroundings) (left : Option (List ℕ)) (words : List (List ℕ)) where
   -- a run that a file of words ended, with its last lines reported
-  pub words_stopped : (line_files : KnownLines) (counted counted_after : ℕ) (old : Outputs) (status : ℕ) (taken taken_after : SpelledBytes) (failed failed_after : ℕ)
+  pub words_stopped : (counted counted_after : ℕ) (old : Outputs) (status : ℕ) (taken taken_after : SpelledBytes) (failed failed_after : ℕ)
       → (lines : List ErrorLine) × StopsAtWords known.content left words status lines × TakesLines taken failed (lines ++ last_lines status) taken_after failed_after
       → (form : Option AskedForm) × (lines : List ErrorLine) × WordsEnd known counted counted_after words left old old form lines status
-      × TakesLines (as_asked form line_files taken) failed lines taken_after failed_after
-  words_stopped line_files counted counted_after old status taken taken_after failed failed_after h = (None, h.0 ++ last_lines status, runs.stopped h.0 h.1 refl refl refl, h.2)
+      × TakesLines (as_asked form taken) failed lines taken_after failed_after
+  words_stopped counted counted_after old status taken taken_after failed failed_after h = (None, h.0 ++ last_lines status, runs.stopped h.0 h.1 refl refl refl, h.2)
 
   -- a run that a word in a file ended, which isn't UTF-8
-  pub words_malformed : (line_files : KnownLines) (counted counted_after : ℕ) (old : Outputs) (status : ℕ) (taken middle taken_after : SpelledBytes)
+  pub words_malformed : (counted counted_after : ℕ) (old : Outputs) (status : ℕ) (taken middle taken_after : SpelledBytes)
       (failed failed_middle failed_after : ℕ) (files : List (List ℕ)) → AreFilesRead known.content left (files_of words) files → are_utf8 files ≡ false → status ≡ 2 → TakesLines taken failed [] middle failed_middle
       → TakesLine middle failed_middle malformed_line taken_after failed_after
       → (form : Option AskedForm) × (lines : List ErrorLine) × WordsEnd known counted counted_after words left old old form lines status
-      × TakesLines (as_asked form line_files taken) failed lines taken_after failed_after
-  words_malformed line_files counted counted_after old status taken middle taken_after failed failed_middle failed_after files r u s before h = (
+      × TakesLines (as_asked form taken) failed lines taken_after failed_after
+  words_malformed counted counted_after old status taken middle taken_after failed failed_middle failed_after files r u s before h = (
     None,
     malformed_line ∷ [],
     runs.stopped (malformed_line ∷ []) (stops.malformed files r u s refl) refl refl (rw s refl),
@@ -228,11 +227,11 @@ module _ (known : Surroundings) (left : Option (List ℕ)) (words : List (List �
   )
 
   -- a run that ended since memory ran out after the files of words were read
-  pub words_forgotten : (line_files : KnownLines) (counted counted_after : ℕ) (old : Outputs) (status : ℕ) (taken middle taken_after : SpelledBytes)
+  pub words_forgotten : (counted counted_after : ℕ) (old : Outputs) (status : ℕ) (taken middle taken_after : SpelledBytes)
       (failed failed_middle failed_after : ℕ) → status ≡ 6 → TakesLines taken failed [] middle failed_middle → TakesLines middle failed_middle (last_lines status) taken_after failed_after
       → (form : Option AskedForm) × (lines : List ErrorLine) × WordsEnd known counted counted_after words left old old form lines status
-      × TakesLines (as_asked form line_files taken) failed lines taken_after failed_after
-  words_forgotten line_files counted counted_after old status taken middle taken_after failed failed_middle failed_after s before h = (
+      × TakesLines (as_asked form taken) failed lines taken_after failed_after
+  words_forgotten counted counted_after old status taken middle taken_after failed failed_middle failed_after s before h = (
     None,
     last_lines status,
     runs.stopped [] (stops.for_memory s refl) refl refl refl,
@@ -242,13 +241,13 @@ module _ (known : Surroundings) (left : Option (List ℕ)) (words : List (List �
   module _ (is_input_read : Bool) (is : is_input_read ≡ is_input_read_for words) (represented : List (List ℕ))
       (represent : Represent known.content left words represented) where
     -- a run ends as one on the words that its words represent does
-    pub words_ended : (line_files : KnownLines) (counted counted_after : ℕ) (old new : Outputs) (status : ℕ) (taken taken_after : SpelledBytes) (failed failed_after : ℕ)
+    pub words_ended : (counted counted_after : ℕ) (old new : Outputs) (status : ℕ) (taken taken_after : SpelledBytes) (failed failed_after : ℕ)
         (left_after : Option (List ℕ)) → (is_input_read_for words ≡ false → left_after ≡ left)
         → (form : Option AskedForm) × (lines : List ErrorLine) × ReadEnd known counted counted_after is_input_read represented left_after old new form lines status
-        × TakesLines (as_asked form line_files taken) failed lines taken_after failed_after
+        × TakesLines (as_asked form taken) failed lines taken_after failed_after
         → (form : Option AskedForm) × (lines : List ErrorLine) × WordsEnd known counted counted_after words left old new form lines status
-        × TakesLines (as_asked form line_files taken) failed lines taken_after failed_after
-    words_ended line_files counted counted_after old new status taken taken_after failed failed_after left_after untouched h = (
+        × TakesLines (as_asked form taken) failed lines taken_after failed_after
+    words_ended counted counted_after old new status taken taken_after failed failed_after left_after untouched h = (
       h.0,
       h.1,
       runs.represented represented left_after represent untouched

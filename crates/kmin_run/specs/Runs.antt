@@ -1,13 +1,10 @@
 -- What a run of the program does with these words. `counted` and `counted_after` are how many calls on files failed before and after,
 -- without those on the disk.
-use Rattle.std.specs.Prelude.{◌≡◌, ◌≢◌, ◌<◌, ◌≤◌, ◌⊎◌, ℕ, Bool, true, false, List, [], ◌∷◌, ◌++◌, Option, None, Ok, codes, length, take, option_map}
+use Rattle.std.specs.Prelude.{◌≡◌, ◌≢◌, ◌<◌, ◌≤◌, ◌⊎◌, ℕ, Bool, true, false, List, [], ◌∷◌, ◌++◌, Option, None, Ok, length, take, option_map}
 use Rattle.std.specs.Io.KnownBytes.{Appends}
 use Rattle.kc_value.specs.declared.limits.TheConstants.{MAX_BUNDLE_BYTES}
 use Rattle.kmin_report.specs.Reports.{ErrorLine, last_lines, output_line, refused_line}
 use Rattle.kc_files.specs.TreeContents.{HasRisen}
-use Rattle.kc_tokens.specs.declared.language.Language.{Language}
-use Rattle.kc_tokens.specs.declared.language.Language.TheVariants.{Linux}
-use Rattle.kc_tokens.specs.declared.language.LinuxVersion.TheVariants.{Unknown}
 use Rattle.kmin_messages.specs.declared.message.Form.{Form}
 use Rattle.kmin_texts.specs.Spellings.{AskedForm}
 use Rattle.kmin_options.specs.Jobs.{ExplainJob, Settings, Questions, Task, explain_job_view, settings_view, questions_view, task_view, tidy_job_view}
@@ -88,22 +85,17 @@ ParsedEnds known counted counted_after left (Tidy tidy_job) old new lines status
 ParsedEnds known counted counted_after left (Help text) old new lines status = HelpEnds text.bytes.items old new lines status
 ParsedEnds known counted counted_after left (Refused text) old new lines status = (status ≡ 2) × (new ≡ old) × (lines ≡ refused_line text.bytes.items ∷ [])
 
--- a form of messages with the folder and the language of the tree, and the prefix of names; None for plain messages
-abbrev pub form_with : Option Form → (root : List ℕ) → Language → (prefix : List ℕ) → Option AskedForm
-form_with messages root language prefix = option_map (λ form. record { form = form; root = root; language = language; prefix = prefix }) messages
+-- the form of messages and the folder of the tree by these values; None for plain messages
+abbrev pub form_with : Option Form → (root : List ℕ) → Option AskedForm
+form_with messages root = option_map (λ form. record { form = form; root = root }) messages
 
--- the form of messages for which these settings ask
-abbrev pub form_of_settings : Settings → Option AskedForm
-form_of_settings settings = form_with settings.messages settings.root settings.language settings.format.prefix
-
--- the form of messages for which the words of a command ask; a help and a message that refuses the words have plain ones. The command
--- `wants` is over a tree in the language of Linux, and reads no configuration file.
+-- the form of messages for which the words of a command ask; a help and a message that refuses the words have plain ones
 abbrev pub form_asked : ParsedWords → Option AskedForm
-form_asked (Job job) = form_of_settings (settings_view job.settings)
-form_asked (Save output_job) = form_of_settings (settings_view output_job.job.settings)
-form_asked (TheQuestions questions) = form_with questions.messages questions.root.now (Linux Unknown) (codes "CONFIG_")
-form_asked (Explain explain_job) = form_of_settings (settings_view explain_job.settings)
-form_asked (Tidy tidy_job) = form_of_settings (settings_view tidy_job.settings)
+form_asked (Job job) = form_with job.settings.messages job.settings.root.now
+form_asked (Save output_job) = form_with output_job.job.settings.messages output_job.job.settings.root.now
+form_asked (TheQuestions questions) = form_with questions.messages questions.root.now
+form_asked (Explain explain_job) = form_with explain_job.settings.messages explain_job.settings.root.now
+form_asked (Tidy tidy_job) = form_with tidy_job.settings.messages tidy_job.settings.root.now
 form_asked what = None
 
 -- A run on words without `@FILE` ends as what they are read as does, with lines in the form for which they ask, or memory ran out

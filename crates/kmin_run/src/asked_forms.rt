@@ -1,10 +1,7 @@
 //! The form of messages for which the words of a command ask.
-ghost use Rattle.std.specs.Prelude.{◌≡◌, OnOk, OnErr, Option, codes};
-ghost use Rattle.kc_tokens.specs.declared.language.Language.TheVariants.{Linux};
-ghost use Rattle.kc_tokens.specs.declared.language.LinuxVersion.TheVariants.{Unknown};
+ghost use Rattle.std.specs.Prelude.{◌≡◌, OnOk, OnErr, Option};
 ghost use Rattle.kmin_texts.specs.Spellings.{AskedForm, as_asked};
-ghost use Rattle.kmin_options.specs.Jobs.{settings_view};
-ghost use Rattle.kmin_run.specs.Runs.{form_asked, form_of_settings, form_with};
+ghost use Rattle.kmin_run.specs.Runs.{form_asked, form_with};
 
 use kc_dotconfig_model::Prefix;
 use kc_tokens::{Language, LinuxVersion};
@@ -18,7 +15,7 @@ pub(crate) fn set_form_for<E: FormMessages>(
     parsed: &ParsedWords<'_>,
     err: &mut E,
 ) -> Result<(), AllocError>
-    ensures set { OnOk result (E.taken err.new ≡ as_asked (form_asked parsed.now) E.known (E.taken err.old)) }
+    ensures set { OnOk result (E.taken err.new ≡ as_asked (form_asked parsed.now) (E.taken err.old)) }
     ensures unset { OnErr result (E.taken err.new ≡ E.taken err.old) }
     ensures failures { E.failures err.new ≡ E.failures err.old }
 {
@@ -34,7 +31,7 @@ pub(crate) fn set_form_for<E: FormMessages>(
 
 /// Sets the form of messages that these options name.
 fn set_form_of<E: FormMessages>(settings: &Settings<'_>, err: &mut E) -> Result<(), AllocError>
-    ensures set { OnOk result (E.taken err.new ≡ as_asked (form_of_settings (settings_view settings.now)) E.known (E.taken err.old)) }
+    ensures set { OnOk result (E.taken err.new ≡ as_asked (form_with settings.now.messages settings.now.root.now) (E.taken err.old)) }
     ensures unset { OnErr result (E.taken err.new ≡ E.taken err.old) }
     ensures failures { E.failures err.new ≡ E.failures err.old }
 {
@@ -54,7 +51,7 @@ fn set_form_of_questions<E: FormMessages>(
     questions: &Questions<'_>,
     err: &mut E,
 ) -> Result<(), AllocError>
-    ensures set { OnOk result (E.taken err.new ≡ as_asked (form_with questions.now.messages questions.now.root.now (Linux Unknown) (codes "CONFIG_")) E.known (E.taken err.old)) }
+    ensures set { OnOk result (E.taken err.new ≡ as_asked (form_with questions.now.messages questions.now.root.now) (E.taken err.old)) }
     ensures unset { OnErr result (E.taken err.new ≡ E.taken err.old) }
     ensures failures { E.failures err.new ≡ E.failures err.old }
 {

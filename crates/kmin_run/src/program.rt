@@ -54,7 +54,7 @@ pub fn run<F: Files, D: WriteDisk, I: Source, O: Sink, E: FormMessages>(
     ensures ends { (form : Option AskedForm) × (lines : List ErrorLine) × Ends (F.surroundings files.old) (F.failures files.old) (F.failures files.new) (map (λ (word : Bor (List ℕ)). word.now) words.now)
         (input_of (I.left input.old) (I.failures input.old)) (input_of (I.left input.new) (I.failures input.new))
         (outputs_of (D.disk disk.old) (O.taken out.old) (O.failures out.old))
-        (outputs_of (D.disk disk.new) (O.taken out.new) (O.failures out.new)) form lines result × TakesLines (as_asked form E.known (E.taken err.old)) (E.failures err.old) lines (E.taken err.new) (E.failures err.new) }
+        (outputs_of (D.disk disk.new) (O.taken out.new) (O.failures out.new)) form lines result × TakesLines (as_asked form (E.taken err.old)) (E.failures err.old) lines (E.taken err.new) (E.failures err.new) }
 
     // The disk changes only if the words, with those in files, are parsed as `tidy --write`, or have an output file.
     ensures unasked { ((D.disk disk.new).state ≡ (D.disk disk.old).state) ⊎ AskForChanges (F.surroundings files.old) (I.left input.old) (map (λ (word : Bor (List ℕ)). word.now) words.now) }
@@ -110,7 +110,7 @@ fn run_words<F: Files, D: WriteDisk, I: Source, O: Sink, E: FormMessages>(
     ensures status { result ≤ 6 }
     ensures ends { (form : Option AskedForm) × (lines : List ErrorLine) × WordsEnd (F.surroundings files.old) (F.failures files.old) (F.failures files.new) (map (λ (word : Bor (List ℕ)). word.now) words.now) (I.left input.old)
         (outputs_of (D.disk disk.old) (O.taken out.old) (O.failures out.old))
-        (outputs_of (D.disk disk.new) (O.taken out.new) (O.failures out.new)) form lines result × TakesLines (as_asked form E.known (E.taken err.old)) (E.failures err.old) lines (E.taken err.new) (E.failures err.new) }
+        (outputs_of (D.disk disk.new) (O.taken out.new) (O.failures out.new)) form lines result × TakesLines (as_asked form (E.taken err.old)) (E.failures err.old) lines (E.taken err.new) (E.failures err.new) }
     ensures unasked { ((D.disk disk.new).state ≡ (D.disk disk.old).state) ⊎ AskForChanges (F.surroundings files.old) (I.left input.old) (map (λ (word : Bor (List ℕ)). word.now) words.now) }
     ensures refused { result ≡ 4 → (O.taken out.new ≡ O.taken out.old) ⊎ AskForTidying (F.surroundings files.old) (I.left input.old) (map (λ (word : Bor (List ℕ)). word.now) words.now) }
     ensures unwritten { result ≢ 0 → result ≢ 1 → result ≢ 4 → result ≢ 5 → O.taken out.new ≡ O.taken out.old }
@@ -141,7 +141,7 @@ fn run_given<F: Files, D: WriteDisk, I: Source, O: Sink, E: FormMessages>(
     ensures ends { (left : Option (List ℕ)) → AreWordsRead (F.surroundings files.old).content left (I.left input.old) (map (λ (word : Bor (List ℕ)). word.now) words.now) (texts_of read.now.files) read.now.is_input_read
         → (form : Option AskedForm) × (lines : List ErrorLine) × WordsEnd (F.surroundings files.old) (F.failures files.old) (F.failures files.new) (map (λ (word : Bor (List ℕ)). word.now) words.now) left
         (outputs_of (D.disk disk.old) (O.taken out.old) (O.failures out.old))
-        (outputs_of (D.disk disk.new) (O.taken out.new) (O.failures out.new)) form lines result × TakesLines (as_asked form E.known (E.taken err.old)) (E.failures err.old) lines (E.taken err.new) (E.failures err.new) }
+        (outputs_of (D.disk disk.new) (O.taken out.new) (O.failures out.new)) form lines result × TakesLines (as_asked form (E.taken err.old)) (E.failures err.old) lines (E.taken err.new) (E.failures err.new) }
     ensures unasked { (left : Option (List ℕ)) → AreWordsRead (F.surroundings files.old).content left (I.left input.old) (map (λ (word : Bor (List ℕ)). word.now) words.now) (texts_of read.now.files) read.now.is_input_read
         → ((D.disk disk.new).state ≡ (D.disk disk.old).state) ⊎ AskForChanges (F.surroundings files.old) left (map (λ (word : Bor (List ℕ)). word.now) words.now) }
     ensures refused { (left : Option (List ℕ)) → AreWordsRead (F.surroundings files.old).content left (I.left input.old) (map (λ (word : Bor (List ℕ)). word.now) words.now) (texts_of read.now.files) read.now.is_input_read
@@ -179,7 +179,7 @@ fn run_read<F: Files, D: WriteDisk, I: Source, O: Sink, E: FormMessages>(
     ensures status { result ≤ 6 }
     ensures ends { (form : Option AskedForm) × (lines : List ErrorLine) × ReadEnd (F.surroundings files.old) (F.failures files.old) (F.failures files.new) is_input_read (map (λ (word : Bor (List ℕ)). word.now) words.now) (I.left input.old)
         (outputs_of (D.disk disk.old) (O.taken out.old) (O.failures out.old))
-        (outputs_of (D.disk disk.new) (O.taken out.new) (O.failures out.new)) form lines result × TakesLines (as_asked form E.known (E.taken err.old)) (E.failures err.old) lines (E.taken err.new) (E.failures err.new) }
+        (outputs_of (D.disk disk.new) (O.taken out.new) (O.failures out.new)) form lines result × TakesLines (as_asked form (E.taken err.old)) (E.failures err.old) lines (E.taken err.new) (E.failures err.new) }
     ensures unasked { ((D.disk disk.new).state ≡ (D.disk disk.old).state) ⊎ AreReadForChanges is_input_read (map (λ (word : Bor (List ℕ)). word.now) words.now) }
     ensures refused { result ≡ 4 → (O.taken out.new ≡ O.taken out.old) ⊎ AreReadForTidying is_input_read (map (λ (word : Bor (List ℕ)). word.now) words.now) }
     ensures unwritten { result ≢ 0 → result ≢ 1 → result ≢ 4 → result ≢ 5 → O.taken out.new ≡ O.taken out.old }
@@ -212,7 +212,7 @@ fn run_formed<F: Files, D: WriteDisk, I: Source, O: Sink, E: FormMessages>(
     ensures ends { (form : Option AskedForm) × (lines : List ErrorLine) × FormedEnds (F.surroundings files.old) (F.failures files.old) (F.failures files.new) (I.left input.old) parsed.now
         (outputs_of (D.disk disk.old) (O.taken out.old) (O.failures out.old))
         (outputs_of (D.disk disk.new) (O.taken out.new) (O.failures out.new)) form lines result
-        × TakesLines (as_asked form E.known (E.taken err.old)) (E.failures err.old) lines (E.taken err.new) (E.failures err.new) }
+        × TakesLines (as_asked form (E.taken err.old)) (E.failures err.old) lines (E.taken err.new) (E.failures err.new) }
     ensures unasked { ((D.disk disk.new).state ≡ (D.disk disk.old).state) ⊎ MayChangeFiles parsed.now }
     ensures refused { result ≡ 4 → (O.taken out.new ≡ O.taken out.old) ⊎ IsTidying parsed.now }
     ensures unwritten { result ≢ 0 → result ≢ 1 → result ≢ 4 → result ≢ 5 → O.taken out.new ≡ O.taken out.old }

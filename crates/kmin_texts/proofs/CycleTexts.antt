@@ -4,9 +4,8 @@ use Rattle.std.specs.List.{flat_map}
 use Rattle.std.proofs.lemmas.Grind.{flat_map-append}
 use Rattle.std.proofs.lemmas.List.{take_more, map-append}
 use Rattle.kmin_faults.specs.declared.steps.Step.{Step as CodeStep}
-use Rattle.kmin_faults.specs.Cycles.{Step}
-use Rattle.kmin_texts.specs.Texts.{step_text, cycle_text}
-use Rattle.kmin_faults.specs.between.Steps.{step_of}
+use Rattle.kmin_texts.specs.Texts.{Step, step_text, cycle_text}
+use Rattle.kmin_texts.specs.between.CycleSteps.{step_of}
 
 -- what comes between steps and one more: nothing before the first
 abbrev pub glue : List Step → List ℕ

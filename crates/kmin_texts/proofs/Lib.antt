@@ -4,9 +4,3 @@ pub mod NearSteps
 pub mod OneLines
 pub mod NumberedLines
 pub mod SymbolNames
-pub mod OwnDetails
-pub mod OtherKinds
-pub mod FaultSteps
-pub mod NoticeSteps
-pub mod Spaced
-pub mod CycleDetails

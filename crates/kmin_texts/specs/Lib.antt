@@ -3,8 +3,6 @@ pub mod Texts
 pub mod LineTexts
 pub mod OneLines
 pub mod NumberedLines
-pub mod KnownLines
-pub mod LineDetails
 pub mod ReportMessages
 pub mod Spellings
 pub mod between

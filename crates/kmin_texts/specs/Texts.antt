@@ -8,7 +8,6 @@ use Rattle.kmin_texts.specs.declared.places.Unreadable.{Unreadable}
 use Rattle.kmin_texts.specs.declared.places.Unreadable.TheVariants.{NotThere, NoPermission, Folder, FailedRead}
 use Rattle.kmin_faults.specs.declared.passed_limits.Limit.{Limit}
 use Rattle.kmin_faults.specs.declared.passed_limits.Limit.TheVariants.{Symbols, Choices, Files, TreeBytes, NameBytes, ListedNames, Work}
-use Rattle.kmin_faults.specs.Cycles.{Step}
 use Rattle.kmin_faults.specs.declared.causes.Cause.{Cause}
 use Rattle.kmin_faults.specs.declared.causes.Cause.TheVariants.{DependsOn, Prompt, Default, Range, Select, Imply, Member, Tristate}
 
@@ -78,6 +77,12 @@ cause_text Select = codes "is selected by"
 cause_text Imply = codes "is implied by"
 cause_text Member = codes "has a member's prompt by"
 cause_text Tristate = codes "is a tristate by"
+
+-- a step of a cycle: the name of a symbol or a choice, what makes it depend on another, and the name of that
+pub record Step : Type 0 where
+  pub name : List ℕ
+  pub cause : Cause
+  pub other : List ℕ
 
 -- a step in words: `A depends on B`
 abbrev pub step_text : Step → List ℕ

@@ -1,7 +1,6 @@
 pub mod FewestChanges
+pub mod CycleSteps
 pub mod NamedSymbols
 pub mod Details
-pub mod KeptDetails
-pub mod NoticeDetails
 pub mod MessageLines
 pub mod Wordings

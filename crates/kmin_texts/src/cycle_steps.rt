@@ -1,8 +1,7 @@
 //! The steps of a cycle.
 ghost use Rattle.std.specs.Prelude.{◌≡◌, ◌++◌, codes, map, IfOk, OnOk, string_bytes};
 ghost use Rattle.kmin_texts.specs.Texts.{cause_text, step_text, cycle_text};
-ghost use Rattle.kmin_faults.specs.between.Steps.{step_of};
-ghost use Rattle.kmin_texts.specs.LineDetails.{spaced};
+ghost use Rattle.kmin_texts.specs.between.CycleSteps.{step_of};
 
 use kmin_faults::{Cause, Step};
 use std::alloc::{AllocError, Global};
@@ -49,22 +48,13 @@ fn push_step(text: &mut String, between: &str, step: &Step<'_>) -> Result<(), Al
 }
 
 /// Names with a space between them.
-pub(crate) fn spaced(alloc: Global, names: &[String]) -> Result<String, AllocError>
-    ensures { IfOk result (λ words. string_bytes words ≡ spaced (map string_bytes names.now)) }
-{
+pub(crate) fn spaced(alloc: Global, names: &[String]) -> Result<String, AllocError> {
     let mut words = String::new(alloc);
     let mut between = "";
     for name in names {
-        push_name(&mut words, between, name.as_str())?;
+        words.push_str(between)?;
+        words.push_str(name)?;
         between = " ";
     }
     Ok(words)
-}
-
-/// Appends a name, after what comes between it and the one before.
-fn push_name(words: &mut String, between: &str, name: &str) -> Result<(), AllocError>
-    ensures { OnOk result (string_bytes words.new ≡ string_bytes words.old ++ (between.now ++ name.now)) }
-{
-    words.push_str(between)?;
-    words.push_str(name)
 }

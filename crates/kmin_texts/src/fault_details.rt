@@ -1,32 +1,51 @@
 //! The details of faults, by the files and the tree that they are of.
-ghost use Rattle.std.specs.Prelude.{◌≡◌, ◌==◌, ℕ, true, List, [], Some, Option, IfOk, IfSome, option_map};
-ghost use Rattle.std.specs.Global.{Vec};
-ghost use Rattle.std.specs.List.{list_any};
-ghost use Rattle.kc_dotconfig_model.specs.between.Prefixes.{prefix_bytes};
-ghost use Rattle.kc_macros.specs.Runs.{fault_of};
-ghost use Rattle.kc_macros_model.specs.declared.fault.MacroKind.TheVariants.{TooMany};
-ghost use Rattle.kmin_report.specs.between.ReportLines.{report_line};
-ghost use Rattle.kmin_texts.specs.KnownLines.{IsReread};
-ghost use Rattle.kmin_texts.specs.LineDetails.{is_detail_of, is_given, is_of_macro_fault, is_of_missing, is_one_of, no_detail, on_answers_line, on_expanded_line, on_file_line, on_tree_line, path_details, sourced, sourced_on, unread, unread_answers, unread_file};
-ghost use Rattle.kmin_texts.specs.NumberedLines.{line_at};
-ghost use Rattle.kmin_texts.specs.declared.line_files.Reread.TheVariants.{Hidden};
-ghost use Rattle.kmin_texts.specs.between.KeptDetails.{HasMacroAt, MayBe, kept_detail};
-
+use crate::details::Detail;
 use crate::form_messages::Wording;
-use crate::kept_details::{KeptDetail, hidden, limit_detail, path_detail};
 use crate::kinds::{file_line_text, tree_line_text};
 use crate::line_files::{LineFiles, Reread};
 use crate::line_words::{first_run, first_word};
-use crate::numbered_lines::text_of;
-use crate::text_details::{TreeTexts, first_detail, passed_limit, text_place};
+use crate::numbered_lines::{line_at, text_of};
+use crate::places::Unreadable;
 use kc_dotconfig_model::LoadKind;
+use kc_files::ExpandedTree;
 use kc_macros::MacroFault;
 use kc_macros_model::{AnswersKind, MacroKind};
-use kc_tokens::Language;
+use kc_tree::Texts;
 use kc_tree_model::TreeKind;
-use kmin_faults::{Limit, expansion_limit, is_open, sourced_path};
+use kmin_faults::{
+    Limit, TextPlace, expansion_limit, first_type, is_open, limit_of, other_definition,
+    sourced_path,
+};
 use kmin_report::Report;
 use std::alloc::{AllocError, Global};
+
+/// A detail that borrows nothing.
+#[derive(Drop)]
+pub(crate) enum FaultDetail {
+    Nothing,
+    /// Words of a line that may be shown.
+    Words(String),
+    /// The path of a sourced file, and why it can't be read.
+    Missing { path: Vec<u8>, why: Unreadable },
+    Unread(Unreadable),
+    /// The place of a first definition.
+    First { path: Vec<u8>, line: u32 },
+    Limit(Limit),
+}
+
+impl FaultDetail {
+    /// The detail of a message.
+    pub(crate) fn as_detail(&self) -> Detail<'_> {
+        match self {
+            FaultDetail::Nothing => Detail::Nothing,
+            FaultDetail::Words(words) => Detail::Words(words),
+            FaultDetail::Missing { path, why } => Detail::Missing { path, why: *why },
+            FaultDetail::Unread(why) => Detail::Unread(*why),
+            FaultDetail::First { path, line } => Detail::First { path, line: *line },
+            FaultDetail::Limit(limit) => Detail::Limit(*limit),
+        }
+    }
+}
 
 /// The detail of a fault: what the line at fault has, the limit that it passes, the place of a first definition, or why a file can't be
 /// read; `Nothing` for another report. An `Err` means out of memory.
@@ -35,34 +54,19 @@ pub(crate) fn fault_detail<L: LineFiles>(
     wording: &Wording<'_>,
     report: &Report<'_>,
     files: &mut L,
-) -> Result<KeptDetail, AllocError>
-    ensures { IfOk result (λ detail. MayBe (is_detail_of wording.now.root.now wording.now.language (prefix_bytes wording.now.prefix.now) L.known (report_line report.now)) (kept_detail detail)) }
-{
+) -> Result<FaultDetail, AllocError> {
     match report {
         Report::TreeFault {
             path,
             line,
             kind,
-            file,
-            texts,
-            first,
-            expanded,
-        } => {
-            let tree = TreeTexts {
-                texts,
-                first,
-                expanded: *expanded,
-            };
-            let at = text_place(*file, *line);
-            match kind {
-                TreeKind::TooMany => passed_limit(alloc, &tree, at),
-                TreeKind::TypeConflict | TreeKind::ChoiceMember => {
-                    first_detail(alloc, wording.root, &tree, *kind, at)
-                }
-                TreeKind::MissingFile => { missing_at(alloc, wording, path, *line, files) }
-                _ => tree_detail(alloc, wording, path, *line, *kind, files),
+            ..
+        } => match kind {
+            TreeKind::TooMany | TreeKind::TypeConflict | TreeKind::ChoiceMember => {
+                text_detail(alloc, wording.root, report)
             }
-        }
+            _ => tree_detail(alloc, wording, path, *line, *kind, files),
+        },
         Report::FileFault { path, line, kind } => {
             let reread = files.named_line(alloc, path, *line)?;
             file_detail(alloc, *kind, &reread)
@@ -74,7 +78,7 @@ pub(crate) fn fault_detail<L: LineFiles>(
         Report::MacroFault { fault, missing } => {
             macro_detail(alloc, wording, fault, *missing, files)
         }
-        _ => Ok(KeptDetail::Nothing),
+        _ => Ok(FaultDetail::Nothing),
     }
 }
 
@@ -86,64 +90,35 @@ fn tree_detail<L: LineFiles>(
     line: u32,
     kind: TreeKind,
     files: &mut L,
-) -> Result<KeptDetail, AllocError>
-    ensures { IfOk result (λ detail. MayBe (is_given (L.known.tree wording.now.root.now path.now) (λ bytes. on_tree_line wording.now.language kind (line_at bytes line)) []) (kept_detail detail)) }
-{
+) -> Result<FaultDetail, AllocError> {
     let reread = files.tree_line(alloc, wording.root, path, line)?;
-    tree_line_detail(alloc, wording.language, kind, &reread)
-}
-
-/// The detail of a fault of a tree, by the line at fault as it was read once more.
-fn tree_line_detail(
-    alloc: Global,
-    language: Language,
-    kind: TreeKind,
-    reread: &Reread,
-) -> Result<KeptDetail, AllocError>
-    ensures given { (known : Option (Option (List ℕ))) (number : ℕ) → IsReread known number reread.now
-        → IfOk result (λ detail. MayBe (is_given known (λ bytes. on_tree_line language kind (line_at bytes number)) []) (kept_detail detail)) }
-    ensures hidden { (line : Vec ℕ) → reread.now ≡ Hidden line → IfOk result (λ detail. kept_detail detail ≡ no_detail) }
-{
-    match reread {
-        Reread::Shown(line) => shown_detail(alloc, language, kind, line),
-        _ => Ok(KeptDetail::Nothing),
+    if kind == TreeKind::MissingFile {
+        return missing_detail(alloc, wording, path, &reread, files);
     }
+    let Some(line) = shown_line(&reread) else {
+        return Ok(FaultDetail::Nothing);
+    };
+    let text = tree_line_text(alloc, wording.language, kind, line)?;
+    Ok(FaultDetail::Words(text))
 }
 
-/// The detail of a fault of a tree, by the line at fault, whose words may be shown; none where it isn't UTF-8.
-fn shown_detail(
-    alloc: Global,
-    language: Language,
-    kind: TreeKind,
-    line: &[u8],
-) -> Result<KeptDetail, AllocError>
-    ensures { IfOk result (λ detail. MayBe (is_one_of (on_tree_line language kind (Some line.now))) (kept_detail detail)) }
-{
-    match text_of(line) {
-        Some(line) => {
-            let text = tree_line_text(alloc, language, kind, line)?;
-            Ok(KeptDetail::Words(text))
-        }
-        None => Ok(KeptDetail::Nothing),
+/// A line whose words may be shown, if it is UTF-8.
+fn shown_line(reread: &Reread) -> Option<&str> {
+    match reread {
+        Reread::Shown(line) => text_of(line),
+        _ => None,
     }
 }
 
 /// The detail of a fault of a configuration file.
-fn file_detail(alloc: Global, kind: LoadKind, reread: &Reread) -> Result<KeptDetail, AllocError>
-    ensures given { (known : Option (Option (List ℕ))) (number : ℕ) → IsReread known number reread.now
-        → IfOk result (λ detail. MayBe (is_given known (λ bytes. on_file_line kind (line_at bytes number)) (unread_file kind)) (kept_detail detail)) }
-    ensures hidden { (line : Vec ℕ) → reread.now ≡ Hidden line → IfOk result (λ detail. kept_detail detail ≡ no_detail) }
-{
+fn file_detail(alloc: Global, kind: LoadKind, reread: &Reread) -> Result<FaultDetail, AllocError> {
     match reread {
         Reread::Shown(line) => {
             let text = file_line_text(alloc, kind, line)?;
-            Ok(KeptDetail::Words(text))
+            Ok(FaultDetail::Words(text))
         }
-        Reread::Unread(why) => match kind {
-            LoadKind::Read => Ok(KeptDetail::Unread(*why)),
-            _ => Ok(KeptDetail::Nothing),
-        },
-        _ => Ok(KeptDetail::Nothing),
+        Reread::Unread(why) if kind == LoadKind::Read => Ok(FaultDetail::Unread(*why)),
+        _ => Ok(FaultDetail::Nothing),
     }
 }
 
@@ -152,24 +127,14 @@ fn answers_detail(
     alloc: Global,
     kind: AnswersKind,
     reread: &Reread,
-) -> Result<KeptDetail, AllocError>
-    ensures given { (known : Option (Option (List ℕ))) (number : ℕ) → IsReread known number reread.now
-        → IfOk result (λ detail. MayBe (is_given known (λ bytes. on_answers_line kind (line_at bytes number)) (unread_answers kind)) (kept_detail detail)) }
-    ensures hidden { (line : Vec ℕ) → reread.now ≡ Hidden line → IfOk result (λ detail. kept_detail detail ≡ no_detail) }
-{
+) -> Result<FaultDetail, AllocError> {
     match reread {
-        Reread::Shown(line) => match kind {
-            AnswersKind::Malformed => {
-                let text = first_run(alloc, line)?;
-                Ok(KeptDetail::Words(text))
-            }
-            _ => Ok(KeptDetail::Nothing),
-        },
-        Reread::Unread(why) => match kind {
-            AnswersKind::Read => Ok(KeptDetail::Unread(*why)),
-            _ => Ok(KeptDetail::Nothing),
-        },
-        _ => Ok(KeptDetail::Nothing),
+        Reread::Shown(line) if kind == AnswersKind::Malformed => {
+            let text = first_run(alloc, line)?;
+            Ok(FaultDetail::Words(text))
+        }
+        Reread::Unread(why) if kind == AnswersKind::Read => Ok(FaultDetail::Unread(*why)),
+        _ => Ok(FaultDetail::Nothing),
     }
 }
 
@@ -180,122 +145,72 @@ fn macro_detail<L: LineFiles>(
     fault: &MacroFault,
     missing: Option<&[u8]>,
     files: &mut L,
-) -> Result<KeptDetail, AllocError>
-    ensures { IfOk result (λ detail. MayBe (is_of_macro_fault wording.now.language (L.known.tree wording.now.root.now (fault_of fault.now).at.file) (fault_of fault.now) fault.now.kind) (kept_detail detail)) }
-{
+) -> Result<FaultDetail, AllocError> {
+    let file = fault.file.as_slice();
     match fault.kind {
-        MacroKind::MissingFile => macro_missing(alloc, wording, fault, missing, files),
-        MacroKind::TooMany => macro_limit(alloc, wording, fault, files),
+        MacroKind::MissingFile => {
+            let reread = files.tree_line(alloc, wording.root, file, fault.line)?;
+            match macro_path(&reread, missing) {
+                Some(path) => {
+                    let path = Vec::from_slice(alloc, path)?;
+                    why_detail(alloc, wording, path, files)
+                }
+                None => missing_detail(alloc, wording, file, &reread, files),
+            }
+        }
+        MacroKind::TooMany if fault.line == 0 => Ok(FaultDetail::Limit(Limit::TreeBytes)),
+        MacroKind::TooMany => {
+            let reread = files.tree_line(alloc, wording.root, file, fault.line)?;
+            Ok(expansion_detail(&reread))
+        }
         _ => {
             let text = String::from_utf8_lossy(alloc, fault.text.as_slice())?;
-            Ok(KeptDetail::Words(text))
+            Ok(FaultDetail::Words(text))
         }
     }
 }
 
-/// The detail of an expansion that passes a limit.
-fn macro_limit<L: LineFiles>(
-    alloc: Global,
-    wording: &Wording<'_>,
-    fault: &MacroFault,
-    files: &mut L,
-) -> Result<KeptDetail, AllocError>
-    ensures { IfOk result (λ detail. MayBe (is_of_macro_fault wording.now.language (L.known.tree wording.now.root.now (fault_of fault.now).at.file) (fault_of fault.now) TooMany) (kept_detail detail)) }
-{
-    if fault.line == 0 {
-        return Ok(KeptDetail::Limit(Limit::TreeBytes));
-    }
-    let reread = files.tree_line(alloc, wording.root, fault.file.as_slice(), fault.line)?;
-    Ok(expansion_detail(&reread))
-}
-
-/// The limit that a line passes in the expansion of its tree, if that is known.
-fn expansion_detail(reread: &Reread) -> KeptDetail
-    ensures { (known : Option (Option (List ℕ))) (number : ℕ) → IsReread known number reread.now
-        → MayBe (is_given known (λ bytes. on_expanded_line (line_at bytes number)) []) (kept_detail result) }
-{
-    match reread {
-        Reread::Shown(line) | Reread::Hidden(line) => expanded_line_detail(line),
-        _ => KeptDetail::Nothing,
-    }
-}
-
-/// The limit that a line passes in the expansion of its tree, if that is known, by its first word.
-fn expanded_line_detail(line: &[u8]) -> KeptDetail
-    ensures { MayBe (is_one_of (on_expanded_line (Some line.now))) (kept_detail result) }
-{
-    limit_detail(expansion_limit(first_word(line)))
-}
-
-/// The detail of a line of an expansion that sources a file that can't be read.
-fn macro_missing<L: LineFiles>(
-    alloc: Global,
-    wording: &Wording<'_>,
-    fault: &MacroFault,
-    missing: Option<&[u8]>,
-    files: &mut L,
-) -> Result<KeptDetail, AllocError>
-    ensures { IfOk result (λ detail. MayBe (is_of_missing wording.now.language (L.known.tree wording.now.root.now (fault_of fault.now).at.file) (fault_of fault.now).at.file (fault_of fault.now).at.line) (kept_detail detail)) }
-{
-    let file = fault.file.as_slice();
-    let reread = files.tree_line(alloc, wording.root, file, fault.line)?;
-    match macro_path(&reread, missing) {
-        Some(path) => why_detail(alloc, wording, path, files),
-        None => missing_detail(alloc, wording, file, &reread, files),
-    }
-}
-
 /// The path `missing`, where it is that of a line with a macro, whose words may be shown.
-fn macro_path<'a>(reread: &Reread, missing: Option<&'a [u8]>) -> Option<&'a [u8]>
-    ensures has_macro { (known : Option (Option (List ℕ))) (number : ℕ) → IsReread known number reread.now → IfSome result (λ _. HasMacroAt known number) }
-    ensures shown { (line : Vec ℕ) → reread.now ≡ Hidden line → IfSome result (λ _. ⊥) }
-{
+fn macro_path<'a>(reread: &Reread, missing: Option<&'a [u8]>) -> Option<&'a [u8]> {
     match reread {
-        Reread::Shown(line) if has_macro(line) => missing,
+        Reread::Shown(line) if line.contains(&b'$') => missing,
         _ => None,
     }
 }
 
-/// Whether a line has a `$`.
-fn has_macro(line: &[u8]) -> bool
-    ensures { result ≡ list_any (λ b. b == 36) line.now }
-{
-    line.iter().any(|byte| *byte == b'$')
+/// The limit that a line passes in the expansion of its tree, if that is known.
+fn expansion_detail(reread: &Reread) -> FaultDetail {
+    let limit = match reread {
+        Reread::Shown(line) | Reread::Hidden(line) => expansion_limit(first_word(line)),
+        _ => None,
+    };
+    limit_detail(limit)
+}
+
+/// The detail of a limit, if there is one.
+fn limit_detail(limit: Option<Limit>) -> FaultDetail {
+    match limit {
+        Some(limit) => FaultDetail::Limit(limit),
+        None => FaultDetail::Nothing,
+    }
 }
 
 /// The detail of a line of the file at the path `file` that sources a file that can't be read, or of a first file that can't be read.
-fn missing_at<L: LineFiles>(
-    alloc: Global,
-    wording: &Wording<'_>,
-    file: &[u8],
-    line: u32,
-    files: &mut L,
-) -> Result<KeptDetail, AllocError>
-    ensures { IfOk result (λ detail. MayBe (is_given (L.known.tree wording.now.root.now file.now) (λ bytes. sourced_on wording.now.language file.now (line_at bytes line)) unread) (kept_detail detail)) }
-{
-    let reread = files.tree_line(alloc, wording.root, file, line)?;
-    missing_detail(alloc, wording, file, &reread, files)
-}
-
-/// The same of the line as it was read once more.
 fn missing_detail<L: LineFiles>(
     alloc: Global,
     wording: &Wording<'_>,
     file: &[u8],
     reread: &Reread,
     files: &mut L,
-) -> Result<KeptDetail, AllocError>
-    ensures { (known : Option (Option (List ℕ))) (number : ℕ) → IsReread known number reread.now
-        → IfOk result (λ detail. MayBe (is_given known (λ bytes. sourced_on wording.now.language file.now (line_at bytes number)) unread) (kept_detail detail)) }
-{
+) -> Result<FaultDetail, AllocError> {
     match reread {
         Reread::Shown(line) => source_detail(alloc, wording, file, line, files),
         Reread::Hidden(line) => {
             let detail = source_detail(alloc, wording, file, line, files)?;
             Ok(hidden(detail))
         }
-        Reread::Unread(why) => Ok(KeptDetail::Unread(*why)),
-        Reread::NoLine => Ok(KeptDetail::Nothing),
+        Reread::Unread(why) => Ok(FaultDetail::Unread(*why)),
+        Reread::NoLine => Ok(FaultDetail::Nothing),
     }
 }
 
@@ -306,30 +221,15 @@ fn source_detail<L: LineFiles>(
     file: &[u8],
     line: &[u8],
     files: &mut L,
-) -> Result<KeptDetail, AllocError>
-    ensures { IfOk result (λ detail. MayBe (is_one_of (sourced_on wording.now.language file.now (Some line.now))) (kept_detail detail)) }
-{
+) -> Result<FaultDetail, AllocError> {
     let Some(line) = text_of(line) else {
-        return Ok(KeptDetail::Nothing);
+        return Ok(FaultDetail::Nothing);
     };
-    let path = sourced_path(alloc, wording.language, file, line)?;
-    sourced_detail(alloc, wording, &path, files)
-}
-
-/// A path that a line sources, if it does, and why that can't be read.
-fn sourced_detail<L: LineFiles>(
-    alloc: Global,
-    wording: &Wording<'_>,
-    path: &Option<Vec<u8>>,
-    files: &mut L,
-) -> Result<KeptDetail, AllocError>
-    ensures { IfOk result (λ detail. MayBe (is_one_of (sourced (option_map (λ (bytes : Vec ℕ). bytes.items) path.now))) (kept_detail detail)) }
-{
-    let Some(path) = path else {
-        return Ok(KeptDetail::Nothing);
+    let Some(path) = sourced_path(alloc, wording.language, file, line)? else {
+        return Ok(FaultDetail::Nothing);
     };
-    if is_open(path) {
-        return path_detail(alloc, path);
+    if is_open(&path) {
+        return path_detail(alloc, &path);
     }
     why_detail(alloc, wording, path, files)
 }
@@ -338,16 +238,108 @@ fn sourced_detail<L: LineFiles>(
 fn why_detail<L: LineFiles>(
     alloc: Global,
     wording: &Wording<'_>,
-    path: &[u8],
+    path: Vec<u8>,
     files: &mut L,
-) -> Result<KeptDetail, AllocError>
-    ensures { IfOk result (λ detail. is_one_of (path_details path.now) (kept_detail detail) ≡ true) }
-{
-    match files.why_unread(alloc, wording.root, path)? {
-        Some(why) => Ok(KeptDetail::Missing {
-            path: Vec::from_slice(alloc, path)?,
-            why,
-        }),
-        None => path_detail(alloc, path),
+) -> Result<FaultDetail, AllocError> {
+    match files.why_unread(alloc, wording.root, &path)? {
+        Some(why) => Ok(FaultDetail::Missing { path, why }),
+        None => path_detail(alloc, &path),
+    }
+}
+
+/// A path as a detail.
+fn path_detail(alloc: Global, path: &[u8]) -> Result<FaultDetail, AllocError> {
+    let words = String::from_utf8_lossy(alloc, path)?;
+    Ok(FaultDetail::Words(words))
+}
+
+/// A detail where no words of the line may be shown.
+fn hidden(detail: FaultDetail) -> FaultDetail {
+    match detail {
+        FaultDetail::Missing { why, .. } => FaultDetail::Unread(why),
+        FaultDetail::Words(_) => FaultDetail::Nothing,
+        other => other,
+    }
+}
+
+/// The detail of a fault of a tree by its texts: the limit that the line at fault passes, or the place of a first definition.
+fn text_detail(alloc: Global, root: &str, report: &Report<'_>) -> Result<FaultDetail, AllocError> {
+    let Report::TreeFault {
+        line,
+        kind,
+        file: Some(file),
+        texts,
+        first,
+        expanded,
+        ..
+    } = report
+    else {
+        return Ok(FaultDetail::Nothing);
+    };
+    let at = TextPlace {
+        file: *file,
+        line: *line,
+    };
+    let place = match kind {
+        TreeKind::TooMany => return passed_limit(alloc, texts, first, at),
+        TreeKind::TypeConflict => first_type(alloc, texts, first, at)?,
+        _ => other_definition(alloc, texts, first, at)?,
+    };
+    match place {
+        Some(place) => place_detail(alloc, root, texts, *expanded, place),
+        None => Ok(FaultDetail::Nothing),
+    }
+}
+
+/// The limit that a line among the texts of a tree passes.
+fn passed_limit(
+    alloc: Global,
+    texts: &Texts,
+    first: &str,
+    at: TextPlace,
+) -> Result<FaultDetail, AllocError> {
+    if at.line == 0 {
+        return Ok(FaultDetail::Limit(Limit::TreeBytes));
+    }
+    let limit = match line_of_texts(texts, at) {
+        Some(line) => limit_of(alloc, texts, first, line)?,
+        None => None,
+    };
+    Ok(limit_detail(limit))
+}
+
+/// The line at a place of texts, if it is there and UTF-8.
+fn line_of_texts(texts: &Texts, at: TextPlace) -> Option<&str> {
+    let path = texts.path_at(at.file)?;
+    let bytes = texts.get(path)?;
+    let line = line_at(bytes, at.line)?;
+    text_of(line)
+}
+
+/// A place among the texts of a tree as a detail, with the root in front of the path that was read.
+fn place_detail(
+    alloc: Global,
+    root: &str,
+    texts: &Texts,
+    expanded: Option<&ExpandedTree>,
+    place: TextPlace,
+) -> Result<FaultDetail, AllocError> {
+    let Some(key) = texts.path_at(place.file) else {
+        return Ok(FaultDetail::Nothing);
+    };
+    let mut path = Vec::from_slice(alloc, root.as_bytes())?;
+    path.push(b'/')?;
+    path.extend_from_slice(path_read(expanded, key))?;
+    Ok(FaultDetail::First {
+        path,
+        line: place.line,
+    })
+}
+
+/// The path that was read for a file of this path among the texts.
+fn path_read<'a>(expanded: Option<&'a ExpandedTree>, key: &'a str) -> &'a [u8] {
+    match expanded {
+        Some(tree) => tree.path_of(key.as_bytes()).unwrap_or(key.as_bytes()),
+        None => key.as_bytes(),
     }
 }

@@ -4,7 +4,7 @@ ghost use Rattle.kmin_report.specs.PlainLines.{plain_bytes};
 ghost use Rattle.kmin_report.specs.StandardError.{TakesLine};
 ghost use Rattle.kmin_report.specs.between.ReportLines.{report_line};
 ghost use Rattle.kmin_texts.specs.Spellings.{in_form};
-ghost use Rattle.kmin_texts.specs.between.Wordings.{asked_by, kept_spelling};
+ghost use Rattle.kmin_texts.specs.between.Wordings.{kept_spelling};
 
 use crate::form_messages::{FormMessages, Wording};
 use crate::line_files::LineFiles;
@@ -55,7 +55,7 @@ impl<W: Sink, L: LineFiles> FormedMessages<W, L> {
 }
 
 impl<W: Sink, L: LineFiles> Messages for FormedMessages<W, L> {
-    ghost taken = { λ m. record { spelling = kept_spelling m.wording L.known; bytes = W.taken m.sink } };
+    ghost taken = { λ m. record { spelling = kept_spelling m.wording; bytes = W.taken m.sink } };
 
     ghost failures = { λ m. W.failures m.sink };
 
@@ -85,8 +85,6 @@ impl<W: Sink, L: LineFiles> Messages for FormedMessages<W, L> {
 }
 
 impl<W: Sink, L: LineFiles> FormMessages for FormedMessages<W, L> {
-    ghost known = { L.known };
-
     fn set_form(&mut self, wording: &Wording<'_>) -> Result<(), AllocError> {
         let root = String::from_str(self.alloc, wording.root)?;
         self.wording = Some(KeptWording {
@@ -108,8 +106,8 @@ fn write_formed<W: Sink, L: LineFiles>(
     unknown: &mut u32,
     sink: &mut W,
 )
-    ensures { TakesLine (in_form (asked_by wording.now) L.known (plain_bytes (W.taken sink.old))) (W.failures sink.old) (report_line report.now)
-        (in_form (asked_by wording.now) L.known (plain_bytes (W.taken sink.new))) (W.failures sink.new) }
+    ensures { TakesLine (in_form wording.now.form wording.now.root.now (plain_bytes (W.taken sink.old))) (W.failures sink.old) (report_line report.now)
+        (in_form wording.now.form wording.now.root.now (plain_bytes (W.taken sink.new))) (W.failures sink.new) }
 {
     match line_of(alloc, wording, report, files, unknown) {
         Ok(line) => {

@@ -3,8 +3,8 @@ ghost use Rattle.std.specs.Prelude.{◌≡◌, IfOk, string_bytes};
 ghost use Rattle.kc_tokens.specs.Token.{lexemes_from};
 ghost use Rattle.kc_dotconfig_model.specs.between.Prefixes.{prefix_bytes};
 ghost use Rattle.kmin_texts.specs.LineTexts.{tree_line_text, file_line_text};
-ghost use Rattle.kmin_texts.specs.between.NamedSymbols.{hidden_text, notice_text, notice_names};
-ghost use Rattle.kmin_texts.specs.between.Details.{detail_text, detail_names, without_words};
+ghost use Rattle.kmin_texts.specs.between.NamedSymbols.{notice_text, notice_names};
+ghost use Rattle.kmin_texts.specs.between.Details.{detail_text, detail_names};
 
 use crate::details::Detail;
 use crate::line_words::{first_run, named_on};
@@ -47,8 +47,6 @@ pub fn file_line_text(alloc: Global, kind: LoadKind, line: &[u8]) -> Result<Stri
 pub fn notice_detail<'a>(kind: NoticeKind, prefix: &Prefix, line: &'a str) -> Detail<'a>
     ensures text { detail_text result ≡ notice_text kind (prefix_bytes prefix.now) line.now }
     ensures names { detail_names result ≡ notice_names kind (prefix_bytes prefix.now) line.now }
-    ensures hidden { detail_text (without_words result) ≡ hidden_text kind (prefix_bytes prefix.now) line.now }
-    ensures hidden_names { detail_names (without_words result) ≡ notice_names kind (prefix_bytes prefix.now) line.now }
 {
     match kind {
         NoticeKind::UnknownSymbol => match named_on(prefix, line) {

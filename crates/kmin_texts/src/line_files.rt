@@ -1,7 +1,4 @@
 //! The files that lines of standard error are about, read once more.
-ghost use Rattle.std.specs.Prelude.{IfOk};
-ghost use Rattle.kmin_texts.specs.KnownLines.{IsReread, KnownLines};
-
 use crate::places::Unreadable;
 use std::alloc::{AllocError, Global};
 
@@ -18,11 +15,8 @@ pub enum Reread {
     Unread(Unreadable),
 }
 
-/// Files that are read once more for the texts of messages.
+/// Files that are read once more for the texts of messages. No contract says what they hold.
 pub trait LineFiles {
-    /// What is known of the files, at any time.
-    ghost known: { KnownLines };
-
     /// The line with this number, counted from 1, of a file of a tree in the folder `root`. A message may show its words if the real
     /// path of the file is below that of the folder. An `Err` means out of memory.
     fn tree_line(
@@ -31,16 +25,13 @@ pub trait LineFiles {
         root: &str,
         path: &[u8],
         number: u32,
-    ) -> Result<Reread, AllocError>
-        ensures { IfOk result (IsReread (known.tree root.now path.now) number) };
+    ) -> Result<Reread, AllocError>;
 
     /// The line with this number, counted from 1, of a file of the command line. A message may show its words if the real path of the
     /// file is below that of the working folder. An `Err` means out of memory.
-    fn named_line(&mut self, alloc: Global, path: &str, number: u32) -> Result<Reread, AllocError>
-        ensures { IfOk result (IsReread (known.named path.now) number) };
+    fn named_line(&mut self, alloc: Global, path: &str, number: u32) -> Result<Reread, AllocError>;
 
-    /// Why the file at a path below the folder `root` can't be read; `None` if it can be read now. An `Err` means out of memory. No
-    /// clause says which, since a file can't be read for reasons that its bytes don't have.
+    /// Why the file at a path below the folder `root` can't be read; `None` if it can be read now. An `Err` means out of memory.
     fn why_unread(
         &mut self,
         alloc: Global,

@@ -1,22 +1,25 @@
 //! The lines of reports in a form, with what the files that they are about say.
-ghost use Rattle.std.specs.Prelude.{◌≡◌, IfOk};
+ghost use Rattle.std.specs.Prelude.{IfOk};
 ghost use Rattle.kmin_report.specs.between.ReportLines.{report_line};
-ghost use Rattle.kmin_texts.specs.KnownLines.{KnownLines};
-ghost use Rattle.kmin_texts.specs.LineDetails.{of_cycle};
-ghost use Rattle.kmin_texts.specs.between.Details.{line_detail};
-ghost use Rattle.kmin_texts.specs.between.Wordings.{IsDetailOf, IsSpelled, asked_by};
+ghost use Rattle.kmin_texts.specs.between.Wordings.{IsSpelled};
 
 use crate::cycle_steps::spaced;
-use crate::details::Detail;
+use crate::details::{Detail, without_words};
 use crate::fault_details::fault_detail;
 use crate::form_messages::Wording;
-use crate::line_files::LineFiles;
-use crate::notice_details::notice_at;
+use crate::kinds::notice_detail;
+use crate::line_files::{LineFiles, Reread};
+use crate::near_symbols::nearest_symbol;
+use crate::numbered_lines::text_of;
 use crate::report_lines::line_in;
+use kc_dotconfig_model::NoticeKind;
 use kc_tree::Tree;
 use kmin_faults::{cycle_steps, unit_names};
 use kmin_report::Report;
 use std::alloc::{AllocError, Global};
+
+/// For how many unknown symbols of a run the nearest name of the tree is looked for.
+const MAX_NEAREST: u32 = 16;
 
 /// The line of a report in a form, with the detail that the file it is about gives; without it where memory runs out for that.
 /// `unknown` counts the unknown symbols of which a name was looked for. An `Err` means that memory ran out for both.
@@ -27,7 +30,7 @@ pub(crate) fn line_of<L: LineFiles>(
     files: &mut L,
     unknown: &mut u32,
 ) -> Result<Vec<u8>, AllocError>
-    ensures { IfOk result (λ line. IsSpelled (asked_by wording.now) L.known (report_line report.now) line.items) }
+    ensures { IfOk result (λ line. IsSpelled wording.now.form wording.now.root.now (report_line report.now) line.items) }
 {
     match worded_line(alloc, wording, report, files, unknown) {
         Ok(line) => Ok(line),
@@ -43,7 +46,7 @@ fn worded_line<L: LineFiles>(
     files: &mut L,
     unknown: &mut u32,
 ) -> Result<Vec<u8>, AllocError>
-    ensures { IfOk result (λ line. IsSpelled (asked_by wording.now) L.known (report_line report.now) line.items) }
+    ensures { IfOk result (λ line. IsSpelled wording.now.form wording.now.root.now (report_line report.now) line.items) }
 {
     match report {
         Report::MacroNotice(notice) => {
@@ -58,8 +61,7 @@ fn worded_line<L: LineFiles>(
             tree,
         } => {
             let reread = files.named_line(alloc, path, *line)?;
-            let detail = notice_at(alloc, wording.prefix, *kind, tree, &reread, unknown)?;
-            spelled_line(alloc, wording, report, detail)
+            noticed_line(alloc, wording, report, *kind, tree, &reread, unknown)
         }
         _ => {
             let detail = fault_detail(alloc, wording, report, files)?;
@@ -76,8 +78,7 @@ fn cycle_line(
     tree: &Tree,
     units: &[u32],
 ) -> Result<Vec<u8>, AllocError>
-    ensures { (known : KnownLines) → IsDetailOf (asked_by wording.now) known (report_line report.now) (of_cycle tree.now.tree units.now)
-        → IfOk result (λ line. IsSpelled (asked_by wording.now) known (report_line report.now) line.items) }
+    ensures { IfOk result (λ line. IsSpelled wording.now.form wording.now.root.now (report_line report.now) line.items) }
 {
     let names = unit_names(alloc, tree, units)?;
     match cycle_steps(alloc, tree, units, &names)? {
@@ -89,6 +90,56 @@ fn cycle_line(
     }
 }
 
+/// The line of a notice in a form, with what its line has, and the name of the tree nearest to an unknown one.
+fn noticed_line(
+    alloc: Global,
+    wording: &Wording<'_>,
+    report: &Report<'_>,
+    kind: NoticeKind,
+    tree: &Tree,
+    reread: &Reread,
+    unknown: &mut u32,
+) -> Result<Vec<u8>, AllocError>
+    ensures { IfOk result (λ line. IsSpelled wording.now.form wording.now.root.now (report_line report.now) line.items) }
+{
+    let detail = match reread {
+        Reread::Shown(line) => with_nearest(
+            alloc,
+            tree,
+            line_detail(kind, wording, line),
+            unknown,
+        )?,
+        Reread::Hidden(line) => without_words(line_detail(kind, wording, line)),
+        _ => Detail::Nothing,
+    };
+    spelled_line(alloc, wording, report, detail)
+}
+
+/// The detail of a notice at a line of a configuration file; none where the line isn't UTF-8.
+fn line_detail<'a>(kind: NoticeKind, wording: &Wording<'_>, line: &'a [u8]) -> Detail<'a> {
+    match text_of(line) {
+        Some(line) => notice_detail(kind, wording.prefix, line),
+        None => Detail::Nothing,
+    }
+}
+
+/// A detail, of an unknown symbol with the name of the tree nearest to it, for the first of a run alone.
+fn with_nearest<'a>(
+    alloc: Global,
+    tree: &'a Tree,
+    detail: Detail<'a>,
+    unknown: &mut u32,
+) -> Result<Detail<'a>, AllocError> {
+    match detail {
+        Detail::Unknown { name, .. } if *unknown < MAX_NEAREST => {
+            *unknown += 1;
+            let near = nearest_symbol(alloc, name, tree)?;
+            Ok(Detail::Unknown { name, near })
+        }
+        other => Ok(other),
+    }
+}
+
 /// The line of a report in a form, with this detail.
 fn spelled_line(
     alloc: Global,
@@ -96,8 +147,7 @@ fn spelled_line(
     report: &Report<'_>,
     detail: Detail<'_>,
 ) -> Result<Vec<u8>, AllocError>
-    ensures { (known : KnownLines) → IsDetailOf (asked_by wording.now) known (report_line report.now) (line_detail detail.entry)
-        → IfOk result (λ line. IsSpelled (asked_by wording.now) known (report_line report.now) line.items) }
+    ensures { IfOk result (λ line. IsSpelled wording.now.form wording.now.root.now (report_line report.now) line.items) }
 {
     line_in(alloc, wording.form, wording.root.as_bytes(), report, detail)
 }

@@ -48,17 +48,17 @@ texts_stop known counted counted_after settings t status more lines h (tree_stop
 not_plain : {P : Type 0} (settings : Settings) (expansion : Expansion) → settings.expansion ≡ Some expansion → settings.expansion ≡ None → P
 not_plain settings expansion e none = absurd (let z : ⊥ = cc in z)
 
-module _ (known : Surroundings) (settings : Settings) (taken taken_after : SpelledBytes) (failed failed_after : ℕ) where
+module _ {T : Type 0} (known : Surroundings) (settings : Settings) (taken taken_after : SpelledBytes) (failed failed_after : ℕ) where
   -- without the expansion of macros
   module _ (e : settings.expansion ≡ None) where
-    pub plain_accepted : {T : Type 0} (Is : TreeTexts → T → Type 0) (r : Result T RunError)
+    pub plain_accepted : (Is : TreeTexts → T → Type 0) (r : Result T RunError)
         → IfOk r (λ tree. (texts : Files) × AreTextsBelow known.content settings.root settings.language texts × Is (plain_texts texts) tree)
         → IfOk r (λ tree. TakesLines taken failed [] taken_after failed_after)
         → IfOk r (λ tree. (t : TreeTexts) × AreTextsOfJob known settings t × Is t tree × TakesLines taken failed t.lines taken_after failed_after)
     plain_accepted Is (Err stop) h k = tt
     plain_accepted Is (Ok tree) h k = (plain_texts h.0, are_plain known settings h.0 e h.1, h.2, k)
 
-    pub plain_stopped : {T : Type 0} (counted counted_after : ℕ) (r : Result T RunError)
+    pub plain_stopped : (counted counted_after : ℕ) (r : Result T RunError)
         → IfErr r (λ stop. (texts : Files) × (lines : List ErrorLine) × AreTextsBelow known.content settings.root settings.language texts
         × StopsAtTexts texts texts settings.tree (status_of stop) lines × TakesLines taken failed lines taken_after failed_after
         × (status_of stop ≡ 3 → MissesOnlyMissing known.content settings.root settings.tree texts counted counted_after))
@@ -74,7 +74,7 @@ module _ (known : Surroundings) (settings : Settings) (taken taken_after : Spell
 
   -- with the expansion of macros
   module _ (expansion : Expansion) (e : settings.expansion ≡ Some expansion) where
-    pub expanded_accepted : {T : Type 0} (Is : TreeTexts → T → Type 0) (r : Result T RunError)
+    pub expanded_accepted : (Is : TreeTexts → T → Type 0) (r : Result T RunError)
         → IfOk r (λ tree. (t : TreeTexts) × AreExpandedTexts known settings.root settings.tree settings.language expansion t × Is t tree
         × TakesLines taken failed t.lines taken_after failed_after)
         → IfOk r (λ tree. (t : TreeTexts) × AreTextsOfJob known settings t × Is t tree × TakesLines taken failed t.lines taken_after failed_after)
@@ -88,7 +88,7 @@ module _ (known : Surroundings) (settings : Settings) (taken taken_after : Spell
     stops_of counted counted_after status lines (expanded_stops.at_texts t more h s l) =
         texts_stop known counted counted_after settings t status more lines (expanded expansion e h) s (λ three none. not_plain settings expansion e none) l
 
-    pub expanded_stopped : {T : Type 0} (counted counted_after : ℕ) (r : Result T RunError)
+    pub expanded_stopped : (counted counted_after : ℕ) (r : Result T RunError)
         → IfErr r (λ stop. (lines : List ErrorLine)
         × StopsAtExpanded known counted counted_after settings.root settings.tree settings.language expansion (status_of stop) lines
         × TakesLines taken failed lines taken_after failed_after)

@@ -7,7 +7,7 @@ ghost use Rattle.kc_files.specs.TreeContents.{HasRisen};
 ghost use Rattle.kmin_report.specs.StandardError.{TakesLines};
 ghost use Rattle.kmin_report.specs.between.RunErrors.{status_of};
 ghost use Rattle.kmin_trees.specs.JobTexts.{TreeTexts, AreTextsOfJob};
-ghost use Rattle.kmin_trees.specs.LinedTrees.{IsLinedTree, name_text, names_by_number};
+ghost use Rattle.kmin_trees.specs.LinedTrees.{IsLinedTree, names_by_number};
 ghost use Rattle.kmin_trees.specs.Stops.{StopsAtTree};
 ghost use Rattle.kmin_trees.specs.between.FileNames.{names_of, text_at};
 
@@ -77,17 +77,7 @@ fn text_at<'a>(names: &FileNames<'a>, number: u32) -> &'a str
     ensures { result.now ≡ text_at (names_of names.now) number }
 {
     match names.name_at(number) {
-        Some(name) => name_text(name),
+        Some(name) => std::str::from_utf8(name).unwrap_or(""),
         None => "",
-    }
-}
-
-/// A name as a text; the empty one if it isn't UTF-8.
-fn name_text(name: &[u8]) -> &str
-    ensures { result.now ≡ name_text name.now }
-{
-    match std::str::from_utf8(name) {
-        Ok(text) => text,
-        Err(_) => "",
     }
 }

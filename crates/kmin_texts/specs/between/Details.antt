@@ -1,11 +1,10 @@
 -- The details of messages, as their text and names.
 use Rattle.std.specs.Prelude.{ℕ, List, [], ◌∷◌, Some, None, map, option_map}
 use Rattle.std.specs.Borrow.{Bor}
-use Rattle.kmin_report.specs.StandardError.{Detail as LineDetail}
 use Rattle.kmin_texts.specs.declared.details.Detail.{Detail}
 use Rattle.kmin_texts.specs.declared.details.Detail.TheVariants.{Nothing, Unknown, Value, Missing, Unread, Words, Expansion, First, Limit, Cycle}
 use Rattle.kmin_texts.specs.Texts.{unknown_text, value_text, missing_text, unreadable_text, expansion_text, first_place_text, limit_text, cycle_text}
-use Rattle.kmin_faults.specs.between.Steps.{step_of}
+use Rattle.kmin_texts.specs.between.CycleSteps.{step_of}
 
 -- the text for a detail, as long as it is; the message has it by `shown`
 abbrev pub detail_text : Detail → List ℕ
@@ -37,7 +36,3 @@ without_words (Missing path why) = Unread why
 without_words (Words words) = Nothing
 without_words (Expansion text) = Nothing
 without_words other = other
-
--- the text of a detail, and the names in it
-abbrev pub line_detail : Detail → LineDetail
-line_detail detail = record { text = detail_text detail; names = detail_names detail }

@@ -1,5 +1,5 @@
 -- The symbol that a line of a configuration file names.
-use Rattle.std.specs.Prelude.{ℕ, List, [], ◌∷◌, Option, Some, None, option_map}
+use Rattle.std.specs.Prelude.{ℕ, List, [], ◌∷◌, Option, Some, None}
 use Rattle.kc_tree_model.specs.LogicalLines.{without_white_end}
 use Rattle.kc_dotconfig_model.specs.between.LineMeanings.{value_parts, unset_name}
 use Rattle.kc_dotconfig_model.specs.declared.notice.NoticeKind.{NoticeKind}
@@ -38,13 +38,7 @@ notice_text UnknownSymbol prefix line = name_text (named_on prefix line)
 notice_text NotOfType prefix line = parts_text (value_parts prefix (without_white_end line))
 notice_text kind prefix line = []
 
--- the same where no words of the line may be shown: the name alone
-abbrev pub hidden_text : NoticeKind → (prefix line : List ℕ) → List ℕ
-hidden_text UnknownSymbol prefix line = name_text (named_on prefix line)
-hidden_text NotOfType prefix line = name_text (option_map (λ (parts : List ℕ × List ℕ). parts.0) (value_parts prefix (without_white_end line)))
-hidden_text kind prefix line = []
-
--- the names in either
+-- the names in that
 abbrev pub notice_names : NoticeKind → (prefix line : List ℕ) → List (List ℕ)
 notice_names UnknownSymbol prefix line = one_name (named_on prefix line)
 notice_names NotOfType prefix line = first_name (value_parts prefix (without_white_end line))

@@ -9,8 +9,8 @@ use Rattle.kmin_report.proofs.Results.{if_err, if_err_map}
 use Rattle.kmin_inputs.proofs.FailureCounts.{rises_later}
 use Rattle.kmin_explain_command.proofs.command.explained.Goals as goal
 
-pub explained_over-answer-requires-clause-read : goal.explained_over-answer-requires-clause-read
-explained_over-answer-requires-clause-read g c =
+pub explained_over-requires-clause-read : goal.explained_over-requires-clause-read
+explained_over-requires-clause-read g c =
     let lined = c.in_ok-tree.ensures.accepted.2 in
     read_tree c.in_ok-tree.ensures.accepted.0.texts c.args.job.now.settings.tree.now (tree_model_of c.in_ok-tree.tree.settled) c.in_ok-tree.tree.lines lined.lines
 

@@ -15,8 +15,8 @@ returns-in_err-found g c =
       failed = with_error c.from_residual.result _ _ c.from_residual.ensures.1 c.in_err-found.ensures.failed;
     }
 
-pub explained_files-answer-requires-clause-system : goal.explained_files-answer-requires-clause-system
-explained_files-answer-requires-clause-system g c = c.in_ok-found.ensures.settled
+pub explained_files-requires-clause-system : goal.explained_files-requires-clause-system
+explained_files-requires-clause-system g c = c.in_ok-found.ensures.settled
 
 pub returns : goal.returns
 returns g c =

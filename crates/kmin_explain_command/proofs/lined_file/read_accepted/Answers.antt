@@ -1,5 +1,4 @@
 use Rattle.std.proofs.Common.{refl}
-use Rattle.kc_files.proofs.StoreLemmas.{one_more_rises}
 use Rattle.kmin_tidy.specs.checker.Readings.{unopened}
 use Rattle.kmin_report.proofs.Results.{if_ok_map, if_err_map}
 use Rattle.kmin_inputs.proofs.FailureCounts.{closed_rises}
@@ -19,7 +18,7 @@ pub returns-in-Some-clause-failed : goal.returns-in-Some-clause-failed
 returns-in-Some-clause-failed g c =
     if_err_map c.read_source-read.result _ _ (λ fault failed. λ read.
     closed_rises _ _ (g.F.Files.failures c.args.files.now) (g.F.Files.failures c.reader_for.new.self) (g.F.Files.failures c.close.new.self)
-    (rw c.in-Some.is at c.reader_for.ensures.unread) (one_more_rises _ _ _ refl (failed read)) c.reader_for.ensures.rising c.close.ensures.failed c.close.ensures.rising)
+    (rw c.in-Some.is at c.reader_for.ensures.unread) (failed read) c.reader_for.ensures.rising c.close.ensures.failed c.close.ensures.rising)
     c.read_source-read.ensures.failed
 
 pub returns-in-None-clause-fault : goal.returns-in-None-clause-fault

@@ -7,8 +7,8 @@ use Rattle.kmin_report.proofs.Results.{if_err_map}
 use Rattle.kmin_explain_command.proofs.ReadFiles.{faulty_stops, is_unread}
 use Rattle.kmin_explain_command.proofs.lined_file.read_file.Goals as goal
 
-pub noticed_file-requires : goal.noticed_file-requires
-noticed_file-requires g c = record { read = rw c.deref.ensures.value c.in-Ok.ensures.ok.fragment }
+pub noticed_file-requires-clause-read : goal.noticed_file-requires-clause-read
+noticed_file-requires-clause-read g c = rw c.deref.ensures.value c.in-Ok.ensures.ok.fragment
 
 pub returns-in-Ok : goal.returns-in-Ok
 returns-in-Ok g c =

@@ -3,9 +3,9 @@ use Rattle.kmin_report.proofs.Results.{if_ok_map}
 use Rattle.kmin_explain_command.proofs.TextEnds.{answer_from}
 use Rattle.kmin_explain_command.proofs.texts.text_of.Goals as goal
 
-pub answer_by-requires : goal.answer_by-requires
-answer_by-requires c =
-    record { read = record { read = rw c.requires.system c.requires.read; index = rw c.requires.system (rw c.tree.ensures.tree at c.in_ok-index.ensures.ok) } }
+pub answer_by-requires-clause-read : goal.answer_by-requires-clause-read
+answer_by-requires-clause-read c =
+    record { read = rw c.requires.system c.requires.read; index = rw c.requires.system (rw c.tree.ensures.tree at c.in_ok-index.ensures.ok) }
 
 pub returns-clause-answer : goal.returns-clause-answer
 returns-clause-answer c =

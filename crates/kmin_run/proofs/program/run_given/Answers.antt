@@ -27,7 +27,7 @@ returns-in-Ok g c =
     record {
       status = c.run_read.ensures.status;
       ends = λ left read.
-          words_ended known left words is_input_read read.input given (represent left read) _ _ _ _ _ _ _ _ _ _ after read.untouched c.run_read.ensures.ends;
+          words_ended known left words is_input_read read.input given (represent left read) _ _ _ _ _ _ _ _ _ after read.untouched c.run_read.ensures.ends;
       unasked = λ left read. elim c.run_read.ensures.unasked [
         | inl same ↦ inl same
         | inr asks ↦ inr (changes_asked known left words is_input_read read.input given (represent left read) asks)
@@ -51,7 +51,7 @@ returns-in-Err-NotUtf8 g c = record {
   status = two_at_most_six c.refuse_list.result c.refuse_list.ensures.status;
   ends = λ left read.
       words_malformed (g.F.Files.surroundings c.args.files.now) left (map (λ (word : Bor (List ℕ)). word.now) c.args.words.now)
-      _ _ _ _ _ _ _ _ _ _ _ (texts_of c.args.read.now.files) read.read (rw c.deref.ensures.value at (c.in-Err-NotUtf8.ensures.not_utf8 (search rules)))
+      _ _ _ _ _ _ _ _ _ _ (texts_of c.args.read.now.files) read.read (rw c.deref.ensures.value at (c.in-Err-NotUtf8.ensures.not_utf8 (search rules)))
       c.refuse_list.ensures.status none c.refuse_list.ensures.reported;
   unasked = λ left read. inl refl;
   refused = λ left read four. inl refl;
@@ -64,7 +64,7 @@ returns-in-Err-OutOfMemory g c = record {
   status = fault_at_most_six Memory c.exit_status.result c.exit_status.ensures.status;
   ends = λ left read.
       words_forgotten (g.F.Files.surroundings c.args.files.now) left (map (λ (word : Bor (List ℕ)). word.now) c.args.words.now)
-      _ _ _ _ _ _ _ _ _ _ _ c.exit_status.ensures.status none c.exit_status.ensures.reported;
+      _ _ _ _ _ _ _ _ _ _ c.exit_status.ensures.status none c.exit_status.ensures.reported;
   unasked = λ left read. inl refl;
   refused = λ left read four. inl refl;
   unwritten = λ zero one four five. refl;

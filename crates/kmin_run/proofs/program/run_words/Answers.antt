@@ -25,7 +25,7 @@ returns-in-Ok g c =
     let ends = (rw (c.read_word_files.ensures.same, c.in-Ok.ensures.unfailed) at (c.run_given.ensures.ends left)) read in
     record {
       status = c.run_given.ensures.status;
-      ends = (ends.0, ends.1, ends.2, formed_since ends.0 _ ends.1 _ _ _ _ _ _ c.in-Ok.ensures.unreported ends.3);
+      ends = (ends.0, ends.1, ends.2, formed_since ends.0 ends.1 _ _ _ _ _ _ c.in-Ok.ensures.unreported ends.3);
       unasked = (rw c.read_word_files.ensures.same at (c.run_given.ensures.unasked left)) read;
       refused = (rw c.read_word_files.ensures.same at (c.run_given.ensures.refused left)) read;
       unwritten = c.run_given.ensures.unwritten;
@@ -42,7 +42,7 @@ pub returns-in-Err : goal.returns-in-Err
 returns-in-Err g c =
     let stopped = c.in-Err.ensures.stopped in record {
       status = words_at_most_six _ _ _ _ _ stopped.1;
-      ends = words_stopped _ _ _ _ _ _ _ _ _ _ _ _ stopped;
+      ends = words_stopped _ _ _ _ _ _ _ _ _ _ _ stopped;
       unasked = inl refl;
       refused = λ four. inl refl;
       unwritten = λ zero one four five. refl;

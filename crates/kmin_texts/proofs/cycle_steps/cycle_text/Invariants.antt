@@ -1,5 +1,5 @@
 use Rattle.std.proofs.Common.{take, map, string_bytes}
-use Rattle.kmin_faults.specs.between.Steps.{step_of}
+use Rattle.kmin_texts.specs.between.CycleSteps.{step_of}
 use Rattle.kmin_texts.proofs.CycleTexts.{HasSteps}
 use Rattle.kmin_texts.proofs.cycle_steps.cycle_text.Given as goal
 

@@ -1,12 +1,9 @@
+use Rattle.std.proofs.Common.{Some}
 use Rattle.std.proofs.lemmas.Result.{IfOk-weaker}
-use Rattle.kmin_report.specs.between.ReportLines.{report_line}
-use Rattle.kmin_texts.specs.between.Details.{line_detail}
-use Rattle.kmin_texts.specs.between.Wordings.{asked_by}
-use Rattle.kmin_texts.proofs.OwnDetails.{spelled}
+use Rattle.kmin_texts.specs.between.Details.{detail_text, detail_names}
 use Rattle.kmin_texts.proofs.worded_lines.spelled_line.Goals as goal
 
 pub returns : goal.returns
-returns c known is =
-    IfOk-weaker c.line_in.result _ _
-    (λ line e. spelled (asked_by c.args.wording.now) known (report_line c.args.report.now) (line_detail c.args.detail) line.items is e)
-    (rw c.as_bytes.ensures.value at c.line_in.ensures)
+returns c =
+    IfOk-weaker c.line_in.result _ _ (λ line is.
+    (Some (record { text = detail_text c.args.detail; names = detail_names c.args.detail }), is)) (rw c.as_bytes.ensures.value at c.line_in.ensures)

@@ -1,9 +1,0 @@
-pub mod ReverseNames
-pub mod StoredNames
-pub mod StoredCauses
-pub mod SourceCounts
-pub mod NearestDefinitions
-pub mod Circles
-pub mod StoredTypes
-pub mod FoundPlaces
-pub mod TokenPaths

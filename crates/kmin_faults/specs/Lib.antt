@@ -1,5 +1,0 @@
-pub mod Causes
-pub mod Cycles
-pub mod SourcedPaths
-pub mod PassedLimits
-pub mod between

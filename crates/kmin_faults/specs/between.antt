@@ -1,3 +1,0 @@
-pub mod StoredStatements
-pub mod Steps
-pub mod StoredDefinitions

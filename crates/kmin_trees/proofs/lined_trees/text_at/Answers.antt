@@ -1,7 +1,0 @@
-use Rattle.std.proofs.Common.{ℕ, List, [], Option, ap, ◌∙◌}
-use Rattle.std.specs.Prelude.{option_map, unwrap_or}
-use Rattle.kmin_trees.specs.LinedTrees.{name_text}
-use Rattle.kmin_trees.proofs.lined_trees.text_at.Goals as goal
-
-pub returns-in-Some : goal.returns-in-Some
-returns-in-Some c = c.name_text.ensures ∙ ap (λ (name : Option (List ℕ)). unwrap_or (option_map name_text name) []) c.in-Some.ensures
