@@ -27,6 +27,12 @@ _kmin_words() {
         missed|check) echo "--exit-code" ;;
     esac
     case $1 in
+        missed) echo "--long --by-cause" ;;
+    esac
+    case $1 in
+        check) echo "--long" ;;
+    esac
+    case $1 in
         explain) echo "--every --deep --all --exit-code" ;;
     esac
     case $1 in

@@ -59,6 +59,9 @@ complete -c kmin -n "__fish_seen_subcommand_from min full missed check explain c
 complete -c kmin -n "__fish_seen_subcommand_from min full" -s o -l output -d "File to write in place of standard output" -r
 complete -c kmin -n "__fish_seen_subcommand_from min" -l drop -d "Replaces a FILE without the lines that the tree can't read; with -o"
 complete -c kmin -n "__fish_seen_subcommand_from missed check" -l exit-code -d "Ends with status 1 where a symbol is listed"
+complete -c kmin -n "__fish_seen_subcommand_from missed" -l long -d "Lists each line that isn't taken, and why"
+complete -c kmin -n "__fish_seen_subcommand_from missed" -l by-cause -d "Lists the symbols below what keeps them; not with --long"
+complete -c kmin -n "__fish_seen_subcommand_from check" -l long -d "Says what selects each symbol, and what is unmet"
 complete -c kmin -n "__fish_seen_subcommand_from explain" -l every -d "Explains each symbol of the tree; no NAME is given"
 complete -c kmin -n "__fish_seen_subcommand_from explain" -l deep -d "Goes on with the symbols that keep those explained too low"
 complete -c kmin -n "__fish_seen_subcommand_from explain" -l all -d "Lists each select and imply, also those that don't decide"

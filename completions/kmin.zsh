@@ -75,6 +75,17 @@ _kmin_specs() {
         ) ;;
     esac
     case $1 in
+        missed) specs+=(
+            '--long[Lists each line that isn'\''t taken, and why]'
+            '--by-cause[Lists the symbols below what keeps them; not with --long]'
+        ) ;;
+    esac
+    case $1 in
+        check) specs+=(
+            '--long[Says what selects each symbol, and what is unmet]'
+        ) ;;
+    esac
+    case $1 in
         explain) specs+=(
             '--every[Explains each symbol of the tree; no NAME is given]'
             '--deep[Goes on with the symbols that keep those explained too low]'

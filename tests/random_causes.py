@@ -1,8 +1,9 @@
-"""What explains the values of the symbols of a tree, as `kmin explain` prints it, by docs/RULES.md, apart from the program: what gives
-a value, what hinders an assignment, what conditions lack, and what selects and implies.
+"""What explains the values of the symbols of a tree, as `kmin explain` prints it, and as `missed` and `check` list it, by
+docs/RULES.md, apart from the program: what gives a value, what hinders an assignment, what conditions lack, and what selects and
+implies.
 
 Expressions and values are those of tests/random_values.py; each expression of a condition has the number of its line."""
-from random_values import BOOL, LETTERS, STRING, TRISTATE, number_of, quoted, users_of
+from random_values import BOOL, LETTERS, STRING, TRISTATE, is_missed, number_of, quoted, users_of
 
 ORS, ANDS, FACTOR = range(3)
 
@@ -263,31 +264,80 @@ class Causes:
                 found = [(f"{name}:{number}", user, text)]
         return found
 
-    def asking(self, it, case, hindrance):
-        """The lines of what files ask."""
+    def places(self, it):
+        """The places of the last lines of files that say something of a symbol, what these ask, and the first later one that asks for
+        another value."""
         found = [place for name, lines in self.files for place in self.asked(it, name, lines)]
         for i, (place, user, text) in enumerate(found):
-            by = next((later for later, other, _ in found[i + 1:] if other != user), None)
-            if by:
-                yield f"  {place} asks {text}: overridden by {by}"
-        for place, _, text in found[-1:]:
+            yield place, text, next((later for later, other, _ in found[i + 1:] if other != user), None)
+
+    def asking(self, it, case, hindrance):
+        """The lines of what files ask."""
+        found = list(self.places(it))
+        yield from (f"  {place} asks {text}: overridden by {by}" for place, text, by in found if by)
+        for place, text, _ in found[-1:]:
             outcome = f"not taken, {hindrance}" if hindrance else "taken" if self.is_taken(case) else "the value is that without it"
             yield f"  {place} asks {text}: {outcome}"
+
+    def is_unmet(self, it):
+        return not it.choice and self.values.is_unmet(it)
+
+    def details(self, it, case, hindrance):
+        """The lines below what files ask."""
+        found = ["  it has no prompt"] if hindrance == "it isn't visible" and not it.prompts else self.needs(it)
+        if case.startswith("selected") or hindrance == "more is selected" or self.is_unmet(it):
+            found += self.forcing(it, "select", "selected")
+        if case.startswith("implied"):
+            found += self.forcing(it, "imply", "implied")
+        return found + (self.unmet(it) if self.is_unmet(it) else [])
 
     def lines(self, it):
         """The lines that explain a symbol."""
         (case, line), hindrance = self.case(it), self.hindrance(it)
         selected = self.values.by_unit[it.choice] if it.choice else None
         chosen = f"{selected.name} is y, " if selected and selected is not it else ""
-        found = [f"{it.name}={self.text_of(it)}: {chosen}{case}{f' (Kconfig:{line})' if line else ''}"]
-        found += self.asking(it, case, hindrance)
-        found += ["  it has no prompt"] if hindrance == "it isn't visible" and not it.prompts else self.needs(it)
-        is_unmet = not it.choice and self.values.is_unmet(it)
-        if case.startswith("selected") or hindrance == "more is selected" or is_unmet:
-            found += self.forcing(it, "select", "selected")
-        if case.startswith("implied"):
-            found += self.forcing(it, "imply", "implied")
-        return found + (self.unmet(it) if is_unmet else [])
+        first = f"{it.name}={self.text_of(it)}: {chosen}{case}{f' (Kconfig:{line})' if line else ''}"
+        return [first, *self.asking(it, case, hindrance), *self.details(it, case, hindrance)]
+
+    # The lists.
+
+    def cause(self, it):
+        """What keeps a symbol from the value that is asked for; none where it has it."""
+        if not is_missed(self.values, self.users, it):
+            return None
+        hindrance = self.hindrance(it)
+        return one_line(f"{self.text_of(it)}: {hindrance}", "; ", self.details(it, self.case(it)[0], hindrance))
+
+    def missed_lines(self, symbols):
+        """What `missed --long` lists."""
+        for it in symbols:
+            found, cause = list(self.places(it)), self.cause(it)
+            yield from (f"{place}: {it.name}: {text} -> overridden by {by}" for place, text, by in found if by)
+            if cause:
+                yield f"{found[-1][0]}: {it.name}: {found[-1][1]} -> {cause}"
+
+    def missed_causes(self, symbols):
+        """What `missed --by-cause` lists."""
+        groups = {}
+        for it in symbols:
+            if self.cause(it):
+                groups.setdefault(self.cause(it), []).append(it.name)
+        yield f"{sum(map(len, groups.values()))} missed, {len(groups)} causes"
+        for cause, names in sorted(groups.items(), key=lambda group: -len(group[1])):
+            yield f"{len(names)} {cause}"
+            yield from (f"  {name}" for name in names)
+
+    def unmet_lines(self, symbols):
+        """What `check --long` lists."""
+        for it in filter(self.is_unmet, symbols):
+            line = min(head.line for head in [it.head, *(head for head, _ in it.others)])
+            details = self.forcing(it, "select", "selected") + self.unmet(it)
+            yield one_line(f"Kconfig:{line}: {it.name}: {self.text_of(it)}", ": ", details)
+
+
+def one_line(start, first, lines):
+    """Inner lines behind a text."""
+    return start + first + "; ".join(line.strip() for line in lines) if lines else start
 
 
 def alternatives(word, lists):

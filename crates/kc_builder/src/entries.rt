@@ -124,7 +124,7 @@ pub(crate) fn entries_of(
         → RepresentsAllConditions language exprs listing.now.texts.items conditions end (reverse groups.now) read
         → IfOk result (λ rows. All (EntryRowFits (length exprs.nodes) (length listing.now.names.symbols.items) (length (contents_of read).choices) (length listing.now.texts.items)) rows.items) }
 {
-    let mut rows = Vec::new(alloc);
+    let mut rows = Vec::with_capacity(alloc, listing.groups.len())?;
     let mut choices = 0;
     for i in 0..listing.groups.len() {
         let head = &listing.groups[i].head;

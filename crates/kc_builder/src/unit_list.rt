@@ -45,7 +45,7 @@ pub(crate) fn units_of(
     requires symbols { AreSymbolSummaries listing.now symbols.now }
     ensures ok { (read : List ModelGroup) → RepresentsListing listing.now read → IfOk result (λ units. units.items ≡ units_read (contents_of read)) }
 {
-    let mut units = Vec::new(alloc);
+    let mut units = Vec::with_capacity(alloc, listing.groups.len())?;
     let mut choices = 0;
     for i in 0..listing.groups.len() {
         let head = &listing.groups[i].head;

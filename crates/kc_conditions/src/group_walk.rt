@@ -186,12 +186,20 @@ fn yes_and_no(arena: &mut Arena) -> Result<(ExprId, ExprId), ExprFault>
 }
 
 impl GroupWalk {
-    /// A walk before the first group of a listing, with the expressions `y` and `n` added to its arena.
-    pub(crate) fn new(alloc: Global, arena: Arena) -> Result<GroupWalk, ExprFault>
+    /// A walk before the first group of a listing, with the expressions `y` and `n` added to its arena, and with room for so many
+    /// groups and attribute lines.
+    pub(crate) fn new(
+        alloc: Global,
+        arena: Arena,
+        groups: usize,
+        lines: usize,
+    ) -> Result<GroupWalk, ExprFault>
         ensures grows { IfOk result (λ w. Grows arena w.arena) }
         ensures walked { IfOk result (λ w. (language : Language) (texts : List (List ℕ)) → HasWalked language texts w []) }
         ensures empty { IfOk result (λ w. w.groups.items ≡ []) }
     {
+        let group_conditions = Vec::with_capacity(alloc, groups)?;
+        let conditions = Vec::with_capacity(alloc, lines)?;
         let mut arena = arena;
         let constants = yes_and_no(&mut arena)?;
         Ok(GroupWalk {
@@ -199,8 +207,8 @@ impl GroupWalk {
             yes: constants.0,
             no: constants.1,
             stack: Vec::new(alloc),
-            groups: Vec::new(alloc),
-            conditions: Vec::new(alloc),
+            groups: group_conditions,
+            conditions,
         })
     }
 

@@ -51,7 +51,7 @@ fn walk_through(
     ensures walked { (names texts : List (List ℕ)) (read : List ModelGroup) → RepresentsGroups arena names texts lines.now (length lines.now) (reverse groups.now) read
         → IfOk result (λ w. HasWalked language texts w read) }
 {
-    let mut walk = GroupWalk::new(alloc, arena)?;
+    let mut walk = GroupWalk::new(alloc, arena, groups.len(), lines.len())?;
     for i in 0..groups.len() {
         walk.visit(language, &groups[i].head, lines_at(groups, lines, i))?;
     }

@@ -8,7 +8,7 @@ use Rattle.kc_rules_model.specs.declared.values.UnitValue.{UnitValue}
 use Rattle.kc_rules_model.specs.declared.values.UserValue.{UserValue}
 use Rattle.kc_tree.specs.TreeModel.{TreeModel}
 use Rattle.kc_rules.specs.between.SettledViews.{profile_of, tree_model_of}
-use Rattle.kc_dotconfig.specs.ConfigStates.{Configured, tree_in, IsSolved}
+use Rattle.kc_config.specs.ConfigStates.{Configured, tree_in, IsSolved}
 use Rattle.kc_reasons_model.specs.PlainReasons.{PlainReasons, plain_reasons, plain_reasons_at}
 use Rattle.kc_reasons_model.proofs.CaseLaws.{cases_give}
 use Rattle.kc_reasons_model.proofs.ClaimLaws.{claims}

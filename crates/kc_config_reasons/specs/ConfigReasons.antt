@@ -6,7 +6,7 @@ use Rattle.kc_tree_model.specs.TreeLookup.{unit_of}
 use Rattle.kc_rules_model.specs.declared.values.UserValue.{UserValue}
 use Rattle.kc_rules.specs.between.SettledViews.{profile_of}
 use Rattle.kc_dotconfig_model.specs.MissedAssignments.{is_missed}
-use Rattle.kc_dotconfig.specs.ConfigStates.{Configured, tree_in}
+use Rattle.kc_config.specs.ConfigStates.{Configured, tree_in}
 use Rattle.kc_reasons_model.specs.Cases.{given}
 use Rattle.kc_reasons_model.specs.Claims.{claims_hold}
 use Rattle.kc_reasons_model.specs.Hindrances.{is_about, is_given_both}

@@ -6,12 +6,12 @@ ghost use Rattle.kc_tree_model.specs.Trees.{Symbol};
 ghost use Rattle.kc_rules_model.specs.Shapes.{user_fits};
 ghost use Rattle.kc_rules.specs.between.SettledViews.{tree_model_of};
 ghost use Rattle.kc_evaluation.specs.checker.ValuationView.{valuation_tree, valuation_exprs, valuation_values};
-ghost use Rattle.kc_dotconfig.specs.ConfigStates.{tree_in, IsSolved};
+ghost use Rattle.kc_config.specs.ConfigStates.{tree_in, IsSolved};
 ghost use Rattle.kc_reasons.specs.between.Parts.{AreThere};
 ghost use Rattle.kc_reasons.specs.between.ReasonsView.{reasons_view};
 ghost use Rattle.kc_config_reasons.specs.ConfigReasons.{AreReasonsIn};
 
-use kc_dotconfig::{Config, user_at};
+use kc_config::{Config, user_at};
 use kc_evaluation::Valuation;
 use kc_reasons::{SymbolReasons, reasons_of};
 use kc_rules_model::UserValue;

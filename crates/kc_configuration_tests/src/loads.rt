@@ -1,6 +1,7 @@
 //! Configurations that are changed by files: what changes, and how many rules are evaluated.
 use super::test_trees::{fragment_twice, merged, replaced, settled};
-use kc_dotconfig::{Config, Fragment};
+use kc_config::Config;
+use kc_dotconfig::Fragment;
 use kc_rules::{Profile, Settled};
 use kc_value::{Tri, ValueRef};
 use kmin_fakes::twice;

@@ -1,6 +1,6 @@
 //! Values of a tree: those of a configuration after many changes, and those that solving anew gives.
 use super::test_trees::{are_same, merged_twice, settled};
-use kc_dotconfig::Config;
+use kc_config::Config;
 use kc_rules::{Profile, Settled, Steps};
 use kc_system::solve;
 use kmin_fakes::twice;

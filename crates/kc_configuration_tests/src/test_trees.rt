@@ -1,11 +1,12 @@
 //! Trees and files that tests are made with.
 ghost use Rattle.std.specs.Prelude.{IfOk};
-ghost use Rattle.kc_dotconfig.specs.ConfigStates.{tree_in};
+ghost use Rattle.kc_config.specs.ConfigStates.{tree_in};
 ghost use Rattle.kc_dotconfig.specs.Fragments.{FitsTree};
 ghost use Rattle.kc_rules.specs.between.SettledViews.{tree_of_settled};
 
 use kc_builder::read_tree;
-use kc_dotconfig::{Config, Format, Fragment, read_config};
+use kc_config::Config;
+use kc_dotconfig::{Format, Fragment, read_config};
 use kc_rules::{Profile, Settled, UnitValue, UserValue, settle};
 use kc_system::{Report, System};
 use kc_tree::{Texts, Tree};

@@ -7,7 +7,7 @@ use Rattle.kc_tree_model.specs.Trees.{Tree}
 use Rattle.kc_rules_model.specs.declared.values.UserValue.{UserValue}
 use Rattle.kc_rules_model.specs.Shapes.{user_fits}
 use Rattle.kc_dotconfig.specs.Fragments.{FitsTree}
-use Rattle.kc_dotconfig.specs.checker.Configs.{units_of, next_at}
+use Rattle.kc_dotconfig.specs.checker.UserValueOrder.{units_of, next_at}
 
 same_unit : (p q : ℕ × UserValue) → Some p ≡ Some q → p.0 ≡ q.0
 same_unit p q e = let same : p ≡ q = cc in ap (λ (r : ℕ × UserValue). r.0) same

@@ -4,10 +4,6 @@ pub mod ReadingSteps
 pub mod WholeReads
 pub mod LineMeanings
 pub mod UserValueFits
-pub mod UserValueUnits
 pub mod FragmentFits
-pub mod ConfigSolutions
 pub mod AscendingUnits
 pub mod GatheredLines
-pub mod MissedMembers
-pub mod MergedValues

@@ -18,7 +18,7 @@ use Rattle.kc_dotconfig_model.proofs.AcceptedLines.{accepted_utf8}
 use Rattle.kc_dotconfig_model.proofs.FittingFiles.{file_fits}
 use Rattle.kc_dotconfig.specs.Fragments.{FitsTree, changes_of, users_of}
 use Rattle.kc_dotconfig.specs.checker.UserValueOrder.{IsAscending, AreBelow}
-use Rattle.kc_dotconfig.specs.checker.Configs.{units_of}
+use Rattle.kc_dotconfig.specs.checker.UserValueOrder.{units_of}
 use Rattle.kc_dotconfig.proofs.Insertions.{length_changed, later_set, none_length}
 
 same_pair : (p q : ℕ × UserValue) → Some p ≡ Some q → p ≡ q

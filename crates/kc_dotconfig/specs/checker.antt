@@ -1,5 +1,3 @@
 pub mod Accumulation
-pub mod Configs
 pub mod UserValueOrder
 pub mod GatheredLines
-pub mod MissedMembers

@@ -30,6 +30,11 @@ abbrev pub outcome_text : Case → Option Hindrance → List ℕ
 outcome_text case None = if is_by_user case then codes "taken" else codes "the value is that without it"
 outcome_text case (Some h) = codes "not taken, " ++ hindrance_text h
 
+-- why an assigned value isn't taken, if something hinders it
+abbrev pub why_text : Option Hindrance → List ℕ
+why_text None = []
+why_text (Some h) = hindrance_text h
+
 -- `PATH:LINE`, of a line of a configuration file
 abbrev pub line_place : (path : List ℕ) → (number : ℕ) → List ℕ
 line_place path number = path ++ (58 ∷ decimal number)

@@ -73,6 +73,17 @@ located_details strings paths tree values symbol lines r places =
     ++ (located_forcing_lines strings paths tree values (codes "implied by ") symbol.impliers lines.impliers r.implied_by
     ++ located_alternative_lines strings (environment tree values) paths (codes "unmet: ") places.unmet))
 
+-- of a symbol that is selected against its dependencies: what selects it, by the numbers of the selects that decide, and what is unmet
+abbrev pub located_unmet : Strings → List (List ℕ) → Tree → List UnitValue → Symbol → List Position → (selected_by : List ℕ) → List (List LocatedPart) → List ℕ
+located_unmet strings paths tree values symbol selectors selected_by parts =
+    located_forcing_lines strings paths tree values (codes "selected by ") symbol.selectors selectors selected_by
+    ++ located_alternative_lines strings (environment tree values) paths (codes "unmet: ") parts
+
+-- and of the symbol with number s, if the tree has it
+abbrev pub located_unmet_at : Strings → List (List ℕ) → Tree → List UnitValue → ℕ → List Position → (selected_by : List ℕ) → List (List LocatedPart) → List ℕ
+located_unmet_at strings paths tree values s selectors selected_by parts =
+    unwrap_or (option_map (λ symbol. located_unmet strings paths tree values symbol selectors selected_by parts) (slice_get tree.symbols s)) []
+
 -- and of the symbol with number s, if the tree has it
 abbrev pub located_details_at : Strings → List (List ℕ) → Tree → List UnitValue → ℕ → SymbolLines → PlainReasons → ReasonPlaces → List ℕ
 located_details_at strings paths tree values s lines r places =

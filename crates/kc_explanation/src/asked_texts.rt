@@ -1,9 +1,10 @@
 //! The text of what the lines of configuration files ask of a symbol.
-ghost use Rattle.std.specs.Prelude.{◌≡◌, ◌==◌, ◌++◌, OnOk, codes, if◌then◌else◌};
-ghost use Rattle.kc_evaluation.specs.checker.ValuationView.{valuation_tree};
+ghost use Rattle.std.specs.Prelude.{◌≡◌, ◌<◌, ◌==◌, ◌++◌, OnOk, codes, length, if◌then◌else◌};
+ghost use Rattle.kc_evaluation.specs.checker.ValuationView.{valuation_tree, valuation_values};
+ghost use Rattle.kc_rules_model.specs.SymbolValues.{value_of_symbol};
 ghost use Rattle.kc_reasons_model.specs.Hindrances.{is_given_y};
-ghost use Rattle.kc_reasons_model.specs.Reasons.{name_of_symbol};
-ghost use Rattle.kc_explanation.specs.Asked.{is_by_user, outcome_text, line_place, asked_value, asks_text};
+ghost use Rattle.kc_reasons_model.specs.Reasons.{name_of_symbol, value_text};
+ghost use Rattle.kc_explanation.specs.Asked.{is_by_user, outcome_text, why_text, line_place, asked_value, asks_text};
 
 use super::explanation::name_of;
 use super::token_texts::{letter_of, push_text_of_kind};
@@ -46,6 +47,37 @@ pub fn push_outcome(
             out.extend_from_slice(hindrance_text(h).as_bytes())
         }
     }
+}
+
+/// Appends why an assigned value isn't taken, if something hinders it. An `Err` means out of memory.
+pub fn push_why(out: &mut Vec<u8>, hindrance: Option<Hindrance>) -> Result<(), AllocError>
+    ensures { OnOk result (out.new.items ≡ out.old.items ++ why_text hindrance) }
+{
+    match hindrance {
+        None => out.extend_from_slice(b""),
+        Some(h) => out.extend_from_slice(hindrance_text(h).as_bytes()),
+    }
+}
+
+/// Appends the name of symbol `s`. An `Err` means out of memory.
+pub fn push_name(out: &mut Vec<u8>, under: &Valuation<'_>, s: Sym) -> Result<(), AllocError>
+    ensures { OnOk result (out.new.items ≡ out.old.items ++ name_of_symbol (valuation_tree under.now) s) }
+{
+    out.extend_from_slice(name_of(under, s).as_bytes())
+}
+
+/// Appends the value of symbol `s`. An `Err` means out of memory.
+pub fn push_value_of(
+    out: &mut Vec<u8>,
+    under: &Valuation<'_>,
+    strings: Strings,
+    s: Sym,
+) -> Result<(), AllocError>
+    requires there { s < length (valuation_tree under.now).symbols }
+    ensures { OnOk result (out.new.items ≡ out.old.items ++ value_text strings (value_of_symbol (valuation_tree under.now) (valuation_values under.now) s)) }
+{
+    let seen = under.symbol(s);
+    push_text_of_kind(out, strings, seen.kind, seen.text)
 }
 
 /// Appends what became of an assigned value that nothing hinders.
@@ -107,8 +139,8 @@ fn push_asked_member(
     }
 }
 
-/// Appends what a user value asks of symbol `s` of this type.
-fn push_asked(
+/// Appends what a user value asks of symbol `s` of this type. An `Err` means out of memory.
+pub fn push_asked_value(
     out: &mut Vec<u8>,
     under: &Valuation<'_>,
     strings: Strings,
@@ -142,7 +174,7 @@ pub fn push_asks(
 {
     push_line_place(out, path, number)?;
     out.extend_from_slice(b" asks ")?;
-    push_asked(out, under, strings, s, kind, user)?;
+    push_asked_value(out, under, strings, s, kind, user)?;
     out.extend_from_slice(b": ")?;
     Ok(())
 }

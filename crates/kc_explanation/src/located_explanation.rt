@@ -8,7 +8,7 @@ ghost use Rattle.kc_reasons.specs.between.ReasonsView.{reasons_view};
 ghost use Rattle.kc_symbol_lines.specs.between.LinesView.{position_view, symbol_lines_view};
 ghost use Rattle.kc_located_reasons.specs.between.PartsView.{located_alternatives_view, ArePartsThere};
 ghost use Rattle.kc_explanation.specs.Explained.{case_text, chosen_text};
-ghost use Rattle.kc_explanation.specs.Located.{place_in_parentheses, located_first_line, located_needs_lines, located_forcing_line, located_forcing_lines, located_alternative_lines, located_details_at, located_explained_at};
+ghost use Rattle.kc_explanation.specs.Located.{place_in_parentheses, located_first_line, located_needs_lines, located_forcing_line, located_forcing_lines, located_alternative_lines, located_details_at, located_explained_at, located_unmet_at};
 ghost use Rattle.kc_explanation.specs.between.ReasonPlacesView.{places_view};
 
 use super::explanation::{is_without_prompt, name_of, push_case, push_chosen, push_hindrance_line};
@@ -228,6 +228,37 @@ pub fn push_located_details(
         &reasons.implied_by,
     )?;
     push_located_alternatives(alloc, out, under, strings, paths, b"unmet: ", &places.unmet)
+}
+
+/// Appends of symbol `s`, which is selected against its dependencies, what selects it, by the numbers of the selects that decide, and
+/// what is unmet. `paths` has those of the tree's files in the order of their numbers. An `Err` means out of memory.
+pub fn push_located_unmet(
+    alloc: Global,
+    out: &mut Vec<u8>,
+    under: &Valuation<'_>,
+    strings: Strings,
+    paths: &[Text],
+    s: Sym,
+    selectors: &[Position],
+    selected_by: &[usize],
+    unmet: &[Vec<LocatedPart>],
+) -> Result<(), AllocError>
+    requires there { s < length (valuation_tree under.now).symbols }
+    requires unmet { ArePartsThere (valuation_exprs under.now) unmet.now }
+    ensures { OnOk result (out.new.items ≡ out.old.items ++ located_unmet_at strings paths.now (valuation_tree under.now) (valuation_values under.now) s (map position_view selectors.now) selected_by.now (located_alternatives_view (valuation_exprs under.now) unmet.now)) }
+{
+    let symbol = &under.rules.tree.symbol(s);
+    push_located_forcing_lines(
+        out,
+        under,
+        strings,
+        paths,
+        "selected by ",
+        symbol.selectors,
+        selectors,
+        selected_by,
+    )?;
+    push_located_alternatives(alloc, out, under, strings, paths, b"unmet: ", unmet)
 }
 
 /// Appends the text that explains the value of symbol `s`, by its reasons, its lines and the places of what it lacks. `paths` has

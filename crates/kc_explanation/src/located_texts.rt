@@ -30,12 +30,21 @@ fn path_of(paths: &[Text], file: u32) -> &str
 pub(crate) fn push_place(out: &mut Vec<u8>, paths: &[Text], at: Position) -> Result<(), AllocError>
     ensures { OnOk result (out.new.items ≡ out.old.items ++ in_parentheses (place_text paths.now (position_view at))) }
 {
-    let mut digits = Buffer::new();
     out.extend_from_slice(b" (")?;
+    push_tree_place(out, paths, at)?;
+    out.extend_from_slice(b")")?;
+    Ok(())
+}
+
+/// Appends the place of a line of a tree, `PATH:LINE`, by the paths of the tree's files in the order of their numbers. An `Err` means
+/// out of memory.
+pub fn push_tree_place(out: &mut Vec<u8>, paths: &[Text], at: Position) -> Result<(), AllocError>
+    ensures { OnOk result (out.new.items ≡ out.old.items ++ place_text paths.now (position_view at)) }
+{
+    let mut digits = Buffer::new();
     out.extend_from_slice(path_of(paths, at.file).as_bytes())?;
     out.extend_from_slice(b":")?;
     out.extend_from_slice(digits.format(at.line).as_bytes())?;
-    out.extend_from_slice(b")")?;
     Ok(())
 }
 

@@ -1,4 +1,3 @@
 pub mod CutSteps
 pub mod ContinuedLines
 pub mod HelpTextLines
-pub mod NewlineSteps

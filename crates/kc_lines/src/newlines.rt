@@ -1,36 +1,26 @@
 //! The newlines of a file, looked for in many bytes at once.
-ghost use Rattle.std.specs.Prelude.{◌+◌, ◌≤◌, length};
-ghost use Rattle.kc_lines.specs.checker.Newlines.{IsCountBefore, IsNewlineFrom};
+ghost use Rattle.std.specs.Prelude.{◌==◌, ◌≤◌, length};
+ghost use Rattle.kc_lines.specs.checker.Newlines.{IsNewlineFrom};
 
+use kc_value::{ByteTest, first_marked};
 use std::simd::prelude::*;
 
-/// How many bytes are looked at together.
-const LANES: usize = 16;
+/// The test whether a byte is a newline.
+#[derive(Clone, Copy)]
+struct Newline;
 
-/// How many of the next `LANES` bytes come before a newline.
-#[inline(always)]
-fn bytes_before_newline(bytes: &[u8], at: usize) -> usize
-    requires room { at + LANES ≤ length bytes.now }
-    ensures { IsCountBefore bytes.now at LANES result }
-{
-    let newlines = u8x16::from_slice(&bytes[at..]).simd_eq(u8x16::splat(b'\n'));
-    let mask = newlines.to_bitmask();
-    if mask == 0 {
-        return LANES;
-    }
-    mask.trailing_zeros() as usize
-}
+impl ByteTest for Newline {
+    ghost marked = { λ test c. c == 10 };
 
-/// The place of the first newline from `at` on, looked for byte by byte; the length of the bytes where there is none.
-fn newline_by_bytes(bytes: &[u8], at: usize) -> usize
-    requires within { at ≤ length bytes.now }
-    ensures { IsNewlineFrom bytes.now at result }
-{
-    let mut place = at;
-    while place < bytes.len() && bytes[place] != b'\n' {
-        place += 1;
+    #[inline(always)]
+    fn marks(&self, byte: u8) -> bool {
+        byte == b'\n'
     }
-    place
+
+    #[inline(always)]
+    fn marks_of(&self, block: u8x16) -> u64 {
+        block.simd_eq(u8x16::splat(b'\n')).to_bitmask()
+    }
 }
 
 /// The place of the first newline from `at` on; the length of the bytes where there is none.
@@ -39,13 +29,5 @@ pub(crate) fn newline_from(bytes: &[u8], at: usize) -> usize
     requires within { at ≤ length bytes.now }
     ensures { IsNewlineFrom bytes.now at result }
 {
-    let mut place = at;
-    while bytes.len() - place >= LANES {
-        let before = bytes_before_newline(bytes, place);
-        if before < LANES {
-            return place + before;
-        }
-        place += LANES;
-    }
-    newline_by_bytes(bytes, place)
+    first_marked(&Newline, bytes, at)
 }

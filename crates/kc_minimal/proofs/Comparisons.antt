@@ -10,7 +10,7 @@ use Rattle.kc_rules.specs.declared.rules.Settled.{Settled}
 use Rattle.kc_rules.specs.between.SettledViews.{tree_of_settled, profile_of}
 use Rattle.kc_dotconfig_model.specs.Formats.{FileFormat}
 use Rattle.kc_dotconfig_model.specs.PrefixGrammar.{is_name_prefix}
-use Rattle.kc_dotconfig.specs.ConfigStates.{Configured, tree_in, IsSolved}
+use Rattle.kc_config.specs.ConfigStates.{Configured, tree_in, IsSolved}
 use Rattle.kc_minimal_model.specs.MinimalFile.{minimal_file}
 use Rattle.kc_minimal_model.specs.Differences.{Difference, differences}
 use Rattle.kc_minimal_model.specs.Headline.{DifferencesDecideMinimalFiles}

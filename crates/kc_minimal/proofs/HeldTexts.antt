@@ -7,7 +7,7 @@ use Rattle.kc_dotconfig_model.specs.Formats.{FileFormat}
 use Rattle.kc_dotconfig_model.specs.PrefixGrammar.{is_name_prefix}
 use Rattle.kc_dotconfig_model.specs.ConfigFiles.{file_lines}
 use Rattle.kc_value.specs.declared.limits.TheConstants.{MAX_CONFIG_BYTES, MAX_CONFIG_LINES}
-use Rattle.kc_dotconfig.specs.ConfigStates.{Configured, tree_in, IsSolved}
+use Rattle.kc_config.specs.ConfigStates.{Configured, tree_in, IsSolved}
 use Rattle.kc_minimal_model.specs.FileLimits.{ReadFilesAreAccepted}
 use Rattle.kc_minimal_model.specs.FullFile.{full_file}
 use Rattle.kc_minimal_model.specs.FullFileLaws.{FullFilesLeadBack, IsUnlifted}

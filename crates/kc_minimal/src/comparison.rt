@@ -3,13 +3,13 @@ ghost use Rattle.std.specs.Prelude.{◌≡◌, ◌↔◌, [], true, map, IfOk};
 ghost use Rattle.kc_rules.specs.between.SettledViews.{profile_of};
 ghost use Rattle.kc_dotconfig_model.specs.PrefixGrammar.{is_name_prefix};
 ghost use Rattle.kc_dotconfig_model.specs.Formats.{FileFormat};
-ghost use Rattle.kc_dotconfig.specs.ConfigStates.{tree_in};
+ghost use Rattle.kc_config.specs.ConfigStates.{tree_in};
 ghost use Rattle.kc_minimal_model.specs.MinimalFile.{minimal_file};
 ghost use Rattle.kc_minimal_model.specs.Differences.{differences};
 ghost use Rattle.kc_minimal.specs.between.DifferenceViews.{difference_view};
 
 use crate::difference::{Difference, differing};
-use kc_dotconfig::Config;
+use kc_config::Config;
 use kc_minimal_model::differences_decide_minimal_files;
 use std::alloc::{AllocError, Global};
 

@@ -10,7 +10,8 @@ ghost use Rattle.kc_minimal_model.specs.CanonicalText.{IsCanonicalText};
 ghost use Rattle.kc_minimal.specs.Minimisation.{IsMinimised, FailsWith};
 
 use crate::texts::minimal_text;
-use kc_dotconfig::{Config, Format, Fragment, LoadFault, Notice, read_config};
+use kc_config::Config;
+use kc_dotconfig::{Format, Fragment, LoadFault, Notice, read_config};
 use kc_output::{WriteFault, write_out};
 use kc_rules::Settled;
 use kc_value::{Sink, Source};

@@ -6,7 +6,7 @@ ghost use Rattle.kc_rules.specs.between.SettledViews.{profile_of};
 ghost use Rattle.kc_dotconfig_model.specs.between.Formats.{file_format};
 ghost use Rattle.kc_dotconfig_model.specs.ConfigFiles.{file_lines};
 ghost use Rattle.kc_value.specs.declared.limits.TheConstants.{MAX_CONFIG_BYTES, MAX_CONFIG_LINES};
-ghost use Rattle.kc_dotconfig.specs.ConfigStates.{tree_in};
+ghost use Rattle.kc_config.specs.ConfigStates.{tree_in};
 ghost use Rattle.kc_minimal_model.specs.CanonicalText.{IsCanonicalText};
 ghost use Rattle.kc_minimal_model.specs.FullFile.{full_file};
 ghost use Rattle.kc_minimal_model.specs.FullFileLaws.{IsUnlifted};
@@ -14,7 +14,8 @@ ghost use Rattle.kc_minimal_model.specs.FileValues.{ReadsTo, Loads, has_short_li
 
 use crate::full::full_lines;
 use crate::minimal::minimal_lines;
-use kc_dotconfig::{Config, Format};
+use kc_config::Config;
+use kc_dotconfig::Format;
 use kc_minimal_model::{
     full_files_lead_back, minimal_texts_are_canonical, read_files_are_accepted,
 };

@@ -20,7 +20,7 @@ no_place : (p : ℕ → Bool) (xs : List ℕ) → list_any p xs ≡ false → po
 no_place p [] h = refl
 no_place p (x ∷ xs) h = let (f, r) = or_parts (p x) (list_any p xs) h in rw f (omega (arith, no_place p xs r))
 
-position_none : (p : ℕ → Bool) (xs : List ℕ) → list_any p xs ≡ false → position p xs ≡ None
+pub position_none : (p : ℕ → Bool) (xs : List ℕ) → list_any p xs ≡ false → position p xs ≡ None
 position_none p xs h = let e = no_place p xs h in let t : ltb (position_or_len p xs) (length xs) ≡ false = le-ltb _ _ (omega (arith, e)) in rw t refl
 
 any_append : (p : ℕ → Bool) (xs ys : List ℕ) → list_any p xs ≡ false → list_any p ys ≡ false → list_any p (xs ++ ys) ≡ false
@@ -46,7 +46,7 @@ any_front p [] ys h = refl
 any_front p (x ∷ xs) ys h = let (f, r) = or_parts (p x) (list_any p (xs ++ ys)) h in rw f (any_front p xs ys r)
 
 -- without a `$` there is none outside pairs
-bare_of_any : (escaped : Bool) (text : List ℕ) → list_any (λ c. eqb c 36) text ≡ false → bare_dollar escaped text ≡ None
+pub bare_of_any : (escaped : Bool) (text : List ℕ) → list_any (λ c. eqb c 36) text ≡ false → bare_dollar escaped text ≡ None
 bare_of_any escaped [] h = refl
 bare_of_any true (c ∷ cs) h = let (f, r) = or_parts (eqb c 36) (list_any (λ c. eqb c 36) cs) h in ap (option_map suc) (bare_of_any false cs r)
 bare_of_any false (c ∷ cs) h = let (f, r) = or_parts (eqb c 36) (list_any (λ c. eqb c 36) cs) h in rw f (ap (option_map suc) (bare_of_any (eqb c 92) cs r))

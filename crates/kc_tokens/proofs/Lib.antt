@@ -5,4 +5,5 @@ pub mod TokenSteps
 pub mod TokenFronts
 pub mod TokenLaws
 pub mod ByteTables
+pub mod PlainQuotes
 pub mod QuoteBytes

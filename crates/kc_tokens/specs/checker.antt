@@ -1,1 +1,2 @@
+pub mod QuoteStops
 pub mod TokenEnds

@@ -3,6 +3,7 @@
 
 mod fault;
 mod language;
+mod plain_quotes;
 mod quoted_texts;
 mod token;
 

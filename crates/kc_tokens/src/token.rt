@@ -1,13 +1,14 @@
 //! Words, quoted texts and operators of a line.
 ghost use Rattle.std.specs.Prelude.{◌≡◌, ◌<◌, ◌≤◌, ◌⊎◌, true, false, length, take, IfSome, IfOk, IfErr, OnOk, OnErr, position, take_while, ◌==◌, ◌-◌, slice_index, [], ◌∷◌};
 ghost use Rattle.kc_tokens.specs.MemoryFaults.{IsOutOfMemory};
-ghost use Rattle.kc_tokens.specs.Token.{is_white_byte, is_word_byte, bare_dollar, dollar_left_out, next_token, next_quoted, next_operator, lexemes_from, lexemes_of};
+ghost use Rattle.kc_tokens.specs.Token.{is_quote, is_white_byte, is_word_byte, bare_dollar, dollar_left_out, next_token, next_quoted, next_operator, lexemes_from, lexemes_of};
 ghost use Rattle.kc_tokens.specs.checker.TokenEnds.{Reaches};
 ghost use Rattle.kc_tokens.specs.TokenGrammar.{IsCut, IsFirstTokenFault};
 ghost use Rattle.kc_tokens.specs.Token.{with_front};
 
 use super::fault::{ExprFault, ExprKind};
 use super::language::Language;
+use super::plain_quotes::plain_closing_quote;
 use kc_value::closing_quote;
 use std::alloc::Global;
 
@@ -130,8 +131,9 @@ fn word_len(bytes: &[u8]) -> usize
     bytes.len()
 }
 
-/// The quoted token at the front of bytes that begin with a quote.
-fn quoted_at_front(language: Language, bytes: &[u8]) -> NextToken
+/// The quoted token at the front of bytes that begin with a quote, whatever is between the quotes.
+#[inline(never)]
+fn any_quoted_at_front(language: Language, bytes: &[u8]) -> NextToken
     requires some { 0 < length bytes.now }
     requires quote { slice_index bytes.now 0 < 128 }
     ensures lead { result ≡ next_quoted language bytes.now }
@@ -143,6 +145,19 @@ fn quoted_at_front(language: Language, bytes: &[u8]) -> NextToken
             None => NextToken::Token(TokenKind::Quoted, n + 1),
             Some(k) => NextToken::Fault(ExprKind::LeftOut, k),
         },
+    }
+}
+
+/// The quoted token at the front of bytes that begin with a quote. Most have neither a backslash nor a `$`.
+fn quoted_at_front(language: Language, bytes: &[u8]) -> NextToken
+    requires some { 0 < length bytes.now }
+    requires quote { is_quote (slice_index bytes.now 0) ≡ true }
+    ensures lead { result ≡ next_quoted language bytes.now }
+    ensures reaches { Reaches bytes.now result }
+{
+    match plain_closing_quote(bytes) {
+        Some(place) => NextToken::Token(TokenKind::Quoted, place + 1),
+        None => any_quoted_at_front(language, bytes),
     }
 }
 

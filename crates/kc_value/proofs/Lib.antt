@@ -1,3 +1,4 @@
+pub mod BlockSteps
 pub mod ClosingSteps
 pub mod Digits
 pub mod EscapedBytes

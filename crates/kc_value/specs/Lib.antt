@@ -1,3 +1,4 @@
+pub mod ByteSearch
 pub mod Kinds
 pub mod Lines
 pub mod NameHash

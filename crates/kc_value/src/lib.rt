@@ -1,6 +1,7 @@
-//! Values of symbols, number texts and quoted texts, limits, newlines, and the readers and writers that the other crates use.
+//! Values of symbols, number texts and quoted texts, limits, newlines, searches of bytes, and the readers and writers that the other crates use.
 #![tactic(auto)]
 
+mod byte_search;
 mod limits;
 mod newlines;
 mod number;
@@ -11,6 +12,7 @@ mod streams;
 mod tri;
 mod value;
 
+pub use byte_search::{ByteTest, first_marked};
 pub use limits::{
     MAX_ANSWER_BYTES, MAX_ANSWER_LINE_BYTES, MAX_ANSWER_LINES, MAX_BLOCK_BYTES, MAX_BUNDLE_BYTES,
     MAX_CHOICES, MAX_CONFIG_BLOCK_BYTES, MAX_CONFIG_BYTES, MAX_CONFIG_LINES, MAX_EXPR_DEPTH,

@@ -2,7 +2,8 @@
 ghost use Rattle.kmin_texts.specs.KnownLines.{nothing_known};
 
 use kc_value::{FromRead, MAX_FILE_BYTES, ReadEnd, read_up_to};
-use kmin_texts::{LineFiles, Reread, Unreadable, after_lines, line_at};
+use kmin_details::Unreadable;
+use kmin_texts::{LineFiles, Reread, after_lines, line_at};
 use std::alloc::{AllocError, Global};
 use std::fs;
 use std::fs::File;

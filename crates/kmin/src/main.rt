@@ -8,7 +8,7 @@ mod streams;
 use files::{Disk, new_seed};
 use kc_value::FromRead;
 use kmin_disk::SystemDisk;
-use kmin_options::{Task, Verb};
+use kmin_options::{Question, Task, Verb};
 use kmin_run::run;
 use kmin_words::{ParsedWords, command_first, read_words};
 use line_files::SystemLines;
@@ -65,7 +65,7 @@ fn write_without_files(rt: &HostRuntime, words: &[&str]) {
     }
 }
 
-/// Whether these words are the command `missed` or `check` without a FILE.
+/// Whether these words are the command `missed` or `check`, in any form, without a FILE.
 fn list_without_files(alloc: Global, words: &[&str]) -> bool {
     let Ok(ordered) = command_first(alloc, words) else {
         return false;
@@ -77,6 +77,10 @@ fn list_without_files(alloc: Global, words: &[&str]) -> bool {
                 files,
             } => files.is_empty(),
             _ => false,
+        },
+        Ok(ParsedWords::Explain(explain_job)) => match explain_job.question {
+            Question::Explain { .. } => false,
+            _ => explain_job.files.is_empty(),
         },
         _ => false,
     }

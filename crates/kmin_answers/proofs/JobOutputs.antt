@@ -13,7 +13,7 @@ use Rattle.kc_dotconfig_model.specs.Formats.{FileFormat}
 use Rattle.kc_dotconfig_model.specs.ConfigFiles.{empty_assignment, files_assignment}
 use Rattle.kc_dotconfig_model.specs.MissedAssignments.{missed}
 use Rattle.kc_rules_model.specs.declared.values.UnitValue.{UnitValue}
-use Rattle.kc_dotconfig.specs.ConfigStates.{Configured, IsSolved, tree_in}
+use Rattle.kc_config.specs.ConfigStates.{Configured, IsSolved, tree_in}
 use Rattle.kc_minimal_model.specs.Differences.{differences}
 use Rattle.kc_files.specs.TreeContents.{FileContent}
 use Rattle.kmin_options.specs.Jobs.{Settings, Task, over, compare}
@@ -109,7 +109,7 @@ answers_files content_of settings verb config settled paths lists text status ta
     rw (← loaded.users_are, ← e) t in
     let number : status ≡ status_of_verb (tree_of_settled settled) (files_assignment (tree_of_settled settled) loaded.meanings) config.values verb =
     rw (← loaded.users_are, ← e) n in (
-      notice_lines paths loaded.meanings ++ choice_notice_lines paths (other_choices (tree_of_settled settled) config.values loaded.meanings),
+      notice_lines (tree_of_settled settled) paths loaded.meanings ++ choice_notice_lines paths (other_choices (tree_of_settled settled) config.values loaded.meanings),
       (λ texts accepted. of_files (tree_of_settled settled) verb paths loaded.meanings config.values refl accepted
           (resolved content_of settings config settled paths taken middle failed failed_middle e p s loaded) same number
           (allowed_are content_of settings config settled paths lists taken middle failed failed_middle e l a) refl),
@@ -162,7 +162,7 @@ module _ (content_of : List ℕ → FileContent) (settings : Settings) (left rig
   right_choices = other_choices tree right.values hr.loaded.meanings
 
   abbrev of_lines : List ErrorLine
-  of_lines = notice_lines (a ∷ []) hl.loaded.meanings ++ notice_lines (b ∷ []) hr.loaded.meanings
+  of_lines = notice_lines tree (a ∷ []) hl.loaded.meanings ++ notice_lines tree (b ∷ []) hr.loaded.meanings
 
   lines_read : TakesLines taken failed of_lines middle failed_middle
   lines_read = lines_append taken between failed failed_between _ _ middle failed_middle hl.loaded.reported hr.loaded.reported
@@ -171,7 +171,7 @@ module _ (content_of : List ℕ → FileContent) (settings : Settings) (left rig
   both_mean : FilesMean content_of settings.format settings.strict tree (a ∷ b ∷ []) (hl.loaded.meanings ++ hr.loaded.meanings)
   both_mean = mean_append content_of settings.format settings.strict tree (b ∷ []) hr.loaded.meanings (a ∷ []) hl.loaded.meanings hr.loaded.mean hl.loaded.mean
 
-  both_noticed : notice_lines (a ∷ b ∷ []) (hl.loaded.meanings ++ hr.loaded.meanings) ≡ of_lines
+  both_noticed : notice_lines tree (a ∷ b ∷ []) (hl.loaded.meanings ++ hr.loaded.meanings) ≡ of_lines
   both_noticed = notices_append content_of settings.format settings.strict tree (b ∷ []) hr.loaded.meanings (a ∷ []) hl.loaded.meanings hl.loaded.mean
 
   left_resolved : Resolve content_of settings tree (a ∷ []) hl.loaded.meanings left.values
@@ -221,7 +221,7 @@ module _ (content_of : List ℕ → FileContent) (settings : Settings) (left rig
           hr.loaded.meanings right.values both_mean refl earlier right_resolved
           (refused_are content_of settings right settled (b ∷ []) right_lists between middle failed_between failed_middle same_right hr given) s
           (ap (λ ls. ls ++ (choice_notice_lines (a ∷ []) left_choices ++ choice_notice_lines (b ∷ []) right_choices)) (sym both_noticed)
-          ∙ ap (λ ls. notice_lines (a ∷ b ∷ []) (hl.loaded.meanings ++ hr.loaded.meanings) ++ (ls ++ choice_notice_lines (b ∷ []) right_choices))
+          ∙ ap (λ ls. notice_lines tree (a ∷ b ∷ []) (hl.loaded.meanings ++ hr.loaded.meanings) ++ (ls ++ choice_notice_lines (b ∷ []) right_choices))
           (sym (append-nil (choice_notice_lines (a ∷ []) left_choices))))),
       lines_append taken middle failed failed_middle _ _ after failed_after lines_read
           (lines_append middle later failed_middle failed_later _ _ after failed_after left_noted
@@ -257,7 +257,7 @@ module _ (content_of : List ℕ → FileContent) (settings : Settings) (left rig
             (stops.more (a ∷ []) hl.loaded.meanings left.values ((b ∷ []) ∷ []) (choice_notice_lines (b ∷ []) right_choices ++ []) left_resolved left_allowed
             (stops.more (b ∷ []) hr.loaded.meanings right.values [] [] right_resolved both_allowed stops.none)) s
             (ap (λ ls. ls ++ (choice_notice_lines (a ∷ []) left_choices ++ choice_notice_lines (b ∷ []) right_choices)) (sym both_noticed)
-            ∙ ap (λ ls. notice_lines (a ∷ b ∷ []) (hl.loaded.meanings ++ hr.loaded.meanings) ++ (choice_notice_lines (a ∷ []) left_choices ++ ls))
+            ∙ ap (λ ls. notice_lines tree (a ∷ b ∷ []) (hl.loaded.meanings ++ hr.loaded.meanings) ++ (choice_notice_lines (a ∷ []) left_choices ++ ls))
             (sym (append-nil (choice_notice_lines (b ∷ []) right_choices))))),
         all_noted,
       )
@@ -285,7 +285,7 @@ module _ (content_of : List ℕ → FileContent) (settings : Settings) (verb : V
       → StopsNoticing (tree_in config) config.values settings.strict paths lists status middle failed_middle after failed_after
       → (lines : List ErrorLine) × StopsOverTree content_of settings (tree_of_settled settled) (over verb paths) status lines × TakesLines taken failed lines after failed_after
   stopped_noticing status after failed_after (noticing.refused given e t) = (
-    notice_lines paths l.loaded.meanings ++ choice_notice_lines paths (other_choices (tree_of_settled settled) config.values l.loaded.meanings),
+    notice_lines (tree_of_settled settled) paths l.loaded.meanings ++ choice_notice_lines paths (other_choices (tree_of_settled settled) config.values l.loaded.meanings),
     inr (stops.refused l.loaded.meanings [] [] [] paths l.loaded.meanings config.values l.loaded.mean refl stops.none
         (resolved content_of settings config settled paths taken middle failed failed_middle same p s l.loaded)
         (refused_are content_of settings config settled paths lists taken middle failed failed_middle same l given) e refl),
@@ -293,7 +293,7 @@ module _ (content_of : List ℕ → FileContent) (settings : Settings) (verb : V
         (noticed_are content_of settings config settled paths lists taken middle failed failed_middle same l middle after failed_middle failed_after t),
   )
   stopped_noticing status after failed_after (noticing.for_memory e t) = (
-    notice_lines paths l.loaded.meanings ++ [],
+    notice_lines (tree_of_settled settled) paths l.loaded.meanings ++ [],
     inr (stops.for_memory l.loaded.meanings [] (paths ∷ []) [] l.loaded.mean refl stops.none e refl),
     lines_append taken middle failed failed_middle _ _ after failed_after l.loaded.reported t,
   )
@@ -305,11 +305,11 @@ module _ (content_of : List ℕ → FileContent) (settings : Settings) (verb : V
       → (lines : List ErrorLine) × StopsOverTree content_of settings (tree_of_settled settled) (over verb paths) status lines × TakesLines taken failed lines after failed_after
   stopped_after status after failed_after e allowed t =
       let own = choice_notice_lines paths (other_choices (tree_of_settled settled) config.values l.loaded.meanings) in (
-        notice_lines paths l.loaded.meanings ++ own,
+        notice_lines (tree_of_settled settled) paths l.loaded.meanings ++ own,
         inr (stops.for_memory l.loaded.meanings (paths ∷ []) [] (own ++ []) l.loaded.mean refl
             (stops.more paths l.loaded.meanings config.values [] [] (resolved content_of settings config settled paths taken middle failed failed_middle same p s l.loaded)
             (allowed_are content_of settings config settled paths lists taken middle failed failed_middle same l allowed) stops.none) e
-            (ap (λ ls. notice_lines paths l.loaded.meanings ++ ls) (sym (append-nil own)))),
+            (ap (λ ls. notice_lines (tree_of_settled settled) paths l.loaded.meanings ++ ls) (sym (append-nil own)))),
         lines_append taken middle failed failed_middle _ _ after failed_after l.loaded.reported
             (noticed_are content_of settings config settled paths lists taken middle failed failed_middle same l middle after failed_middle failed_after t),
       )

@@ -17,7 +17,7 @@ use Rattle.kc_dotconfig.specs.ReadResults.{IsReadAs, IsRefused, ReportsFault}
 use Rattle.kc_files.specs.TreeContents.{FileContent}
 use Rattle.kmin_report.specs.declared.run_error.RunError.{RunError}
 use Rattle.kmin_disk.specs.Contents.{OpensAs}
-use Rattle.kmin_report.specs.Reports.{ErrorLine, file_notices, notice_lines, notice_line, fault_line}
+use Rattle.kmin_report.specs.Reports.{ErrorLine, file_notices, notice_lines, tree_notice_line, fault_line}
 use Rattle.kmin_report.specs.StandardError.{SpelledBytes, TakesLines}
 use Rattle.kmin_report.specs.StandardError as taking
 use Rattle.kmin_answers.specs.Answers.{FilesMean, none, file}
@@ -35,15 +35,16 @@ use Rattle.kmin_report.proofs.KnownContents.{rest_of, whole_content}
 use Rattle.kmin_report.proofs.Lists.{map_twice}
 use Rattle.kmin_report.proofs.WriterLemmas.{lines_append}
 
-pub notices_are : (path : List ℕ) (fragment : Fragment) (meanings : List LineMeaning) → map notice_pair fragment.notices.items ≡ notices_from 1 meanings
-    → fragment_notices path fragment ≡ file_notices path meanings
-notices_are path fragment meanings e = map_twice (notice_line path) notice_pair fragment.notices.items ∙ ap (map (notice_line path)) e
+pub notices_are : (tree : Tree) (path : List ℕ) (fragment : Fragment) (meanings : List LineMeaning) → map notice_pair fragment.notices.items ≡ notices_from 1 meanings
+    → fragment_notices tree path fragment ≡ file_notices tree path meanings
+notices_are tree path fragment meanings e =
+    map_twice (tree_notice_line tree path) notice_pair fragment.notices.items ∙ ap (map (tree_notice_line tree path)) e
 
 module _ (content : FileContent) (format : FileFormat) (tree : Tree) (path : List ℕ) (before after : Option (List ℕ))
     (opens : OpensAs content (Some before)) where
   -- a configuration file that was opened, read and accepted, and whose notices were reported, is loaded
   pub loaded_from : (taken taken_after : SpelledBytes) (failed failed_after : ℕ) (fragment : Fragment) → IsReadAs format tree before after fragment
-      → TakesLines taken failed (fragment_notices path fragment) taken_after failed_after
+      → TakesLines taken failed (fragment_notices tree path fragment) taken_after failed_after
       → IsLoaded content format tree path fragment taken failed taken_after failed_after
   loaded_from taken taken_after failed failed_after fragment r t = record {
     bytes = r.known;
@@ -54,7 +55,7 @@ module _ (content : FileContent) (format : FileFormat) (tree : Tree) (path : Lis
     users = r.users;
     noted = r.noted;
     chosen = r.chosen;
-    reported = subst (λ lines. TakesLines taken failed lines taken_after failed_after) (notices_are path fragment r.meanings r.noted) t;
+    reported = subst (λ lines. TakesLines taken failed lines taken_after failed_after) (notices_are tree path fragment r.meanings r.noted) t;
   }
 
   refused_sides : (strict : Bool) (bytes : List ℕ) (kind : LoadKind) (number : ℕ) → Consumes before after bytes
@@ -111,7 +112,7 @@ pub stopped_noticed : (content : FileContent) (format : FileFormat) (strict : Bo
     → IsLoaded content format tree path fragment taken failed taken_after failed_after → strict ≡ true → fragment.notices.items ≢ [] → status ≡ 4
     → (lines : List ErrorLine) × StopsAtPath content format strict tree path status lines × TakesLines taken failed lines taken_after failed_after
 stopped_noticed content format strict tree path fragment status taken taken_after failed failed_after l s h e = (
-  file_notices path l.meanings,
+  file_notices tree path l.meanings,
   at_file (noticed l.bytes l.meanings l.matches l.accepted l.means (s, notices_there fragment l.meanings l.noted h) e refl),
   l.reported,
 )
@@ -132,11 +133,11 @@ overlaid_append tree users (m ∷ ms) ns = overlaid_append tree (overlay (file_a
 
 pub notices_append : (content_of : List ℕ → FileContent) (format : FileFormat) (strict : Bool) (tree : Tree) (ys : List (List ℕ)) (ns : List (List LineMeaning))
     (xs : List (List ℕ)) (ms : List (List LineMeaning))
-    → FilesMean content_of format strict tree xs ms → notice_lines (xs ++ ys) (ms ++ ns) ≡ notice_lines xs ms ++ notice_lines ys ns
+    → FilesMean content_of format strict tree xs ms → notice_lines tree (xs ++ ys) (ms ++ ns) ≡ notice_lines tree xs ms ++ notice_lines tree ys ns
 notices_append content_of format strict tree ys ns xs ms none = refl
 notices_append content_of format strict tree ys ns xs ms (file path bytes more own rest matches accepted means allowed h) =
-    ap (λ lines. file_notices path own ++ lines) (notices_append content_of format strict tree ys ns more rest h)
-    ∙ sym (append_assoc (file_notices path own) (notice_lines more rest) (notice_lines ys ns))
+    ap (λ lines. file_notices tree path own ++ lines) (notices_append content_of format strict tree ys ns more rest h)
+    ∙ sym (append_assoc (file_notices tree path own) (notice_lines tree more rest) (notice_lines tree ys ns))
 
 unfoldable pub loaded_one : (content_of : List ℕ → FileContent) (format : FileFormat) (strict : Bool) (tree : Tree) (path : List ℕ)
     (before after : List (Option UserValue)) (fragment : Fragment) (taken taken_after : SpelledBytes) (failed failed_after : ℕ)
@@ -148,7 +149,7 @@ loaded_one content_of format strict tree path before after fragment taken taken_
   meanings = l.meanings ∷ [];
   mean = file path l.bytes [] l.meanings [] l.matches l.accepted l.means (λ s. sym l.noted ∙ a s) none;
   users_are = e ∙ ap (λ users. overlay users before) l.users;
-  reported = subst (λ lines. TakesLines taken failed lines taken_after failed_after) (sym (append-nil (file_notices path l.meanings))) l.reported;
+  reported = subst (λ lines. TakesLines taken failed lines taken_after failed_after) (sym (append-nil (file_notices tree path l.meanings))) l.reported;
 }
 
 unfoldable pub loaded_append : (content_of : List ℕ → FileContent) (format : FileFormat) (strict : Bool) (tree : Tree) (xs ys : List (List ℕ))
@@ -234,16 +235,16 @@ more_stops content_of format strict tree xs more status lines (stops.for_memory 
 later_stops : (content_of : List ℕ → FileContent) (format : FileFormat) (strict : Bool) (tree : Tree) (xs ys : List (List ℕ))
     (ms : List (List LineMeaning)) (status : ℕ) (lines : List ErrorLine)
     → FilesMean content_of format strict tree xs ms
-    → StopsAmongFiles content_of format strict tree ys status lines → StopsAmongFiles content_of format strict tree (xs ++ ys) status (notice_lines xs ms ++ lines)
+    → StopsAmongFiles content_of format strict tree ys status lines → StopsAmongFiles content_of format strict tree (xs ++ ys) status (notice_lines tree xs ms ++ lines)
 later_stops content_of format strict tree xs ys ms status lines h (stops.at_file front back path own meanings p m s e) =
     stops.at_file (xs ++ front) back path own (ms ++ meanings) (ap (λ ps. xs ++ ps) p ∙ sym (append_assoc xs front (path ∷ back)))
     (mean_append content_of format strict tree front meanings xs ms m h) s
-    (ap (λ ls. notice_lines xs ms ++ ls) e ∙ sym (append_assoc (notice_lines xs ms) (notice_lines front meanings) own)
+    (ap (λ ls. notice_lines tree xs ms ++ ls) e ∙ sym (append_assoc (notice_lines tree xs ms) (notice_lines tree front meanings) own)
     ∙ ap (λ ls. ls ++ own) (sym (notices_append content_of format strict tree front meanings xs ms h)))
 later_stops content_of format strict tree xs ys ms status lines h (stops.for_memory front back meanings p m s e) =
     stops.for_memory (xs ++ front) back (ms ++ meanings) (ap (λ ps. xs ++ ps) p ∙ sym (append_assoc xs front back))
     (mean_append content_of format strict tree front meanings xs ms m h) s
-    (ap (λ ls. notice_lines xs ms ++ ls) e ∙ sym (notices_append content_of format strict tree front meanings xs ms h))
+    (ap (λ ls. notice_lines tree xs ms ++ ls) e ∙ sym (notices_append content_of format strict tree front meanings xs ms h))
 
 module _ (content_of : List ℕ → FileContent) (format : FileFormat) (strict : Bool) (tree : Tree) (status : ℕ) (taken : SpelledBytes) (failed : ℕ)
     (taken_after : SpelledBytes) (failed_after : ℕ) where
@@ -263,7 +264,7 @@ module _ (content_of : List ℕ → FileContent) (format : FileFormat) (strict :
       → (lines : List ErrorLine) × StopsAmongFiles content_of format strict tree ys status lines × TakesLines middle failed_middle lines taken_after failed_after
       → (lines : List ErrorLine) × StopsAmongFiles content_of format strict tree all status lines × TakesLines taken failed lines taken_after failed_after
   stopped_later xs ys all before users middle failed_middle e l h = (
-    notice_lines xs l.meanings ++ h.0,
+    notice_lines tree xs l.meanings ++ h.0,
     rw e (later_stops content_of format strict tree xs ys l.meanings status h.0 l.mean h.1),
     lines_append taken middle failed failed_middle _ _ taken_after failed_after l.reported h.2,
   )
@@ -271,7 +272,7 @@ module _ (content_of : List ℕ → FileContent) (format : FileFormat) (strict :
   pub stopped_for_memory : (xs more all : List (List ℕ)) (before users : List (Option UserValue)) → all ≡ xs ++ more → status ≡ 6
       → AreLoaded content_of format strict tree xs before users taken failed taken_after failed_after
       → (lines : List ErrorLine) × StopsAmongFiles content_of format strict tree all status lines × TakesLines taken failed lines taken_after failed_after
-  stopped_for_memory xs more all before users e s l = (notice_lines xs l.meanings, stops.for_memory xs more l.meanings e l.mean s refl, l.reported)
+  stopped_for_memory xs more all before users e s l = (notice_lines tree xs l.meanings, stops.for_memory xs more l.meanings e l.mean s refl, l.reported)
 
 pub mapped : (paths : List (Bor (List ℕ))) (first : Bor (List ℕ)) (rest : List (Bor (List ℕ))) → paths ≡ first ∷ rest
     → map (λ (path : Bor (List ℕ)). path.now) paths ≡ (first.now ∷ []) ++ map (λ (path : Bor (List ℕ)). path.now) rest

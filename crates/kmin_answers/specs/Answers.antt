@@ -69,7 +69,7 @@ pub data Answer (content_of : List ℕ → FileContent) (settings : Settings) (t
       → IsTextOfVerb settings tree (files_assignment tree meanings) values verb text
       → status ≡ status_of_verb tree (files_assignment tree meanings) values verb
       → AllowsNotices settings.strict (other_choices tree values meanings)
-      → notices ≡ notice_lines paths meanings ++ choice_notice_lines paths (other_choices tree values meanings)
+      → notices ≡ notice_lines tree paths meanings ++ choice_notice_lines paths (other_choices tree values meanings)
       → Answer content_of settings texts task text status notices
   of_comparison : (tree : Tree) (left right : List ℕ) (left_meanings right_meanings : List (List LineMeaning)) (v w : List UnitValue)
       → task ≡ compare left right → AreAccepted texts settings.tree tree
@@ -77,6 +77,6 @@ pub data Answer (content_of : List ℕ → FileContent) (settings : Settings) (t
       → text ≡ flat_map (difference_line settings.format.strings tree) (differences tree v w)
       → status ≡ status_of_list true (differences tree v w)
       → AllowsNotices settings.strict (other_choices tree v left_meanings) → AllowsNotices settings.strict (other_choices tree w right_meanings)
-      → notices ≡ (notice_lines (left ∷ []) left_meanings ++ notice_lines (right ∷ []) right_meanings)
+      → notices ≡ (notice_lines tree (left ∷ []) left_meanings ++ notice_lines tree (right ∷ []) right_meanings)
       ++ (choice_notice_lines (left ∷ []) (other_choices tree v left_meanings) ++ choice_notice_lines (right ∷ []) (other_choices tree w right_meanings))
       → Answer content_of settings texts task text status notices

@@ -35,17 +35,17 @@ pub data StopsAtFile (content : FileContent) (format : FileFormat) (strict : Boo
       → StopsAtFile content format strict tree path status lines
   noticed : (bytes : List ℕ) (meanings : List LineMeaning) → AreKnownBytes content bytes → IsAccepted format tree bytes
       → FileMeans format tree bytes meanings → RefusesNotices strict (notices_from 1 meanings) → status ≡ 4
-      → lines ≡ file_notices path meanings → StopsAtFile content format strict tree path status lines
+      → lines ≡ file_notices tree path meanings → StopsAtFile content format strict tree path status lines
 
 -- A command ends among its configuration files, with this status and these lines of standard error, the first of which are the
 -- notices of earlier files: at one of the files, or since memory ran out.
 pub data StopsAmongFiles (content_of : List ℕ → FileContent) (format : FileFormat) (strict : Bool) (tree : Tree) (paths : List (List ℕ)) (status : ℕ) (lines : List ErrorLine) : Type 0 where
   at_file : (front back : List (List ℕ)) (path : List ℕ) (own : List ErrorLine) (meanings : List (List LineMeaning)) → paths ≡ front ++ path ∷ back
       → FilesMean content_of format strict tree front meanings → StopsAtFile (content_of path) format strict tree path status own
-      → lines ≡ notice_lines front meanings ++ own
+      → lines ≡ notice_lines tree front meanings ++ own
       → StopsAmongFiles content_of format strict tree paths status lines
   for_memory : (front back : List (List ℕ)) (meanings : List (List LineMeaning)) → paths ≡ front ++ back
-      → FilesMean content_of format strict tree front meanings → status ≡ 6 → lines ≡ notice_lines front meanings
+      → FilesMean content_of format strict tree front meanings → status ≡ 6 → lines ≡ notice_lines tree front meanings
       → StopsAmongFiles content_of format strict tree paths status lines
 
 -- the configurations of a command, each by the paths of its files
@@ -70,11 +70,11 @@ pub data StopsAtChoices (content_of : List ℕ → FileContent) (settings : Sett
       (meanings : List (List LineMeaning)) (values : List UnitValue) → FilesMean content_of settings.format settings.strict tree (paths_of task) all
       → configurations_of task ≡ front ++ paths ∷ back → NoticesOnChoices content_of settings tree front earlier
       → Resolve content_of settings tree paths meanings values → RefusesNotices settings.strict (other_choices tree values meanings) → status ≡ 4
-      → lines ≡ notice_lines (paths_of task) all ++ (earlier ++ choice_notice_lines paths (other_choices tree values meanings))
+      → lines ≡ notice_lines tree (paths_of task) all ++ (earlier ++ choice_notice_lines paths (other_choices tree values meanings))
       → StopsAtChoices content_of settings tree task status lines
   for_memory : (all : List (List LineMeaning)) (front back : List (List (List ℕ))) (earlier : List ErrorLine)
       → FilesMean content_of settings.format settings.strict tree (paths_of task) all → configurations_of task ≡ front ++ back
-      → NoticesOnChoices content_of settings tree front earlier → status ≡ 6 → lines ≡ notice_lines (paths_of task) all ++ earlier
+      → NoticesOnChoices content_of settings tree front earlier → status ≡ 6 → lines ≡ notice_lines tree (paths_of task) all ++ earlier
       → StopsAtChoices content_of settings tree task status lines
 
 -- A command ends before it has an output, with this status and these lines of standard error: at its tree, among its

@@ -5,10 +5,10 @@ ghost use Rattle.kc_rules.specs.between.SettledViews.{tree_of_settled};
 ghost use Rattle.kc_dotconfig_model.specs.ConfigFiles.{empty_assignment, overlay};
 ghost use Rattle.kc_dotconfig_model.specs.between.Formats.{file_format};
 ghost use Rattle.kc_dotconfig_model.specs.OtherChoices.{other_choices_of, placed_from};
-ghost use Rattle.kc_dotconfig.specs.ConfigStates.{IsSolved, tree_in};
+ghost use Rattle.kc_config.specs.ConfigStates.{IsSolved, tree_in};
 ghost use Rattle.kc_dotconfig.specs.Fragments.{FitsTree, notice_pair, users_of};
 ghost use Rattle.kc_dotconfig.specs.ReadResults.{IsReadAs};
-ghost use Rattle.kmin_report.specs.Reports.{ErrorLine, notice_line, choice_notice_lines};
+ghost use Rattle.kmin_report.specs.Reports.{ErrorLine, tree_notice_line, choice_notice_lines};
 ghost use Rattle.kmin_report.specs.StandardError.{TakesLines};
 ghost use Rattle.kc_files.specs.TreeContents.{HasRisen};
 ghost use Rattle.kmin_answers.specs.Stops.{StopsAmongFiles};
@@ -17,8 +17,9 @@ ghost use Rattle.kmin_answers.specs.between.LoadResults.{IsLoaded, AreLoaded, Ar
 ghost use Rattle.kmin_answers.specs.between.LoadStops.{StopsLoad, StopsAtPath, StopsNoticing, fragment_notices, load_lines, load_status};
 ghost use Rattle.kmin_report.specs.between.RunErrors.{status_of};
 
+use kc_config::Config;
 use kc_dotconfig::{
-    ChoiceLine, Config, Format, Fragment, LoadFault, LoadKind, Notice, NoticeKind, read_config,
+    ChoiceLine, Format, Fragment, LoadFault, LoadKind, Notice, NoticeKind, read_config,
 };
 use kc_minimal::{other_choices, placed_lines};
 use kc_rules::Settled;
@@ -47,7 +48,7 @@ pub fn load<S: Source, E: Messages>(
 ) -> Result<Fragment, RunError>
     ensures ok { IfOk result (IsReadAs (file_format format.now) (tree_of_settled settled.now) (S.left source.old) (S.left source.new)) }
     ensures fits { IfOk result (λ f. FitsTree (tree_of_settled settled.now) f.assigns.items) }
-    ensures notices { IfOk result (λ f. TakesLines (E.taken err.old) (E.failures err.old) (fragment_notices path.now f) (E.taken err.new) (E.failures err.new)) }
+    ensures notices { IfOk result (λ f. TakesLines (E.taken err.old) (E.failures err.old) (fragment_notices (tree_of_settled settled.now) path.now f) (E.taken err.new) (E.failures err.new)) }
     ensures stopped { IfErr result (λ stop. StopsLoad (file_format format.now) (tree_of_settled settled.now) path.now (S.left source.old) (S.left source.new) (S.failures source.old) (S.failures source.new) (status_of stop) (E.taken err.old) (E.failures err.old) (E.taken err.new) (E.failures err.new)) }
 {
     match read_config(alloc, settled, format, source) {
@@ -80,7 +81,7 @@ pub fn report_load_fault<E: Messages>(path: &str, fault: LoadFault, err: &mut E)
 
 /// Reports the notices of a configuration file that is read over this tree.
 pub fn report_notices<E: Messages>(path: &str, notices: &[Notice], tree: &Tree, err: &mut E)
-    ensures { TakesLines (E.taken err.old) (E.failures err.old) (map (λ notice. notice_line path.now (notice_pair notice)) notices.now) (E.taken err.new) (E.failures err.new) }
+    ensures { TakesLines (E.taken err.old) (E.failures err.old) (map (λ notice. tree_notice_line tree.now.tree path.now (notice_pair notice)) notices.now) (E.taken err.new) (E.failures err.new) }
 {
     for notice in notices {
         let Notice { line, kind } = *notice;

@@ -9,4 +9,4 @@ pub use configurations::{
     ReadFiles, add_fragment, allowed, configured, configured_by, load, notice_choices,
     report_load_fault, report_notices, unassigned,
 };
-pub use verb_texts::{AnswerText, answer_of, compared};
+pub use verb_texts::{AnswerText, answer_of, compared, list_status};

@@ -5,14 +5,15 @@ ghost use Rattle.kc_dotconfig_model.specs.MissedAssignments.{missed};
 ghost use Rattle.std.specs.List.{flat_map};
 ghost use Rattle.kc_minimal_model.specs.Differences.{differences};
 ghost use Rattle.kc_rules.specs.between.SettledViews.{profile_of};
-ghost use Rattle.kc_dotconfig.specs.ConfigStates.{tree_in};
+ghost use Rattle.kc_config.specs.ConfigStates.{tree_in};
 ghost use Rattle.kc_dotconfig_model.specs.between.Formats as formats;
 ghost use Rattle.kmin_answers.specs.Answers.{name_line, IsTextOfVerb, difference_line};
 ghost use Rattle.kmin_answers.specs.Statuses.{status_of_list, status_of_verb};
 ghost use Rattle.kmin_options.specs.Jobs.{Settings};
 
 use crate::symbol_lines::{difference_lines, name_lines};
-use kc_dotconfig::{Config, Format, Strings};
+use kc_config::Config;
+use kc_dotconfig::{Format, Strings};
 use kc_minimal::{compare, full_text, minimal_text};
 use kc_tree::Sym;
 use kmin_options::Verb;
@@ -85,7 +86,7 @@ fn unmet_answer(
 }
 
 /// The exit status of a list of symbols: 1 if it has any and `exit_code` is set, else 0.
-fn list_status(exit_code: bool, symbols: &[Sym]) -> u8
+pub fn list_status(exit_code: bool, symbols: &[Sym]) -> u8
     ensures { result ≡ status_of_list exit_code symbols.now }
 {
     if exit_code && !symbols.is_empty() {

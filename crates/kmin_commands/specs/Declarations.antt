@@ -91,7 +91,10 @@ abbrev pub full : Choices → Shape
 full choices = command (codes "full") (shared choices ++ output ∷ any_number (codes "FILE") ∷ [])
 
 abbrev pub listing : (name : Text) → Choices → Shape
-listing name choices = command name (shared choices ++ any_number (codes "FILE") ∷ flag (codes "exit-code") ∷ [])
+listing name choices = command name (shared choices ++ any_number (codes "FILE") ∷ flag (codes "exit-code") ∷ flag (codes "long") ∷ [])
+
+abbrev pub missed : Choices → Shape
+missed choices = added (listing (codes "missed") choices) (flag (codes "by-cause"))
 
 -- the flags of `explain`
 abbrev pub explain_flags : List Rule
@@ -121,7 +124,7 @@ named = with_version (on_top (λ shape. record shape { no_binary_name = true; su
 -- the program with its commands
 abbrev pub program : Choices → App
 program choices = fold with_subcommand named
-    (min choices ∷ full choices ∷ listing (codes "missed") choices ∷ listing (codes "check") choices ∷ explain choices ∷ compare choices ∷ tidy choices ∷ wants choices ∷ [])
+    (min choices ∷ full choices ∷ missed choices ∷ listing (codes "check") choices ∷ explain choices ∷ compare choices ∷ tidy choices ∷ wants choices ∷ [])
 
 -- the texts of a list of words
 abbrev pub texts_in : Bor (List (Bor (List ℕ))) → List (List ℕ)

@@ -20,7 +20,7 @@ valued = codes "--root" ∷ codes "--tree" ∷ codes "--language" ∷ codes "--p
 
 -- the words that name an option without a value
 abbrev pub flags : List Text
-flags = codes "--no-prefix" ∷ codes "--strict" ∷ codes "--expand" ∷ codes "--drop" ∷ codes "--exit-code" ∷ codes "--every" ∷ codes "--deep" ∷ codes "--all" ∷ codes "--write" ∷ codes "-z" ∷ codes "--unused" ∷ []
+flags = codes "--no-prefix" ∷ codes "--strict" ∷ codes "--expand" ∷ codes "--drop" ∷ codes "--exit-code" ∷ codes "--long" ∷ codes "--by-cause" ∷ codes "--every" ∷ codes "--deep" ∷ codes "--all" ∷ codes "--write" ∷ codes "-z" ∷ codes "--unused" ∷ []
 
 -- whether a word names a command
 abbrev pub names_command : (word : Text) → Bool

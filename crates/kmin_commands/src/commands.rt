@@ -200,10 +200,10 @@ fn with_listing<'a>(
     program: Command<'a>,
     choices: &Choices<'a>,
 ) -> Result<Command<'a>, AllocError>
-    ensures { IfOk result (λ made. (app : App) → HasApp app program.entry → HasApp (with_subcommand (with_subcommand app (declared.listing (codes "missed") choices.now)) (declared.listing (codes "check") choices.now)) made) }
+    ensures { IfOk result (λ made. (app : App) → HasApp app program.entry → HasApp (with_subcommand (with_subcommand app (declared.missed choices.now)) (declared.listing (codes "check") choices.now)) made) }
 {
-    let program = program.subcommand(listing(alloc, &MISSED, choices)?)?;
-    program.subcommand(listing(alloc, &CHECK, choices)?)
+    let program = program.subcommand(missed(alloc, choices)?)?;
+    program.subcommand(listing(alloc, &CHECK, help_texts::LONG_CHECK, choices)?)
 }
 
 /// Adds the command over files, each a configuration of its own, and the one over a tree alone.
@@ -296,17 +296,27 @@ fn full<'a>(alloc: Global, choices: &Choices<'a>) -> Result<Command<'a>, AllocEr
     command.arg(any_number(alloc, "FILE", help_texts::FILES))
 }
 
-/// A command that lists symbols of a configuration, with `--exit-code`.
+/// The command that lists the symbols without their assigned value, also with the lines or by their causes.
+fn missed<'a>(alloc: Global, choices: &Choices<'a>) -> Result<Command<'a>, AllocError>
+    ensures { IfOk result (IsDeclared (declared.missed choices.now)) }
+{
+    let command = listing(alloc, &MISSED, help_texts::LONG_MISSED, choices)?;
+    command.arg(flag(alloc, "by-cause", help_texts::BY_CAUSE))
+}
+
+/// A command that lists symbols of a configuration, with `--exit-code`, and with `--long`, whose help is this.
 fn listing<'a>(
     alloc: Global,
     help: &CommandHelp,
+    long: &'a str,
     choices: &Choices<'a>,
 ) -> Result<Command<'a>, AllocError>
     ensures { IfOk result (IsDeclared (declared.listing help.now.name.now choices.now)) }
 {
     let command = with_options(alloc, help, choices)?;
     let command = command.arg(any_number(alloc, "FILE", help_texts::FILES))?;
-    command.arg(flag(alloc, "exit-code", help_texts::EXIT_CODE))
+    let command = command.arg(flag(alloc, "exit-code", help_texts::EXIT_CODE))?;
+    command.arg(flag(alloc, "long", long))
 }
 
 /// An argument of any number of words.

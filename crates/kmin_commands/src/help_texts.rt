@@ -80,13 +80,23 @@ pub(crate) const MISSED_LONG: &str = "\
 Lists, one name a line, the symbols whose assigned value isn't their value: since a dependency
 isn't met, a number is out of its range, or another symbol selects them. A member of a choice is
 listed if it was chosen and isn't selected. The status is 0 with and without such lines; with
---exit-code it is 1 where there are any.";
+--exit-code it is 1 where there are any.
+
+With --long a line for each, `PATH:LINE: NAME: ASKED -> VALUE: WHY`, has the line that asks, the
+value that the symbol has and why, as `kmin explain` says it. Lines that a later FILE overrides are
+listed, too, as `PATH:LINE: NAME: ASKED -> overridden by PATH:LINE`. With --by-cause the symbols
+are listed below what keeps them from their values: `COUNT VALUE: WHY`, the largest group first.";
+
+pub(crate) const LONG_MISSED: &str = "Lists each line that isn't taken, and why";
+
+pub(crate) const BY_CAUSE: &str = "Lists the symbols below what keeps them; not with --long";
 
 pub(crate) const MISSED_AFTER: &str = with_listing_statuses!(
     "\
-Example, and a check that fails where a symbol is listed, and where kmin fails:
+Example, a check that fails where a symbol is listed, and where kmin fails, and what keeps most:
   kmin missed board.config debug.config
-  kmin missed --exit-code board.config debug.config"
+  kmin missed --exit-code board.config debug.config
+  kmin missed --by-cause board.config debug.config"
 );
 
 pub(crate) const CHECK: &str = "Lists the symbols that are selected against their dependencies";
@@ -94,7 +104,12 @@ pub(crate) const CHECK: &str = "Lists the symbols that are selected against thei
 pub(crate) const CHECK_LONG: &str = "\
 Lists, as `unmet NAME`, the symbols that another symbol selects although their own dependencies
 aren't met. The status is 0 with and without such lines; with --exit-code it is 1 where there are
-any.";
+any.
+
+With --long a line for each has the place of its first definition, what selects it, and what is
+unmet: `PATH:LINE: NAME: VALUE: selected by NAME (y) (PATH:LINE); unmet: PART (n) (PATH:LINE)`.";
+
+pub(crate) const LONG_CHECK: &str = "Says what selects each symbol, and what is unmet";
 
 pub(crate) const CHECK_AFTER: &str = with_listing_statuses!(
     "\

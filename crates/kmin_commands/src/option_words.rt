@@ -29,12 +29,14 @@ static VALUED: [&str; 13] = [
 ];
 
 /// The words that name an option without a value.
-static FLAGS: [&str; 11] = [
+static FLAGS: [&str; 13] = [
     "--no-prefix",
     "--strict",
     "--expand",
     "--drop",
     "--exit-code",
+    "--long",
+    "--by-cause",
     "--every",
     "--deep",
     "--all",

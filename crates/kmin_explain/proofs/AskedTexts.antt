@@ -22,7 +22,7 @@ use Rattle.kmin_explain.specs.checker.FileLineTexts.{line_in, overridden_text}
 
 module _ (tree : Tree) (s : ℕ) where
   -- a file keeps a line, which is this one
-  abbrev Kept : List FileLines → ℕ → AssigningLine → Type 0
+  abbrev pub Kept : List FileLines → ℕ → AssigningLine → Type 0
   Kept files k line = (l : AskingLine) × (line_in files (unit_of tree s) s k ≡ Some l) × (line_view l ≡ line)
 
   of_line : (o : Option AskingLine) (line : AssigningLine) → option_map line_view o ≡ Some line → (l : AskingLine) × (o ≡ Some l) × (line_view l ≡ line)
@@ -40,7 +40,7 @@ module _ (tree : Tree) (s : ℕ) where
     same e = cc
   kept_in (m ∷ meanings) (f ∷ files) all (suc k) ms line at is = kept_in meanings files all.1 k ms line at is
 
-  kept_at : (meanings : List (List LineMeaning)) (files : List FileLines) → AllZip (KeepsLines tree) meanings files → (k : ℕ) (p : AssigningPlace)
+  pub kept_at : (meanings : List (List LineMeaning)) (files : List FileLines) → AllZip (KeepsLines tree) meanings files → (k : ℕ) (p : AssigningPlace)
       → IsPlaceIn (unit_of tree s) s 0 meanings k p → Kept files p.file p.line
   kept_at meanings files all k p is =
       subst (λ n. Kept files n p.line) (let same : 0 + k ≡ k = omega arith in sym same ∙ sym is.number)

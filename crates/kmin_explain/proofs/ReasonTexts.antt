@@ -24,14 +24,14 @@ use Rattle.kmin_explain.specs.Explanations.{SourcesModel, user_for, asked_lines,
 use Rattle.kmin_explain.proofs.SymbolTexts.{parts_text}
 
 -- the places that are found for a symbol
-abbrev places_for : Tree → List UnitValue → Symbol → SymbolLines → Tri → Case → ReasonPlaces
+abbrev pub places_for : Tree → List UnitValue → Symbol → SymbolLines → Tri → Case → ReasonPlaces
 places_for tree values symbol lines wanted case = record {
   given_at = given_place tree values symbol lines case;
   needs = prompts_lack_at (environment tree values) wanted symbol lines;
   unmet = dependencies_lack_at tree values symbol lines;
 }
 
-places_are : (g : SourcesModel) (s : ℕ) (symbol code : Symbol) (lines : SymbolLines) (case : Case) (tree : Tree) (values : List UnitValue) (wanted : Tri) (places : ReasonPlaces)
+pub places_are : (g : SourcesModel) (s : ℕ) (symbol code : Symbol) (lines : SymbolLines) (case : Case) (tree : Tree) (values : List UnitValue) (wanted : Tri) (places : ReasonPlaces)
     → tree ≡ g.tree → values ≡ g.values → code ≡ symbol → wanted ≡ wanted_by tree code (user_for g s) values
     → places ≡ places_for tree values code lines wanted case → places ≡ reason_places g s symbol lines case
 places_are g s symbol code lines case tree values wanted places is_tree is_values is_symbol is_wanted are =

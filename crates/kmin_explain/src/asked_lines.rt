@@ -5,7 +5,7 @@ ghost use Rattle.std.specs.Option.{option_copied};
 ghost use Rattle.kc_tree_model.specs.TreeLookup.{unit_of};
 ghost use Rattle.kc_tree_model.specs.Blocks.{Group};
 ghost use Rattle.kc_dotconfig_model.specs.ConfigLines.{LineMeaning};
-ghost use Rattle.kc_dotconfig.specs.ConfigStates.{tree_in};
+ghost use Rattle.kc_config.specs.ConfigStates.{tree_in};
 ghost use Rattle.kc_config_reasons.specs.between.FileLines.{line_view};
 ghost use Rattle.kc_config_reasons.specs.between.Places.{place_view};
 ghost use Rattle.kmin_explain.specs.Explanations.{asks_at, asked_line, asked_lines};
@@ -24,14 +24,14 @@ use std::alloc::{AllocError, Global};
 
 /// A symbol as the lines of files speak of it.
 #[derive(Drop)]
-pub(crate) struct AskedSymbol {
-    pub(crate) s: Sym,
-    pub(crate) unit: u32,
-    pub(crate) kind: Kind,
+pub struct AskedSymbol {
+    pub s: Sym,
+    pub unit: u32,
+    pub kind: Kind,
 }
 
 /// The path of this number; empty if there is none.
-fn path_at<'a>(paths: &[&'a str], file: usize) -> &'a str
+pub fn path_at<'a>(paths: &[&'a str], file: usize) -> &'a str
     ensures { result.now ≡ unwrap_or (slice_get (map (λ (path : Bor (List ℕ)). path.now) paths.now) file) [] }
 {
     match paths.get(file) {
@@ -65,7 +65,11 @@ fn push_asks_at(
 }
 
 /// The line that the file with a number has for a symbol, if there is one.
-fn line_in<'a>(files: &'a [FileLines], symbol: &AskedSymbol, file: usize) -> Option<&'a AskingLine>
+pub fn line_in<'a>(
+    files: &'a [FileLines],
+    symbol: &AskedSymbol,
+    file: usize,
+) -> Option<&'a AskingLine>
     ensures { option_copied result ≡ line_in files.now symbol.now.unit symbol.now.s file }
 {
     match files.get(file) {

@@ -2,7 +2,7 @@
 ghost use Rattle.std.specs.Prelude.{◌≡◌, ◌<◌, List, All, length, IfOk, OnOk};
 ghost use Rattle.kc_tree_model.specs.Blocks.{Group};
 ghost use Rattle.kc_dotconfig_model.specs.ConfigLines.{LineMeaning};
-ghost use Rattle.kc_dotconfig.specs.ConfigStates.{tree_in};
+ghost use Rattle.kc_config.specs.ConfigStates.{tree_in};
 ghost use Rattle.kmin_explain.specs.Names.{each_once_after};
 ghost use Rattle.kmin_explain.specs.Deep.{next_of, AreDeep};
 ghost use Rattle.kmin_explain.specs.between.Sources.{config_of, sources_model};

@@ -8,14 +8,14 @@ use std::alloc::{AllocError, Global};
 
 /// Symbols, each once, in order of first sight.
 #[derive(Drop)]
-pub(crate) struct SymbolsOnce {
-    pub(crate) found: Vec<Sym>,
-    pub(crate) is_found: Vec<bool>,
+pub struct SymbolsOnce {
+    pub found: Vec<Sym>,
+    pub is_found: Vec<bool>,
 }
 
 impl SymbolsOnce {
     /// No symbols, of a tree that has so many.
-    pub(crate) fn new(alloc: Global, count: u32) -> Result<SymbolsOnce, AllocError>
+    pub fn new(alloc: Global, count: u32) -> Result<SymbolsOnce, AllocError>
         ensures none { IfOk result (λ o. o.found.items ≡ []) }
         ensures marks { IfOk result AreMarked }
         ensures many { IfOk result (λ o. length o.is_found.items ≡ count) }
@@ -28,7 +28,7 @@ impl SymbolsOnce {
     }
 
     /// Adds a symbol, if it isn't there yet. An `Err` means out of memory.
-    pub(crate) fn add(&mut self, s: Sym) -> Result<(), AllocError>
+    pub fn add(&mut self, s: Sym) -> Result<(), AllocError>
         requires marks { AreMarked self.old }
         requires there { s < length self.old.is_found.items }
         ensures found { OnOk result (self.new.found.items ≡ with_number self.old.found.items s) }
@@ -45,7 +45,7 @@ impl SymbolsOnce {
     }
 
     /// Adds symbols, of which each isn't there yet once. An `Err` means out of memory.
-    pub(crate) fn add_all(&mut self, symbols: &[Sym]) -> Result<(), AllocError>
+    pub fn add_all(&mut self, symbols: &[Sym]) -> Result<(), AllocError>
         requires marks { AreMarked self.old }
         requires there { All (λ s. s < length self.old.is_found.items) symbols.now }
         ensures found { OnOk result (self.new.found.items ≡ each_once_after self.old.found.items symbols.now) }

@@ -5,7 +5,7 @@ ghost use Rattle.kc_tree_model.specs.Trees.{Symbol as ModelSymbol};
 ghost use Rattle.kc_tree_model.specs.Blocks.{Group};
 ghost use Rattle.kc_dotconfig_model.specs.ConfigLines.{LineMeaning};
 ghost use Rattle.kc_rules.specs.between.SettledViews.{tree_model_of};
-ghost use Rattle.kc_dotconfig.specs.ConfigStates.{tree_in};
+ghost use Rattle.kc_config.specs.ConfigStates.{tree_in};
 ghost use Rattle.kc_reasons.specs.between.ReasonsView.{reasons_view};
 ghost use Rattle.kc_symbol_lines.specs.between.LinesView.{symbol_lines_view, AreHeld};
 ghost use Rattle.kmin_explain.specs.Explanations.{explained_by, explained_at, explained_in, all_symbols, is_hindered_at, is_one_hindered};
@@ -14,8 +14,8 @@ ghost use Rattle.kmin_explain.specs.between.Sources.{config_of, AreReadSources, 
 use super::asked_lines::{AskedSymbol, push_asked_lines};
 use super::sources::Sources;
 use super::symbol_reasons::{lines_of, listed_reasons, reason_places};
+use kc_config::user_at;
 use kc_config_reasons::{deciding_line, reasons_in, valuation};
-use kc_dotconfig::user_at;
 use kc_explanation::{push_located_details, push_located_first_line};
 use kc_reasons::{SymbolReasons, wanted_by};
 use kc_symbol_lines::SymbolLines;

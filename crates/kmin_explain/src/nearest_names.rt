@@ -8,7 +8,7 @@ ghost use Rattle.kmin_explain.specs.NearestNames.{nearest_name};
 use super::names::after_prefix;
 use kc_dotconfig::Prefix;
 use kc_tree::Tree;
-use kmin_texts::nearest_symbol;
+use kmin_details::nearest_symbol;
 use std::alloc::{AllocError, Global};
 
 /// The name of a symbol that is nearest to a name, which is taken without the prefix if it has it: the first of those with the fewest

@@ -1,7 +1,8 @@
 //! What symbols are explained by.
 use kc_builder::TreeLines;
+use kc_config::Config;
 use kc_config_reasons::FileLines;
-use kc_dotconfig::{Config, Strings};
+use kc_dotconfig::Strings;
 use kc_symbol_lines::LineIndex;
 use kc_value::Text;
 

@@ -10,7 +10,7 @@ ghost use Rattle.kc_rules_model.specs.SymbolValues.{environment};
 ghost use Rattle.kc_rules.specs.between.SettledViews.{tree_model_of};
 ghost use Rattle.kc_evaluation.specs.checker.ValuationView.{valuation_tree, valuation_exprs, valuation_values};
 ghost use Rattle.kc_dotconfig_model.specs.ConfigLines.{LineMeaning};
-ghost use Rattle.kc_dotconfig.specs.ConfigStates.{tree_in};
+ghost use Rattle.kc_config.specs.ConfigStates.{tree_in};
 ghost use Rattle.kc_reasons_model.specs.SymbolLines.{lines_of_symbol};
 ghost use Rattle.kc_reasons.specs.between.ReasonsView.{reasons_view};
 ghost use Rattle.kc_symbol_lines.specs.between.LinesView.{symbol_lines_view, AreHeld};
@@ -92,7 +92,7 @@ fn with_all(
 }
 
 /// The lines of symbol `s`.
-pub(crate) fn lines_of(alloc: Global, by: &Sources<'_>, s: Sym) -> Result<SymbolLines, AllocError>
+pub fn lines_of(alloc: Global, by: &Sources<'_>, s: Sym) -> Result<SymbolLines, AllocError>
     requires read { AreReadSources by.now }
     requires there { s < length (tree_in (config_of by.now)).symbols }
     ensures lines { (read : List Group) (meanings : List (List LineMeaning)) (symbol : ModelSymbol) → AreSourcesOf by.now read meanings
@@ -107,7 +107,7 @@ pub(crate) fn lines_of(alloc: Global, by: &Sources<'_>, s: Sym) -> Result<Symbol
 
 /// The places of what gives a symbol its value in a case, of what its prompts lack of what is wanted, and of what its definitions'
 /// dependencies lack of what is selected.
-pub(crate) fn reason_places(
+pub fn reason_places(
     alloc: Global,
     under: &Valuation<'_>,
     symbol: &Symbol<'_>,

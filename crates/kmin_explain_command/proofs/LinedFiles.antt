@@ -30,7 +30,7 @@ use Rattle.kmin_explain_command.specs.between.LinedFiles.{IsLinedFile, AreLined}
 -- a file whose bytes were read and accepted, and whose notices were reported, is loaded
 pub loaded_of : (content : FileContent) (format : FileFormat) (tree : Tree) (path bytes : List ℕ) (known : AreKnownBytes content bytes)
     (taken taken_after : SpelledBytes) (failed failed_after : ℕ) (fragment : Fragment) → IsFragmentOf format tree bytes fragment
-    → TakesLines taken failed (fragment_notices path fragment) taken_after failed_after
+    → TakesLines taken failed (fragment_notices tree path fragment) taken_after failed_after
     → IsLoaded content format tree path fragment taken failed taken_after failed_after
 loaded_of content format tree path bytes known taken taken_after failed failed_after fragment f t = record {
   bytes = bytes;
@@ -41,14 +41,14 @@ loaded_of content format tree path bytes known taken taken_after failed failed_a
   users = f.users;
   noted = f.noted;
   chosen = f.chosen;
-  reported = subst (λ lines. TakesLines taken failed lines taken_after failed_after) (notices_are path fragment f.meanings f.noted) t;
+  reported = subst (λ lines. TakesLines taken failed lines taken_after failed_after) (notices_are tree path fragment f.meanings f.noted) t;
 }
 
 -- and so with its last lines
 pub lined_whole : (content : FileContent) (format : FileFormat) (tree : Tree) (path bytes : List ℕ) (known : AreKnownBytes content bytes)
     (taken taken_after : SpelledBytes) (failed failed_after : ℕ) (fragment : Fragment) (lines : FileLines)
     → is_name_prefix format.prefix ≡ true → IsFragmentOf format tree bytes fragment
-    → TakesLines taken failed (fragment_notices path fragment) taken_after failed_after
+    → TakesLines taken failed (fragment_notices tree path fragment) taken_after failed_after
     → ((meanings : List LineMeaning) → has_utf8_lines bytes ≡ true → FileMeans format tree bytes meanings → KeepsLines tree meanings lines)
     → IsLinedFile content format tree path (record { fragment = fragment; lines = lines }) taken failed taken_after failed_after
 unfolding loaded_of

@@ -7,7 +7,7 @@ use Rattle.kc_dotconfig_model.specs.ConfigFiles.{empty_assignment}
 use Rattle.kc_dotconfig_model.specs.ConfigLines.{LineMeaning}
 use Rattle.kc_dotconfig_model.specs.OtherChoices.{other_choices}
 use Rattle.kc_dotconfig_model.specs.between.Formats.{file_format}
-use Rattle.kc_dotconfig.specs.ConfigStates.{IsSolved, tree_in}
+use Rattle.kc_config.specs.ConfigStates.{IsSolved, tree_in}
 use Rattle.kc_files.specs.TreeContents.{FileContent}
 use Rattle.kmin_options.specs.Jobs.{explain_job_view, settings_view}
 use Rattle.kmin_options.specs.declared.job.ExplainJob.{ExplainJob}
@@ -43,13 +43,15 @@ module _ (content_of : List ℕ → FileContent) (job : ExplainJob) (tree : Line
     taken failed middle failed_middle) where
   -- the notices of the files' lines and on the choices
   abbrev notices : List ErrorLine
-  notices = notice_lines (paths_of_job job) l.read.loaded.meanings
+  notices = notice_lines (tree_in found.read.config) (paths_of_job job) l.read.loaded.meanings
       ++ choice_notice_lines (paths_of_job job) (other_choices (tree_in found.read.config) found.read.config.values l.read.loaded.meanings)
 
   noted : (to : SpelledBytes) (failed_to : ℕ) → AreNoticed job.settings.strict (paths_of_job job) found.read middle failed_middle to failed_to
       → TakesLines taken failed notices to failed_to
   noted to failed_to n =
-      lines_append taken middle failed failed_middle _ _ to failed_to l.read.loaded.reported
+      lines_append taken middle failed failed_middle _ _ to failed_to
+      (subst (λ (sys : Settled). TakesLines taken failed (notice_lines (tree_of_settled sys) (paths_of_job job) l.read.loaded.meanings) middle failed_middle)
+      (sym same) l.read.loaded.reported)
       (subst (λ (sys : Settled). TakesLines middle failed_middle (choice_notice_lines (paths_of_job job) (other_choices (tree_of_settled sys) found.read.config.values l.read.loaded.meanings)) to failed_to)
       (sym same)
       (noticed_are content_of (settings_view job.settings) found.read.config tree.settled (paths_of_job job) (lists_of found.read.chosen.items) taken middle

@@ -12,7 +12,7 @@ use Rattle.kc_dotconfig_model.specs.ConfigFiles.{empty_assignment, files_assignm
 use Rattle.kc_dotconfig_model.specs.ConfigLines.{LineMeaning}
 use Rattle.kc_dotconfig_model.specs.OtherChoices.{other_choices}
 use Rattle.kc_dotconfig_model.specs.between.Formats.{file_format}
-use Rattle.kc_dotconfig.specs.ConfigStates.{IsSolved, tree_in}
+use Rattle.kc_config.specs.ConfigStates.{IsSolved, tree_in}
 use Rattle.kc_files.specs.TreeContents.{FileContent}
 use Rattle.kc_builder.specs.between.TreeLines.{HasLines, IsTreeWithLines}
 use Rattle.kc_builder.specs.declared.tree_lines.TreeLines.{TreeLines}

@@ -1,5 +1,5 @@
--- The text of `explain` for a configuration whose files were read, or its end there.
-use Rattle.std.proofs.Common.{◌≡◌, ℕ, Bool, true, false, List, [], Vec, Option, Some, None, if◌then◌else◌, refl, sym, ap, subst, ◌∙◌}
+-- The text of a command that gives reasons, for a configuration whose files were read, or its end there.
+use Rattle.std.proofs.Common.{◌≡◌, ◌≤◌, ℕ, Bool, true, false, List, [], ◌∷◌, Vec, Option, Some, None, if◌then◌else◌, refl, sym, ap, subst, ◌∙◌, arith}
 use Rattle.std.specs.Borrow.{Bor}
 use Rattle.std.specs.declared.alloc.AllocError.{AllocError}
 use Rattle.std.specs.declared.alloc.Global.{Global}
@@ -7,21 +7,22 @@ use Rattle.std.specs.Prelude.{option_map, IfOk, Result, Ok, Err}
 use Rattle.kc_tree_model.specs.Blocks.{Group}
 use Rattle.kc_tree_model.specs.Trees.{Tree}
 use Rattle.kc_dotconfig_model.specs.ConfigLines.{LineMeaning}
-use Rattle.kc_dotconfig.specs.ConfigStates.{tree_in}
+use Rattle.kc_config.specs.ConfigStates.{tree_in}
 use Rattle.kmin_explain.specs.Deep.{AreDeep}
 use Rattle.kmin_explain.specs.Explanations.{SourcesModel, explained_in, is_one_hindered}
 use Rattle.kmin_explain.specs.between.Sources.{AreSourcesOf, config_of, sources_model}
 use Rattle.kmin_explain.specs.declared.sources.Sources.{Sources}
-use Rattle.kmin_options.specs.Jobs.{explain_job_view}
+use Rattle.kmin_options.specs.Jobs.{explain_job_view, Question, question_view, explain}
 use Rattle.kmin_options.specs.declared.job.ExplainFlags.{ExplainFlags}
 use Rattle.kmin_options.specs.declared.job.ExplainJob.{ExplainJob}
 use Rattle.kmin_report.specs.StandardError.{SpelledBytes, TakesLines}
 use Rattle.kmin_trees.specs.declared.lined_trees.LinedTree.{LinedTree}
+use Rattle.kmin_answers.specs.Statuses.{status_of_list}
 use Rattle.kmin_answers.specs.between.Comparisons.{AreNoticed}
 use Rattle.kmin_answers.specs.declared.verb_texts.AnswerText.{AnswerText}
 use Rattle.kmin_answers.proofs.JobOutputs.{lines_kept}
 use Rattle.kmin_explain_command.specs.Explains.{AreExplainedFor, IsExplained, symbols_in, unknown_for}
-use Rattle.kmin_explain_command.specs.between.Texts.{AreOfSources, StopsAfterFiles, IsAnswerOf, IsTextOf, paths_of_job, sources_of, status_by}
+use Rattle.kmin_explain_command.specs.between.Texts.{AreOfSources, StopsAfterFiles, IsAnswerFor, IsAnswerOf, IsTextOf, paths_of_job, sources_of, status_by}
 use Rattle.kmin_explain_command.specs.between.Texts as after_files
 use Rattle.kmin_explain_command.specs.between.UnknownNames.{StopsAtName}
 use Rattle.kmin_explain_command.specs.between.UnknownNames as names
@@ -55,8 +56,6 @@ pub explained_by : (job : ExplainJob) (tree : LinedTree) (found : LinedFiles) (r
     → IsExplained (explain_job_view job) (sources_of job tree found read meanings) text status
 explained_by job tree found read meanings text status known a = record {
   known = known;
-  symbols = a.symbols;
-  explained = a.explained;
   text_is = a.text_is;
   status_is = a.status_is;
 }
@@ -70,15 +69,23 @@ pub found_none : (found : Option (Bor (List ℕ))) (first : Option (List ℕ)) �
     → option_map (λ (n : Bor (List ℕ)). n.now) found ≡ first → first ≡ None
 found_none found first is e = sym e ∙ (let s : found ≡ None = is in rw s refl)
 
--- the text and the status for the symbols of a job are its answer
-pub named_is : (job : ExplainJob) (g : SourcesModel) (named text : List ℕ) (status : ℕ) → named ≡ symbols_in (explain_job_view job) g.tree
-    → IsTextOf job.flags g named text → status ≡ status_by job.flags g named → IsAnswerOf (explain_job_view job) g text status
-named_is job g named text status e t s = record {
-  symbols = t.0;
-  explained = subst (λ (n : List ℕ). AreExplainedFor job.flags.deep g n t.0) e t.1;
-  text_is = t.2;
-  status_is = s ∙ ap (λ (n : List ℕ). status_by job.flags g n) e;
-}
+-- the text and the status for named symbols are the answer of `explain` for them
+pub named_is : (flags : ExplainFlags) (names : Option (List ℕ)) (g : SourcesModel) (named other text : List ℕ) (status : ℕ) → named ≡ other
+    → IsTextOf flags g named text → status ≡ status_by flags g named → IsAnswerFor (explain flags names) g other text status
+named_is flags names g named other text status e t s =
+    subst (λ (n : List ℕ). IsAnswerFor (explain flags names) g n text status) e (record { text_is = t; status_is = s })
+
+-- the answer for the question of a job is that of the job
+pub answer_of_question : (job : ExplainJob) (question : Question) (g : SourcesModel) (text : List ℕ) (status : ℕ) → question_view job.question ≡ question
+    → IsAnswerFor question g (symbols_in (explain_job_view job) g.tree) text status → IsAnswerOf (explain_job_view job) g text status
+answer_of_question job question g text status is a =
+    subst (λ (q : Question). IsAnswerFor q g (symbols_in (explain_job_view job) g.tree) text status) (sym is) a
+
+-- the status of a list is 0 or 1
+pub list_status_small : {A : Type 0} (exit_code : Bool) (listed : List A) → status_of_list exit_code listed ≤ 1
+list_status_small false listed = omega arith
+list_status_small true [] = omega arith
+list_status_small true (x ∷ xs) = omega arith
 
 -- what symbols are explained by is of the tree and the files that were read
 pub answer_from : (by : Sources) (job : ExplainJob) (tree : LinedTree) (found : LinedFiles) (read : List Group) (meanings : List (List LineMeaning)) (text : List ℕ)
@@ -100,17 +107,26 @@ pub no_status : (flags : ExplainFlags) (g : SourcesModel) (named : List ℕ) →
 no_status flags g named e = rw e refl
 
 -- and so of a result that has both
-pub both_answered : (job : ExplainJob) (by : Sources) (r : Result AnswerText AllocError) (named : List ℕ)
-    → named ≡ symbols_in (explain_job_view job) (tree_in (config_of by))
+pub both_answered : (flags : ExplainFlags) (names : Option (List ℕ)) (by : Sources) (r : Result AnswerText AllocError) (named other : List ℕ) → named ≡ other
     → IfOk r (λ answer. (read : List Group) (meanings : List (List LineMeaning)) → AreSourcesOf by read meanings
-    → IsTextOf job.flags (sources_model by read meanings) named answer.text.items)
+    → IsTextOf flags (sources_model by read meanings) named answer.text.items)
     → IfOk r (λ answer. (read : List Group) (meanings : List (List LineMeaning)) → AreSourcesOf by read meanings
-    → answer.status ≡ status_by job.flags (sources_model by read meanings) named)
+    → answer.status ≡ status_by flags (sources_model by read meanings) named)
+    → IfOk r (λ answer. (read : List Group) (meanings : List (List LineMeaning)) → AreSourcesOf by read meanings
+    → IsAnswerFor (explain flags names) (sources_model by read meanings) other answer.text.items answer.status)
+both_answered flags names by (Err e) named other is t s = tt
+both_answered flags names by (Ok answer) named other is t s = λ read meanings are.
+    named_is flags names (sources_model by read meanings) named other answer.text.items answer.status is (t read meanings are) (s read meanings are)
+
+-- a result that has the answer for the question of a job has that of the job
+pub question_answered : (job : ExplainJob) (question : Question) (by : Sources) (r : Result AnswerText AllocError) → question_view job.question ≡ question
+    → IfOk r (λ answer. (read : List Group) (meanings : List (List LineMeaning)) → AreSourcesOf by read meanings
+    → IsAnswerFor question (sources_model by read meanings) (symbols_in (explain_job_view job) (tree_in (config_of by))) answer.text.items answer.status)
     → IfOk r (λ answer. (read : List Group) (meanings : List (List LineMeaning)) → AreSourcesOf by read meanings
     → IsAnswerOf (explain_job_view job) (sources_model by read meanings) answer.text.items answer.status)
-both_answered job by (Err e) named is t s = tt
-both_answered job by (Ok answer) named is t s = λ read meanings are.
-    named_is job (sources_model by read meanings) named answer.text.items answer.status is (t read meanings are) (s read meanings are)
+question_answered job question by (Err e) is a = tt
+question_answered job question by (Ok answer) is a = λ read meanings are.
+    answer_of_question job question (sources_model by read meanings) answer.text.items answer.status is (a read meanings are)
 
 -- the text for some symbols is that for the named ones, by the flags
 module _ (flags : ExplainFlags) (by : Sources) (named symbols : List ℕ) where

@@ -1,4 +1,4 @@
--- The output of `explain`.
+-- The output of a command that gives reasons: of `explain`, and of `missed` and `check` where they ask for them.
 use Rattle.std.specs.Prelude.{◌≡◌, ℕ, Bool, true, false, ◌&&◌, List, [], ◌∷◌, ◌++◌, Option, Some, None, if◌then◌else◌}
 use Rattle.kc_tree_model.specs.Trees.{Tree}
 use Rattle.kc_tree_model.specs.Contents.{tree_of_groups}
@@ -12,12 +12,19 @@ use Rattle.kmin_explain.specs.Names.{names_in, symbols_named, unknown_in}
 use Rattle.kmin_explain.specs.NearestNames.{nearest_name}
 use Rattle.kmin_explain.specs.Explanations.{SourcesModel, explained_in, all_symbols, is_one_hindered}
 use Rattle.kmin_explain.specs.Deep.{AreDeep}
-use Rattle.kmin_options.specs.Jobs.{ExplainJob}
+use Rattle.kmin_missed.specs.MissedLines.{missed_of, missed_lines}
+use Rattle.kmin_missed.specs.MissedCauses.{missed_causes}
+use Rattle.kmin_missed.specs.UnmetLines.{unmet_of, unmet_lines}
+use Rattle.kmin_options.specs.declared.job.ExplainFlags.{ExplainFlags}
+use Rattle.kmin_options.specs.declared.job.MissedForm.{MissedForm}
+use Rattle.kmin_options.specs.declared.job.MissedForm.TheVariants.{Lines, Causes}
+use Rattle.kmin_options.specs.Jobs.{ExplainJob, Question, explain, missed, check}
 use Rattle.kmin_trees.specs.AcceptedTrees.{AreAccepted}
 use Rattle.kmin_trees.specs.JobTexts.{TreeTexts}
 use Rattle.kmin_trees.specs.LinedTrees.{names_by_number}
 use Rattle.kmin_report.specs.Reports.{ErrorLine, notice_lines, choice_notice_lines}
 use Rattle.kmin_answers.specs.Answers.{Resolve}
+use Rattle.kmin_answers.specs.Statuses.{status_of_list}
 use Rattle.kmin_answers.specs.Strictness.{AllowsNotices}
 
 -- What the symbols of a job are explained by: its tree is accepted and of the groups of the one reading of its texts, and its files
@@ -37,36 +44,50 @@ pub record AreSourcesOfJob (content_of : List ℕ → FileContent) (job : Explai
 
 -- the lines of standard error for a job's tree and files
 abbrev pub lines_before : ExplainJob → TreeTexts → SourcesModel → List ErrorLine
-lines_before job t g = t.lines ++ (notice_lines job.files g.meanings ++ choice_notice_lines job.files (other_choices g.tree g.values g.meanings))
+lines_before job t g = t.lines ++ (notice_lines g.tree job.files g.meanings ++ choice_notice_lines job.files (other_choices g.tree g.values g.meanings))
+
+-- the names of symbols that a question has, if it has any
+abbrev pub names_of : Question → Option (List ℕ)
+names_of (explain flags names) = names
+names_of (missed form exit_code) = None
+names_of (check exit_code) = None
 
 -- the first name of a job that means no symbol of a tree, if there is one
 abbrev pub unknown_for : ExplainJob → Tree → Option (List ℕ)
-unknown_for job tree = elim job.names [ None ↦ None | Some names ↦ unknown_in tree job.settings.format.prefix (names_in names) ]
+unknown_for job tree = elim (names_of job.question) [ None ↦ None | Some names ↦ unknown_in tree job.settings.format.prefix (names_in names) ]
 
--- the symbols of a tree that a job names, or all with `--every`
+-- the symbols of a tree that a job names, or all if it names none
 abbrev pub symbols_in : ExplainJob → Tree → List ℕ
-symbols_in job tree = elim job.names [ None ↦ all_symbols tree | Some names ↦ symbols_named tree job.settings.format.prefix (names_in names) ]
+symbols_in job tree = elim (names_of job.question) [ None ↦ all_symbols tree | Some names ↦ symbols_named tree job.settings.format.prefix (names_in names) ]
 
 -- these are the symbols that are explained for some named ones: just those, or with `--deep` those to go on with too
 abbrev pub AreExplainedFor : (deep : Bool) → SourcesModel → (named : List ℕ) → (symbols : List ℕ) → Type 0
 AreExplainedFor true g named symbols = AreDeep g named symbols
 AreExplainedFor false g named symbols = symbols ≡ named
 
--- these are the symbols that are explained for a job
-abbrev pub AreExplained : ExplainJob → SourcesModel → (symbols : List ℕ) → Type 0
-AreExplained job g symbols = AreExplainedFor job.flags.deep g (symbols_in job g.tree) symbols
+-- the text of `missed` in a form
+abbrev pub missed_text : MissedForm → SourcesModel → List ℕ
+missed_text Lines g = missed_lines g
+missed_text Causes g = missed_causes g
 
--- the status: 1 with `--exit-code` where a line for one of the symbols of the job isn't taken
-abbrev pub explain_status : ExplainJob → SourcesModel → ℕ
-explain_status job g = if job.flags.exit_code && is_one_hindered g (symbols_in job g.tree) then 1 else 0
+-- this is the text for a question, of `explain` for these named symbols
+abbrev pub IsTextFor : Question → SourcesModel → (named : List ℕ) → (text : List ℕ) → Type 0
+IsTextFor (explain flags names) g named text = (symbols : List ℕ) × AreExplainedFor flags.deep g named symbols × (text ≡ explained_in g flags.all symbols)
+IsTextFor (missed form exit_code) g named text = text ≡ missed_text form g
+IsTextFor (check exit_code) g named text = text ≡ unmet_lines g
 
--- the text and the status of `explain` by what symbols are explained by: no name means none, and all symbols are explained
+-- the status: with `--exit-code` 1 where a line for one of the named symbols isn't taken, where a symbol is missed, or where one is
+-- selected against its dependencies, else 0
+abbrev pub status_for : Question → SourcesModel → (named : List ℕ) → ℕ
+status_for (explain flags names) g named = if flags.exit_code && is_one_hindered g named then 1 else 0
+status_for (missed form exit_code) g named = status_of_list exit_code (missed_of g)
+status_for (check exit_code) g named = status_of_list exit_code (unmet_of g)
+
+-- the text and the status of a command that gives reasons, by what symbols are explained by: each name means a symbol
 pub record IsExplained (job : ExplainJob) (g : SourcesModel) (text : List ℕ) (status : ℕ) : Type 0 where
   pub known : unknown_for job g.tree ≡ None
-  pub symbols : List ℕ
-  pub explained : AreExplained job g symbols
-  pub text_is : text ≡ explained_in g job.flags.all symbols
-  pub status_is : status ≡ explain_status job g
+  pub text_is : IsTextFor job.question g (symbols_in job g.tree) text
+  pub status_is : status ≡ status_for job.question g (symbols_in job g.tree)
 
 -- `explain` has this output, this status and these lines of notices
 pub record Explains (content_of : List ℕ → FileContent) (job : ExplainJob) (t : TreeTexts) (text : List ℕ) (status : ℕ) (lines : List ErrorLine) : Type 0 where

@@ -1,4 +1,4 @@
-//! The command `explain`, which says why symbols have their values.
+//! The commands that give reasons: `explain`, and `missed` and `check` where they ask for them.
 ghost use Rattle.std.specs.Prelude.{◌≡◌, ◌≢◌, ◌≤◌, ◌⊎◌, ◌++◌, List, ℕ, IfOk, IfErr};
 ghost use Rattle.std.specs.Io.KnownBytes.{Appends};
 ghost use Rattle.kc_rules.specs.between.SettledViews.{profile_of, tree_model_of};
@@ -23,9 +23,10 @@ use kmin_report::{Messages, RunError, exit_status, write_answer};
 use kmin_trees::{LinedTree, job_tree_with_lines};
 use std::alloc::Global;
 
-/// Says of each symbol that the job names, or with `--every` of all, why it has its value, writes that text, and returns the exit
-/// status: 0 done, 1 with `--exit-code` a line for a named symbol isn't taken, 3 tree refused, 4 configuration file refused or a name
-/// that means no symbol, 5 a read or write failed, 6 out of memory.
+/// Says of each symbol that the job names, or with `--every` of all, why it has its value; or of those that are missed why they are,
+/// or of those that are selected against their dependencies by what; writes that text, and returns the exit status: 0 done, 1 with
+/// `--exit-code` a line for a named symbol isn't taken, or a symbol is missed or selected so, 3 tree refused, 4 configuration file
+/// refused or a name that means no symbol, 5 a read or write failed, 6 out of memory.
 ///
 /// The output is complete before the first write. Standard error gets the same lines as of a command over the configuration of these
 /// files, then one for the first name that means no symbol, `explain: UnknownSymbol NAME (nearest OTHER)`; a failed write there has no
@@ -101,7 +102,7 @@ fn explained_over<F: Files, E: Messages>(
     ensures failed { IfErr result (λ stop. status_of stop ≡ 5 → HasRisen (F.failures files.old) (F.failures files.new)) }
 {
     let found = read_lined(alloc, &tree.settled, &job.settings, &job.files, files, err)?;
-    let answer = explained_files(alloc, job, tree, &found, err);
+    let answer = explained_files(alloc, job, tree, &found, files.seed(), err);
     drop(found);
     answer
 }

@@ -1,9 +1,10 @@
-//! The command `explain`: its files, its output and its exit status.
+//! The commands that give reasons, `explain` and others: their files, their output and their exit status.
 #![tactic(auto)]
 
 mod command;
 mod lined_file;
 mod lined_files;
+mod questions;
 mod texts;
 mod unknown_names;
 

@@ -4,7 +4,7 @@ ghost use Rattle.std.specs.Borrow.{Bor};
 ghost use Rattle.kc_rules.specs.between.SettledViews.{tree_of_settled};
 ghost use Rattle.kc_dotconfig_model.specs.ConfigFiles.{empty_assignment, overlay};
 ghost use Rattle.kc_dotconfig_model.specs.between.Formats.{file_format};
-ghost use Rattle.kc_dotconfig.specs.ConfigStates.{IsSolved, tree_in};
+ghost use Rattle.kc_config.specs.ConfigStates.{IsSolved, tree_in};
 ghost use Rattle.kc_dotconfig.specs.Fragments.{FitsTree, users_of};
 ghost use Rattle.kmin_answers.specs.Stops.{StopsAmongFiles};
 ghost use Rattle.kmin_answers.specs.between.LoadResults.{lists_of};

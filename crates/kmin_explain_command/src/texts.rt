@@ -1,25 +1,29 @@
-//! The text of `explain` for a configuration whose files were read.
-ghost use Rattle.std.specs.Prelude.{◌≡◌, ◌≤◌, ◌<◌, List, All, length, IfOk, IfErr};
+//! The text of a command that gives reasons, for a configuration whose files were read.
+ghost use Rattle.std.specs.Prelude.{◌≡◌, ◌≤◌, ◌<◌, ℕ, List, All, Option, length, IfOk, IfErr};
 ghost use Rattle.std.specs.List.{range_with_len};
 ghost use Rattle.kc_tree_model.specs.Blocks.{Group};
 ghost use Rattle.kc_rules.specs.between.SettledViews.{tree_model_of};
-ghost use Rattle.kc_dotconfig.specs.ConfigStates.{tree_in};
+ghost use Rattle.kc_config.specs.ConfigStates.{tree_in};
 ghost use Rattle.kc_dotconfig_model.specs.ConfigLines.{LineMeaning};
 ghost use Rattle.kc_symbol_lines.specs.between.Indexes.{IsReadTree};
 ghost use Rattle.kmin_answers.specs.between.Comparisons.{AreNoticed};
 ghost use Rattle.kmin_explain.specs.between.Sources.{AreReadSources, AreSourcesOf, config_of, sources_model};
-ghost use Rattle.kmin_explain_command.specs.Explains.{IsExplained, symbols_in};
-ghost use Rattle.kmin_explain_command.specs.between.Texts.{AreOfSources, IsAnswerOf, StopsAfterFiles, IsTextOf, paths_of_job, sources_of, status_by};
-ghost use Rattle.kmin_options.specs.Jobs.{explain_job_view};
+ghost use Rattle.kc_dotconfig_model.specs.MissedAssignments.{missed as missed_symbols};
+ghost use Rattle.kmin_explain_command.specs.Explains.{IsExplained, missed_text, symbols_in};
+ghost use Rattle.kmin_explain_command.specs.between.Texts.{AreOfSources, IsAnswerFor, IsAnswerOf, StopsAfterFiles, IsTextOf, paths_of_job, sources_of, status_by};
+ghost use Rattle.kmin_options.specs.Jobs.{explain_job_view, explain, missed, check};
 ghost use Rattle.kmin_report.specs.between.RunErrors.{status_of};
 
 use crate::lined_files::LinedFiles;
+use crate::questions::names_of;
 use crate::unknown_names::refuse_unknown;
 use kc_symbol_lines::LineIndex;
 use kc_tree::{Sym, Tree};
-use kmin_answers::{AnswerText, notice_choices};
+use kc_value::Seed;
+use kmin_answers::{AnswerText, list_status, notice_choices};
 use kmin_explain::{Sources, deep_symbols, explanation_of, is_one_hindered, named_symbols};
-use kmin_options::{ExplainFlags, ExplainJob};
+use kmin_missed::{lines_of_missed, lines_of_unmet, missed_by_cause};
+use kmin_options::{ExplainFlags, ExplainJob, MissedForm, Question};
 use kmin_report::{Messages, RunError};
 use kmin_trees::LinedTree;
 use std::alloc::{AllocError, Global};
@@ -31,6 +35,7 @@ pub(crate) fn explained_files<E: Messages>(
     job: &ExplainJob<'_>,
     tree: &LinedTree,
     found: &LinedFiles<'_>,
+    seed: Seed,
     err: &mut E,
 ) -> Result<AnswerText, RunError>
     requires system { found.now.read.config.system ≡ tree.now.settled }
@@ -43,7 +48,7 @@ pub(crate) fn explained_files<E: Messages>(
     notice_choices(alloc, &job.settings, &job.files, &found.read, err)?;
     let symbols = found.read.config.settled().tree();
     refuse_unknown(alloc, job, symbols, err)?;
-    Ok(text_of(alloc, job, tree, found)?)
+    Ok(text_of(alloc, job, tree, found, seed)?)
 }
 
 /// The output for a configuration whose files were read, and its status.
@@ -52,6 +57,7 @@ fn text_of(
     job: &ExplainJob<'_>,
     tree: &LinedTree,
     found: &LinedFiles<'_>,
+    seed: Seed,
 ) -> Result<AnswerText, AllocError>
     requires system { found.now.read.config.system ≡ tree.now.settled }
     requires read { IsReadTree (tree_model_of tree.now.settled) tree.now.lines }
@@ -68,7 +74,7 @@ fn text_of(
         file_paths: &job.files,
         strings: job.settings.format.strings,
     };
-    answer_by(alloc, job, &by)
+    answer_by(alloc, job, &by, seed)
 }
 
 /// The output by what symbols are explained by, and its status.
@@ -76,13 +82,80 @@ fn answer_by(
     alloc: Global,
     job: &ExplainJob<'_>,
     by: &Sources<'_>,
+    seed: Seed,
 ) -> Result<AnswerText, AllocError>
     requires read { AreReadSources by.now }
     ensures status { IfOk result (λ answer. answer.status ≤ 1) }
     ensures answer { IfOk result (λ answer. (read : List Group) (meanings : List (List LineMeaning)) → AreSourcesOf by.now read meanings → IsAnswerOf (explain_job_view job.now) (sources_model by.now read meanings) answer.text.items answer.status) }
 {
+    match job.question {
+        Question::Explain { flags, .. } => explained_answer(alloc, job, flags, by),
+        Question::Missed { form, exit_code } => missed_answer(alloc, form, exit_code, by, seed),
+        Question::Check { exit_code } => unmet_answer(alloc, exit_code, by),
+    }
+}
+
+/// The output for the symbols that a job names, with these flags, and its status.
+fn explained_answer(
+    alloc: Global,
+    job: &ExplainJob<'_>,
+    flags: ExplainFlags,
+    by: &Sources<'_>,
+) -> Result<AnswerText, AllocError>
+    requires read { AreReadSources by.now }
+    ensures status { IfOk result (λ answer. answer.status ≤ 1) }
+    ensures answer { (names : Option (List ℕ)) → IfOk result (λ answer. (read : List Group) (meanings : List (List LineMeaning)) → AreSourcesOf by.now read meanings → IsAnswerFor (explain flags names) (sources_model by.now read meanings) (symbols_in (explain_job_view job.now) (tree_in (config_of by.now))) answer.text.items answer.status) }
+{
     let symbols = symbols_for(alloc, job, by.config.settled().tree())?;
-    named_answer(alloc, job.flags, by, &symbols)
+    named_answer(alloc, flags, by, &symbols)
+}
+
+/// The output of `missed` in a form, and its status.
+fn missed_answer(
+    alloc: Global,
+    form: MissedForm,
+    exit_code: bool,
+    by: &Sources<'_>,
+    seed: Seed,
+) -> Result<AnswerText, AllocError>
+    requires read { AreReadSources by.now }
+    ensures status { IfOk result (λ answer. answer.status ≤ 1) }
+    ensures answer { (named : List ℕ) → IfOk result (λ answer. (read : List Group) (meanings : List (List LineMeaning)) → AreSourcesOf by.now read meanings → IsAnswerFor (missed form exit_code) (sources_model by.now read meanings) named answer.text.items answer.status) }
+{
+    let symbols = by.config.missed()?;
+    let text = missed_text(alloc, form, by, seed, &symbols)?;
+    let status = list_status(exit_code, &symbols);
+    Ok(AnswerText { text, status })
+}
+
+/// The text of `missed` in a form, for the symbols that don't have the values that files assign.
+fn missed_text(
+    alloc: Global,
+    form: MissedForm,
+    by: &Sources<'_>,
+    seed: Seed,
+    symbols: &[Sym],
+) -> Result<Vec<u8>, AllocError>
+    requires read { AreReadSources by.now }
+    requires missed { symbols.now ≡ missed_symbols (tree_in (config_of by.now)) (config_of by.now).users (config_of by.now).values }
+    ensures { (read : List Group) (meanings : List (List LineMeaning)) → AreSourcesOf by.now read meanings → IfOk result (λ text. text.items ≡ missed_text form (sources_model by.now read meanings)) }
+{
+    match form {
+        MissedForm::Lines => lines_of_missed(alloc, by, symbols),
+        MissedForm::Causes => missed_by_cause(alloc, by, seed, symbols),
+    }
+}
+
+/// The output of `check` with reasons, and its status.
+fn unmet_answer(alloc: Global, exit_code: bool, by: &Sources<'_>) -> Result<AnswerText, AllocError>
+    requires read { AreReadSources by.now }
+    ensures status { IfOk result (λ answer. answer.status ≤ 1) }
+    ensures answer { (named : List ℕ) → IfOk result (λ answer. (read : List Group) (meanings : List (List LineMeaning)) → AreSourcesOf by.now read meanings → IsAnswerFor (check exit_code) (sources_model by.now read meanings) named answer.text.items answer.status) }
+{
+    let symbols = by.config.settled().unmet(alloc, by.config.values())?;
+    let text = lines_of_unmet(alloc, by, &symbols)?;
+    let status = list_status(exit_code, &symbols);
+    Ok(AnswerText { text, status })
 }
 
 /// The symbols that a job names, or all with `--every`.
@@ -90,7 +163,7 @@ fn symbols_for(alloc: Global, job: &ExplainJob<'_>, tree: &Tree) -> Result<Vec<S
     ensures symbols { IfOk result (λ symbols. symbols.items ≡ symbols_in (explain_job_view job.now) tree.now.tree) }
     ensures there { IfOk result (λ symbols. All (λ s. s < length tree.now.tree.symbols) symbols.items) }
 {
-    match job.names {
+    match names_of(job.question) {
         None => every_symbol(alloc, tree.symbol_count()),
         Some(names) => named_symbols(alloc, tree, &job.settings.format.prefix, names),
     }

@@ -8,6 +8,7 @@ ghost use Rattle.kmin_options.specs.Jobs.{explain_job_view};
 ghost use Rattle.kmin_report.specs.StandardError.{TakesLines};
 ghost use Rattle.kmin_report.specs.between.RunErrors.{status_of};
 
+use crate::questions::names_of;
 use kc_tree::Tree;
 use kmin_explain::{nearest_name, unknown_name};
 use kmin_options::ExplainJob;
@@ -44,7 +45,7 @@ fn first_unknown<'a>(
 ) -> Result<Option<&'a str>, AllocError>
     ensures { IfOk result (λ found. option_map (λ (name : Bor (List ℕ)). name.now) found ≡ unknown_for (explain_job_view job.now) tree.now.tree) }
 {
-    match job.names {
+    match names_of(job.question) {
         Some(names) => unknown_name(alloc, tree, &job.settings.format.prefix, names),
         None => Ok(None),
     }

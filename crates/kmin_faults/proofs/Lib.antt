@@ -7,3 +7,4 @@ pub mod Circles
 pub mod StoredTypes
 pub mod FoundPlaces
 pub mod TokenPaths
+pub mod FirstPlaces

@@ -1,10 +1,10 @@
 //! The first definitions of the symbols of a tree.
-ghost use Rattle.std.specs.Prelude.{◌≡◌, ◌<◌, ◌&&◌, ◌==◌, ℕ, IfOk, length, nat_le};
+ghost use Rattle.std.specs.Prelude.{◌≡◌, ◌<◌, ◌&&◌, ◌==◌, IfOk, length, nat_le, option_map, reverse};
 ghost use Rattle.std.specs.List.{list_any};
 ghost use Rattle.kc_checks.specs.between.Summaries.{attributes_end, group_at};
-ghost use Rattle.kc_listing.specs.between.ListingView.{RepresentsListing};
 ghost use Rattle.kc_tree_model.specs.TreeReading.{reading};
-ghost use Rattle.kmin_faults.specs.between.StoredDefinitions.{IsDefinitionAt, IsFoundFor, begins_before, defined_by, defines, first_of, first_typed, gives_type, has_type, is_same_place, is_typed, other_place, place_of, unless_same};
+ghost use Rattle.kmin_faults.specs.FirstPlaces.{first_type, other_definition};
+ghost use Rattle.kmin_faults.specs.between.StoredDefinitions.{begins_before, defined_by, definition_at, defines, first_of, first_type_in, first_typed, gives_type, has_type, is_same_place, is_typed, other_definition_in, other_place, place_of, position_of, unless_same};
 
 use crate::listings::listing_of;
 use kc_listing::{Group, GroupHead, Line, Listing};
@@ -27,7 +27,7 @@ pub fn first_type(
     first: &str,
     at: TextPlace,
 ) -> Result<Option<TextPlace>, AllocError>
-    ensures { IfOk result (λ place. (listing : Listing) × RepresentsListing listing (reading texts.now first.now).read × IsFoundFor listing at (first_typed listing) place) }
+    ensures { IfOk result (λ place. option_map position_of place ≡ first_type (reading texts.now first.now).read (position_of at)) }
 {
     let listing = listing_of(alloc, texts, first)?;
     Ok(first_type_in(&listing, at))
@@ -41,7 +41,7 @@ pub fn other_definition(
     first: &str,
     at: TextPlace,
 ) -> Result<Option<TextPlace>, AllocError>
-    ensures { IfOk result (λ place. (listing : Listing) × RepresentsListing listing (reading texts.now first.now).read × IsFoundFor listing at (other_place listing at) place) }
+    ensures { IfOk result (λ place. option_map position_of place ≡ other_definition (reading texts.now first.now).read (position_of at)) }
 {
     let listing = listing_of(alloc, texts, first)?;
     Ok(other_definition_in(&listing, at))
@@ -49,7 +49,7 @@ pub fn other_definition(
 
 /// The place of the first definition with a type of the symbol whose definition has this place.
 fn first_type_in(listing: &Listing, at: TextPlace) -> Option<TextPlace>
-    ensures { IsFoundFor listing.now at (first_typed listing.now) result }
+    ensures { result ≡ first_type_in listing.now at }
 {
     match definition_at(&listing.groups, at) {
         Some(symbol) => first_typed(listing, symbol),
@@ -59,7 +59,7 @@ fn first_type_in(listing: &Listing, at: TextPlace) -> Option<TextPlace>
 
 /// The place of another definition of the symbol whose definition has this place.
 fn other_definition_in(listing: &Listing, at: TextPlace) -> Option<TextPlace>
-    ensures { IsFoundFor listing.now at (other_place listing.now at) result }
+    ensures { result ≡ other_definition_in listing.now at }
 {
     match definition_at(&listing.groups, at) {
         Some(symbol) => other_place(listing, at, symbol),
@@ -116,7 +116,7 @@ fn begins_before(at: TextPlace, group: &Group) -> bool
 
 /// The number of the symbol whose definition has a place: that of the last line before it, or at it, where a definition begins.
 fn definition_at(groups: &[Group], at: TextPlace) -> Option<u32>
-    ensures { IsDefinitionAt groups.now at result }
+    ensures { result ≡ definition_at at (reverse groups.now) }
 {
     let mut found = None;
     let mut nearest = 0;

@@ -12,6 +12,9 @@ use Rattle.kmin_options.specs.declared.job.Expansion.{Expansion as DeclaredExpan
 use Rattle.kmin_options.specs.declared.job.Settings.{Settings as DeclaredSettings}
 use Rattle.kmin_options.specs.declared.job.TidyFlags.{TidyFlags}
 use Rattle.kmin_options.specs.declared.job.ExplainFlags.{ExplainFlags}
+use Rattle.kmin_options.specs.declared.job.MissedForm.{MissedForm}
+use Rattle.kmin_options.specs.declared.job.Question.{Question as DeclaredQuestion}
+use Rattle.kmin_options.specs.declared.job.Question.TheVariants.{Explain, Missed, Check}
 use Rattle.kmin_options.specs.declared.job.ExplainJob.{ExplainJob as DeclaredExplainJob}
 use Rattle.kmin_options.specs.declared.job.PathList.{PathList as DeclaredPathList}
 use Rattle.kmin_options.specs.declared.job.TidyJob.{TidyJob as DeclaredTidyJob}
@@ -55,12 +58,18 @@ pub record TidyJob : Type 0 where
   pub list : Option PathList
   pub files : List (List ℕ)
 
--- the command `explain`: its options, its flags, the names of symbols with commas between them (none with `--every`), and the
--- files, in order
+-- what is asked of reasons: of `explain` with these flags, why symbols of these names, with commas between them (none with
+-- `--every`), have their values; of `missed` in a form, why symbols don't have their assigned values; of `check`, which symbols are
+-- selected against their dependencies, and by what; of the last two whether the exit status says that there are any
+pub data Question : Type 0 where
+  explain : (flags : ExplainFlags) → (names : Option (List ℕ)) → Question
+  missed : (form : MissedForm) → (exit_code : Bool) → Question
+  check : (exit_code : Bool) → Question
+
+-- a command that gives reasons: its options, its question, and the files, in order
 pub record ExplainJob : Type 0 where
   pub settings : Settings
-  pub flags : ExplainFlags
-  pub names : Option (List ℕ)
+  pub question : Question
   pub files : List (List ℕ)
 
 -- the command `wants`: the folder of the tree, the path of its first Kconfig file there, where its macros' questions are answered,
@@ -115,12 +124,17 @@ tidy_job_view t = record {
   files = map (λ (path : Bor (List ℕ)). path.now) t.files.items;
 }
 
+-- a `Question` of the code, as contracts see it
+abbrev pub question_view : DeclaredQuestion → Question
+question_view (Explain flags names) = explain flags (option_map (λ (names : Bor (List ℕ)). names.now) names)
+question_view (Missed form exit_code) = missed form exit_code
+question_view (Check exit_code) = check exit_code
+
 -- an `ExplainJob` of the code, as contracts see it
 abbrev pub explain_job_view : DeclaredExplainJob → ExplainJob
 explain_job_view e = record {
   settings = settings_view e.settings;
-  flags = e.flags;
-  names = option_map (λ (names : Bor (List ℕ)). names.now) e.names;
+  question = question_view e.question;
   files = map (λ (path : Bor (List ℕ)). path.now) e.files.items;
 }
 

@@ -125,13 +125,43 @@ pub struct ExplainFlags {
     pub exit_code: bool,
 }
 
-/// The command `kmin explain`, with its options, flags, names and files.
+/// The forms in which `missed` says why symbols don't have their assigned values.
+#[derive(Clone, Copy, Debug, PartialEq, Eq)]
+pub enum MissedForm {
+    /// `--long`: a line for each symbol.
+    Lines,
+    /// `--by-cause`: the symbols below what keeps them.
+    Causes,
+}
+
+/// What is asked of reasons.
+#[derive(Clone, Copy)]
+pub enum Question<'a> {
+    /// `explain`: why symbols have their values.
+    Explain {
+        flags: ExplainFlags,
+        /// The names of symbols, with commas between them; `None` with `--every`.
+        names: Option<&'a str>,
+    },
+    /// `missed --long` and `missed --by-cause`: why symbols don't have their assigned values.
+    Missed {
+        form: MissedForm,
+        /// `--exit-code`: whether the exit status is 1 where a symbol is missed.
+        exit_code: bool,
+    },
+    /// `check --long`: what selects symbols against their dependencies, and which these are.
+    Check {
+        /// `--exit-code`: whether the exit status is 1 where there is such a symbol.
+        exit_code: bool,
+    },
+}
+
+/// A command that gives reasons, `kmin explain`, `kmin missed --long` or `--by-cause`, or `kmin check --long`, with its options and
+/// files.
 #[derive(Drop)]
 pub struct ExplainJob<'a> {
     pub settings: Settings<'a>,
-    pub flags: ExplainFlags,
-    /// The names of symbols, with commas between them; `None` with `--every`.
-    pub names: Option<&'a str>,
+    pub question: Question<'a>,
     pub files: Vec<&'a str>,
 }
 

@@ -9,8 +9,8 @@ mod values;
 
 pub use expansion_words::{check_inputs, expansion_if_given, expansion_of};
 pub use job::{
-    Definition, Expansion, ExplainFlags, ExplainJob, Job, OutputJob, PathList, Questions, Settings,
-    Task, TidyFlags, TidyJob, Verb,
+    Definition, Expansion, ExplainFlags, ExplainJob, Job, MissedForm, OutputJob, PathList,
+    Question, Questions, Settings, Task, TidyFlags, TidyJob, Verb,
 };
 pub use prefix_words::name_prefix_of;
 pub use refusal::Refusal;

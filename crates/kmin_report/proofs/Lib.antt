@@ -4,3 +4,4 @@ pub mod Lists
 pub mod Results
 pub mod CycleLines
 pub mod LastLines
+pub mod FileNameLemmas

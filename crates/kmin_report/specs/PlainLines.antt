@@ -22,10 +22,10 @@ message_line file line kind text = place_line file line (kind ++ after_space tex
 
 -- the bytes of a line of standard error in the plain spelling, with the newline at its end
 abbrev pub plain_line : ErrorLine → List ℕ
-plain_line (tree_line path number kind) = place_line path number (tree_kind_name kind)
+plain_line (tree_line path number kind read) = place_line path number (tree_kind_name kind)
 plain_line (cycle_line path number tree units) = place_line path number (codes "Cycle" ++ units_text tree units)
 plain_line (fault_line path number kind) = place_line path number (load_kind_name kind)
-plain_line (notice_line path notice) = place_line path notice.0 (notice_kind_name notice.1)
+plain_line (notice_line path notice names) = place_line path notice.0 (notice_kind_name notice.1)
 plain_line (answers_line path number kind) = place_line path number (answers_kind_name kind)
 plain_line (macro_notice_line notice) = message_line notice.at.file notice.at.line (macro_notice_name notice.kind) notice.text
 plain_line (macro_fault_line fault) = message_line fault.at.file fault.at.line (macro_kind_name fault.kind) fault.text

@@ -1,6 +1,7 @@
 //! Messages, the lines of standard error, and the statuses of runs that end early.
 #![tactic(auto)]
 
+mod file_names;
 mod messages;
 mod output;
 mod plain_messages;
@@ -8,6 +9,7 @@ mod report;
 mod run_error;
 mod symbol_names;
 
+pub use file_names::file_name;
 pub use messages::Messages;
 pub use output::{exit_status, write_answer};
 pub use plain_messages::PlainMessages;

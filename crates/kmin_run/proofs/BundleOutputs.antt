@@ -17,7 +17,7 @@ use Rattle.kc_dotconfig_model.specs.Formats.{FileFormat, plain_format}
 use Rattle.kc_dotconfig_model.specs.ConfigLines.{LineMeaning}
 use Rattle.kc_dotconfig_model.specs.ConfigFiles.{overlay, empty_assignment}
 use Rattle.kc_dotconfig.specs.declared.fragment.Fragment.{Fragment}
-use Rattle.kc_dotconfig.specs.ConfigStates.{Configured, IsSolved, tree_in}
+use Rattle.kc_config.specs.ConfigStates.{Configured, IsSolved, tree_in}
 use Rattle.kc_dotconfig.specs.Fragments.{users_of}
 use Rattle.kc_dotconfig.specs.ReadResults.{IsReadAs}
 use Rattle.kc_minimal_model.specs.FullFile.{full_file}
@@ -63,7 +63,7 @@ memory_stops text left format plain tree path after f g status taken taken_after
 pub memory_loaded : (text : List ℕ) (left : Option (List ℕ)) (format plain : FileFormat) (tree : Tree) (path : List ℕ) (after : Option (List ℕ))
     (before users : List (Option UserValue)) (fragment : Fragment) (taken taken_after : SpelledBytes) (failed failed_after : ℕ)
     → format ≡ plain → left ≡ Some text → IsReadAs format tree left after fragment
-    → TakesLines taken failed (fragment_notices path fragment) taken_after failed_after
+    → TakesLines taken failed (fragment_notices tree path fragment) taken_after failed_after
     → users ≡ overlay (users_of tree fragment.assigns.items) before
     → AreLoaded (bundle_content text) plain false tree (path ∷ []) before users taken failed taken_after failed_after
 memory_loaded text left format plain tree path after before users fragment taken taken_after failed failed_after p e h t u =
@@ -80,7 +80,7 @@ pub full_answers : (text : List ℕ) (format : FileFormat) (bytes : List ℕ) (c
     → bytes ≡ full_file format (tree_in config) config.values
     → (meanings : List (List LineMeaning)) × (values : List UnitValue) × Resolve (bundle_content text) (record bundle_settings { profile = profile_of settled })
     (tree_of_settled settled) (codes "config" ∷ []) meanings values
-    × (bytes ≡ full_file plain_format (tree_of_settled settled) values) × TakesLines taken failed (notice_lines (codes "config" ∷ []) meanings) taken_after
+    × (bytes ≡ full_file plain_format (tree_of_settled settled) values) × TakesLines taken failed (notice_lines (tree_of_settled settled) (codes "config" ∷ []) meanings) taken_after
     failed_after
 full_answers text format bytes config settled taken taken_after failed failed_after e p s l b = (
   l.meanings,
@@ -110,20 +110,20 @@ module _ (bundle tree configuration : List ℕ) (parts : IsBundle bundle tree co
         → IfOk r (λ text. (meanings : List (List LineMeaning)) × (values : List UnitValue) × Resolve (bundle_content configuration)
         (record bundle_settings { profile = profile_of rules }) (tree_of_settled rules) (codes "config" ∷ []) meanings values
         × (text.items ≡ full_file plain_format (tree_of_settled rules) values) × TakesLines middle failed_middle
-        (notice_lines (codes "config" ∷ []) meanings) taken_after failed_after)
+        (notice_lines (tree_of_settled rules) (codes "config" ∷ []) meanings) taken_after failed_after)
         → IfOk r (λ text. (notices : List ErrorLine) × AnswersBundle bundle text.items notices × TakesLines taken failed notices taken_after failed_after)
     bundle_answers (Err stop) h = tt
     bundle_answers (Ok text) h =
         let resolve : Resolve (bundle_content configuration) bundle_settings (tree_of_settled rules) (codes "config" ∷ []) h.0 h.1 = rw profile at h.2 in (
-          notice_lines (codes "config" ∷ []) h.0,
+          notice_lines (tree_of_settled rules) (codes "config" ∷ []) h.0,
           record {
             tree = tree;
             configuration = configuration;
             parts = parts;
             answers = of_files (tree_of_settled rules) Full (codes "config" ∷ []) h.0 h.1 refl accepted resolve h.3 refl (λ e. absurd (false≢true e))
-                (sym (ap (λ ps. notice_lines (codes "config" ∷ []) h.0 ++ choice_notice_lines (codes "config" ∷ []) ps)
+                (sym (ap (λ ps. notice_lines (tree_of_settled rules) (codes "config" ∷ []) h.0 ++ choice_notice_lines (codes "config" ∷ []) ps)
                 (strict_choices (tree_of_settled rules) h.1 h.0 (ap (λ (t : Tree). t.language) accepted.read.3 ∙ language_of_groups Strict accepted.read.0))
-                ∙ append-nil (notice_lines (codes "config" ∷ []) h.0)));
+                ∙ append-nil (notice_lines (tree_of_settled rules) (codes "config" ∷ []) h.0)));
           },
           lines_append taken middle failed failed_middle [] _ taken_after failed_after before h.4,
         )

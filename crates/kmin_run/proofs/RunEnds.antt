@@ -95,7 +95,7 @@ module _ (known : Surroundings) (counted counted_after : ℕ) (old new : Outputs
         )
   ]
 
-  -- the command `explain` ends as `ExplainEnds` defines, by its clauses
+  -- `explain`, or `missed` or `check` with reasons, ends as `ExplainEnds` defines, by its clauses
   pub explain_ended : (job : ExplainJob)
       → ((status ≡ 0) ⊎ (status ≡ 1) → (t : TreeTexts) × (text : List ℕ) × (lines : List ErrorLine) × AreTextsOfJob known job.settings t
       × Explains known.content job t text status lines × Appends old.taken new.taken text × TakesLines taken failed lines taken_after failed_after)

@@ -57,7 +57,7 @@ pub data QuestionsEnd (known : Surroundings) (counted counted_after : ℕ) (ques
       → WritesAtMost (AsksInPart known counted counted_after questions old.taken new.taken) old new status → new.disk ≡ old.disk → lines ≡ own ++ last_lines status
       → QuestionsEnd known counted counted_after questions old new lines status
 
--- The command `explain` ends: its output is written, and no write failed; or it ended without its whole output. The disk is
+-- `explain`, or `missed` or `check` with reasons, ends: its output is written, and no write failed; or it ended without its whole output. The disk is
 -- unchanged.
 pub data ExplainEnds (known : Surroundings) (counted counted_after : ℕ) (job : ExplainJob) (old new : Outputs) (lines : List ErrorLine) (status : ℕ) : Type 0 where
   done : (t : TreeTexts) (text : List ℕ) → AreTextsOfJob known job.settings t → Explains known.content job t text status lines

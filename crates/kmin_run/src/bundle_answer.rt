@@ -20,7 +20,8 @@ ghost use Rattle.kmin_report.specs.between.RunErrors.{status_of};
 ghost use Rattle.kmin_trees.specs.between.TreeStops.{StopsAtTexts};
 
 use crate::bundle::{cut, read_whole};
-use kc_dotconfig::{Config, Format};
+use kc_config::Config;
+use kc_dotconfig::Format;
 use kc_minimal::full_text;
 use kc_rules::{Profile, Settled};
 use kc_tree::Texts;
@@ -89,15 +90,7 @@ fn bundle_tree<E: Messages>(
     texts.insert("Kconfig", tree)?;
     let read = read_texts(alloc, &texts, "Kconfig");
     let names = FileNames::of_texts(&texts);
-    settled_tree(
-        alloc,
-        &texts,
-        &names,
-        "Kconfig",
-        read,
-        Profile::Present,
-        err,
-    )
+    settled_tree(alloc, &names, "Kconfig", read, Profile::Present, err)
 }
 
 /// The full file of a bundle's configuration over a settled tree, in the plain format. Reports the configuration's
@@ -108,7 +101,7 @@ fn full_over<E: Messages>(
     configuration: &[u8],
     err: &mut E,
 ) -> Result<Vec<u8>, RunError>
-    ensures ok { IfOk result (λ text. (meanings : List (List LineMeaning)) × (values : List UnitValue) × Resolve (bundle_content configuration.now) (record bundle_settings { profile = profile_of settled.now }) (tree_of_settled settled.now) (codes "config" ∷ []) meanings values × (text.items ≡ full_file plain_format (tree_of_settled settled.now) values) × TakesLines (E.taken err.old) (E.failures err.old) (notice_lines (codes "config" ∷ []) meanings) (E.taken err.new) (E.failures err.new)) }
+    ensures ok { IfOk result (λ text. (meanings : List (List LineMeaning)) × (values : List UnitValue) × Resolve (bundle_content configuration.now) (record bundle_settings { profile = profile_of settled.now }) (tree_of_settled settled.now) (codes "config" ∷ []) meanings values × (text.items ≡ full_file plain_format (tree_of_settled settled.now) values) × TakesLines (E.taken err.old) (E.failures err.old) (notice_lines (tree_of_settled settled.now) (codes "config" ∷ []) meanings) (E.taken err.new) (E.failures err.new)) }
     ensures unfailed { result ≢ Err RunError.Failed }
     ensures stopped { IfErr result (λ stop. (lines : List ErrorLine) × StopsAmongFiles (bundle_content configuration.now) plain_format false (tree_of_settled settled.now) (codes "config" ∷ []) (status_of stop) lines × TakesLines (E.taken err.old) (E.failures err.old) lines (E.taken err.new) (E.failures err.new)) }
 {

@@ -7,7 +7,7 @@ use Rattle.kmin_faults.specs.declared.steps.Step.{Step as CodeStep}
 use Rattle.kmin_report.specs.StandardError.{Detail}
 use Rattle.kmin_report.proofs.Lists.{map_twice}
 use Rattle.kmin_texts.specs.LineDetails.{of_cycle, of_steps, spaced, words}
-use Rattle.kmin_texts.specs.Texts.{cycle_text}
+use Rattle.kmin_details.specs.Texts.{cycle_text}
 
 module _ (tree : Tree) (units : List ℕ) (names : List (List ℕ)) (are : names ≡ unit_names tree units) (found : Option (List Step))
     (steps : found ≡ cycle_steps tree units names) where

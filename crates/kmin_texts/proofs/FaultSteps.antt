@@ -1,19 +1,24 @@
 -- The details of faults, by their lines.
-use Rattle.std.proofs.Common.{◌≡◌, ◌⊎◌, inl, inr, ℕ, Bool, true, false, ◌||◌, ◌==◌, cond, List, [], ◌∷◌, ◌++◌, Option, Some, None, codes, refl, sym, ap, subst, ◌∙◌}
+use Rattle.std.proofs.Common.{◌≡◌, ◌⊎◌, inl, inr, ℕ, Bool, true, false, ◌||◌, ◌==◌, cond, List, [], ◌∷◌, ◌++◌, Option, Some, None, Result, Ok, Err, codes, refl, sym, ap, subst, ◌∙◌}
+use Rattle.std.specs.List.{flat_map}
 use Rattle.std.specs.Str.Lossy.{utf8_lossy}
 use Rattle.std.proofs.Math.Bool.{or-true}
 use Rattle.kc_tokens.specs.declared.language.Language.{Language}
+use Rattle.kc_tree_model.specs.Blocks.{Position}
+use Rattle.kc_tree_model.specs.TreeFiles.{Files, path_at}
 use Rattle.kc_macros_model.specs.Programs.{Fault}
 use Rattle.kc_macros_model.specs.declared.fault.MacroKind.TheVariants.{TooMany}
 use Rattle.kmin_report.specs.StandardError.{Detail}
 use Rattle.kmin_faults.specs.SourcedPaths.{is_open}
 use Rattle.kmin_faults.specs.declared.passed_limits.Limit.TheVariants.{TreeBytes}
-use Rattle.kmin_texts.specs.KnownLines.{IsLineOf}
-use Rattle.kmin_texts.specs.LineDetails.{has_macro, is_first_place, is_given, is_of_macro_fault, is_of_missing, is_one_of, limit_details, of_limit, of_line, on_expanded_line, path_details, sourced, sourced_on, unread, words}
+use Rattle.kmin_texts.specs.KnownLines.{KnownFile, MayBeReason, MayBeUnread}
+use Rattle.kmin_texts.specs.LineDetails.{has_macro, is_given, is_of_macro_fault, is_of_missing, is_one_of, never, of_limit, of_line, of_path, of_place, on_expanded_line, path_details, reasons, sourced, sourced_on, unread, words}
 use Rattle.kmin_texts.specs.NumberedLines.{line_at, utf8_line}
-use Rattle.kmin_texts.specs.Texts.{first_place_text}
+use Rattle.kmin_details.specs.Texts.{first_place_text, missing_text, unreadable_text}
+use Rattle.kmin_details.specs.declared.places.Unreadable.{Unreadable}
+use Rattle.kmin_details.specs.declared.places.Unreadable.TheVariants.{NotThere, NoPermission, Folder, FailedRead}
 use Rattle.kmin_texts.specs.between.KeptDetails.{HasMacroAt, MayBe}
-use Rattle.kmin_texts.proofs.OwnDetails.{first_one, may_also}
+use Rattle.kmin_texts.proofs.OwnDetails.{first_one, later_one}
 
 -- words of a line
 pub words_of : (f : List ℕ → List ℕ) (text given : List ℕ) → given ≡ f text → is_one_of (of_line (λ t. words (f t) ∷ []) (Some text)) (words given) ≡ true
@@ -24,43 +29,118 @@ pub on_utf8 : (f : List ℕ → List Detail) (line text : List ℕ) (d : Detail)
     → MayBe (is_one_of (of_line f (utf8_line (Some line)))) d
 on_utf8 f line text d utf8 h = subst (λ o. MayBe (is_one_of (of_line f o)) d) (sym utf8) h
 
--- the place of a first definition
-pub first_place : (path : List ℕ) (line : ℕ) → is_first_place (words (first_place_text path line)) ≡ true
-first_place path line = refl
+-- a place that is found, with the name of its file
+pub at_path : (root : List ℕ) (names : Files) (place : Position) (path text : List ℕ) → Some path ≡ path_at names place.file → text ≡ root ++ 47 ∷ path
+    → is_one_of (of_place root names (Some place)) (words (first_place_text text place.line)) ≡ true
+at_path root names place path text found e =
+    subst (λ o. is_one_of (of_path root o place.line) (words (first_place_text text place.line)) ≡ true) found
+    (subst (λ t. is_one_of (words (first_place_text t place.line) ∷ []) (words (first_place_text text place.line)) ≡ true) e
+    (first_one (words (first_place_text text place.line)) []))
 
 -- a path that a line sources
-pub open_path : (path : List ℕ) (d : Detail) → is_open path ≡ true → is_one_of (words (utf8_lossy path) ∷ []) d ≡ true
-    → is_one_of (sourced (Some path)) d ≡ true
-open_path path d o h = subst (λ b. is_one_of (cond b (words (utf8_lossy path) ∷ []) (path_details path)) d ≡ true) (sym o) h
+pub open_path : (known_of : List ℕ → KnownFile) (path : List ℕ) (d : Detail) → is_open path ≡ true → is_one_of (words (utf8_lossy path) ∷ []) d ≡ true
+    → is_one_of (sourced known_of (Some path)) d ≡ true
+open_path known_of path d o h =
+    subst (λ b. is_one_of (cond b (words (utf8_lossy path) ∷ []) (path_details (known_of path) path)) d ≡ true) (sym o) h
 
-pub plain_path : (path : List ℕ) (d : Detail) → is_open path ≡ false → is_one_of (path_details path) d ≡ true → is_one_of (sourced (Some path)) d ≡ true
-plain_path path d o h = subst (λ b. is_one_of (cond b (words (utf8_lossy path) ∷ []) (path_details path)) d ≡ true) (sym o) h
+pub plain_path : (known_of : List ℕ → KnownFile) (path : List ℕ) (d : Detail) → is_open path ≡ false → is_one_of (path_details (known_of path) path) d ≡ true
+    → is_one_of (sourced known_of (Some path)) d ≡ true
+plain_path known_of path d o h =
+    subst (λ b. is_one_of (cond b (words (utf8_lossy path) ∷ []) (path_details (known_of path) path)) d ≡ true) (sym o) h
+
+pub may_plain_path : (known_of : List ℕ → KnownFile) (path : List ℕ) (d : Detail) → is_open path ≡ false → MayBe (is_one_of (path_details (known_of path) path)) d
+    → MayBe (is_one_of (sourced known_of (Some path))) d
+may_plain_path known_of path d o (inl none) = inl none
+may_plain_path known_of path d o (inr is) = inr (plain_path known_of path d o is)
+
+-- the details for some reasons
+abbrev for_reasons : (path : List ℕ) → List Unreadable → List Detail
+for_reasons path whys = flat_map (λ why. words (missing_text path why) ∷ words (unreadable_text why) ∷ []) whys
+
+first_shown : (path : List ℕ) (why : Unreadable) (others : List Unreadable) → is_one_of (for_reasons path (why ∷ others)) (words (missing_text path why)) ≡ true
+first_shown path why others = first_one (words (missing_text path why)) (words (unreadable_text why) ∷ for_reasons path others)
+
+first_hidden : (path : List ℕ) (why : Unreadable) (others : List Unreadable) → is_one_of (for_reasons path (why ∷ others)) (words (unreadable_text why)) ≡ true
+first_hidden path why others =
+    later_one (words (unreadable_text why)) (words (missing_text path why)) (words (unreadable_text why) ∷ for_reasons path others)
+    (first_one (words (unreadable_text why)) (for_reasons path others))
+
+later_reason : (path : List ℕ) (why : Unreadable) (others : List Unreadable) (d : Detail) → is_one_of (for_reasons path others) d ≡ true
+    → is_one_of (for_reasons path (why ∷ others)) d ≡ true
+later_reason path why others d h =
+    later_one d (words (missing_text path why)) (words (unreadable_text why) ∷ for_reasons path others)
+    (later_one d (words (unreadable_text why)) (for_reasons path others) h)
+
+-- a detail of any reason is one for all reasons, and so is one of a path alone
+any_reason : (path : List ℕ) (say : Unreadable → Detail) (why : Unreadable)
+    → ((w : Unreadable) (others : List Unreadable) → is_one_of (for_reasons path (w ∷ others)) (say w) ≡ true)
+    → is_one_of (for_reasons path (reasons None)) (say why) ≡ true
+any_reason path say NotThere first = first NotThere (NoPermission ∷ Folder ∷ FailedRead ∷ [])
+any_reason path say NoPermission first =
+    later_reason path NotThere (NoPermission ∷ Folder ∷ FailedRead ∷ []) (say NoPermission) (first NoPermission (Folder ∷ FailedRead ∷ []))
+any_reason path say Folder first =
+    later_reason path NotThere (NoPermission ∷ Folder ∷ FailedRead ∷ []) (say Folder)
+    (later_reason path NoPermission (Folder ∷ FailedRead ∷ []) (say Folder) (first Folder (FailedRead ∷ [])))
+any_reason path say FailedRead first =
+    later_reason path NotThere (NoPermission ∷ Folder ∷ FailedRead ∷ []) (say FailedRead)
+    (later_reason path NoPermission (Folder ∷ FailedRead ∷ []) (say FailedRead)
+    (later_reason path Folder (FailedRead ∷ []) (say FailedRead) (first FailedRead [])))
+
+-- a detail for a reason that a file may have
+for_path : (known : KnownFile) (path : List ℕ) (say : Unreadable → Detail) (why : Unreadable) → MayBeUnread known why
+    → ((w : Unreadable) (others : List Unreadable) → is_one_of (for_reasons path (w ∷ others)) (say w) ≡ true)
+    → is_one_of (path_details known path) (say why) ≡ true
+for_path None path say why h first =
+    later_one (say why) (words (utf8_lossy path)) (for_reasons path (reasons None)) (any_reason path say why first)
+for_path (Some (Err known)) path say why h first = subst (λ w. is_one_of (for_reasons path (w ∷ [])) (say why) ≡ true) h (first why [])
+for_path (Some (Ok bytes)) path say why h first =
+    later_one (say why) (words (utf8_lossy path)) (for_reasons path (FailedRead ∷ []))
+    (subst (λ w. is_one_of (for_reasons path (w ∷ [])) (say why) ≡ true) h (first why []))
+
+pub shown_reason : (known : KnownFile) (path : List ℕ) (why : Unreadable) → MayBeUnread known why
+    → is_one_of (path_details known path) (words (missing_text path why)) ≡ true
+shown_reason known path why h = for_path known path (λ w. words (missing_text path w)) why h (first_shown path)
+
+pub hidden_reason : (known : KnownFile) (path : List ℕ) (why : Unreadable) → MayBeUnread known why
+    → is_one_of (path_details known path) (words (unreadable_text why)) ≡ true
+hidden_reason known path why h = for_path known path (λ w. words (unreadable_text w)) why h (first_hidden path)
+
+pub may_hide_reason : (known : KnownFile) (path : List ℕ) (why : Unreadable) → MayBeUnread known why
+    → MayBe (is_one_of (path_details known path)) (words (unreadable_text why))
+may_hide_reason known path why h = inr (hidden_reason known path why h)
+
+-- a path alone, of a file that may be one that can be read
+pub alone : (known : KnownFile) (path : List ℕ) → MayBeReason known None → is_one_of (path_details known path) (words (utf8_lossy path)) ≡ true
+alone None path h = first_one (words (utf8_lossy path)) (for_reasons path (reasons None))
+alone (Some (Err why)) path h = absurd h
+alone (Some (Ok bytes)) path h = first_one (words (utf8_lossy path)) (for_reasons path (FailedRead ∷ []))
 
 -- a file that an expansion can't open: any path where the line has a macro, else as without one
-pub of_macro : (language : Language) (known : Option (Option (List ℕ))) (path : List ℕ) (number : ℕ) (d : Detail) → HasMacroAt known number
-    → is_of_missing language known path number d ≡ true
-of_macro language None path number d h = refl
-of_macro language (Some None) path number d h = absurd h
-of_macro language (Some (Some bytes)) path number d h =
-    ap (λ b. b || is_one_of unread d || is_one_of (sourced_on language path (line_at bytes number)) d) h
+pub of_macro : (language : Language) (known_of : List ℕ → KnownFile) (known : KnownFile) (path : List ℕ) (number : ℕ) (d : Detail) → HasMacroAt known number
+    → is_of_missing language known_of known path number d ≡ true
+of_macro language known_of None path number d h = refl
+of_macro language known_of (Some (Err why)) path number d h = absurd h
+of_macro language known_of (Some (Ok bytes)) path number d h =
+    ap (λ b. b || is_one_of (unread FailedRead) d || is_one_of (sourced_on known_of language path (line_at bytes number)) d) h
 
-pub of_missing : (language : Language) (known : Option (Option (List ℕ))) (path : List ℕ) (number : ℕ) (d : Detail)
-    → is_given known (λ bytes. sourced_on language path (line_at bytes number)) unread d ≡ true → is_of_missing language known path number d ≡ true
-of_missing language None path number d h = refl
-of_missing language (Some None) path number d h = h
-of_missing language (Some (Some bytes)) path number d h = either_way (has_macro (line_at bytes number)) (is_one_of unread d) _ h
+pub of_missing : (language : Language) (known_of : List ℕ → KnownFile) (known : KnownFile) (path : List ℕ) (number : ℕ) (d : Detail)
+    → is_given known (λ bytes. sourced_on known_of language path (line_at bytes number)) unread d ≡ true
+    → is_of_missing language known_of known path number d ≡ true
+of_missing language known_of None path number d h = refl
+of_missing language known_of (Some (Err why)) path number d h = h
+of_missing language known_of (Some (Ok bytes)) path number d h = either_way (has_macro (line_at bytes number)) (is_one_of (unread FailedRead) d) _ h
   where
     either_way : (a b c : Bool) → (b || c) ≡ true → (a || b || c) ≡ true
     either_way true b c h = refl
     either_way false b c h = h
 
 -- the limit of an expansion, at a line or of all files
-pub of_all_files : (language : Language) (known : Option (Option (List ℕ))) (fault : Fault) (d : Detail) → (fault.at.line == 0) ≡ true
-    → is_one_of (of_limit (Some TreeBytes)) d ≡ true → is_of_macro_fault language known fault TooMany d ≡ true
-of_all_files language known fault d z h =
-    subst (λ b. cond b (is_one_of (of_limit (Some TreeBytes)) d) (is_given known (λ bytes. on_expanded_line (line_at bytes fault.at.line)) [] d) ≡ true) (sym z) h
+pub of_all_files : (language : Language) (known_of : List ℕ → KnownFile) (fault : Fault) (d : Detail) → (fault.at.line == 0) ≡ true
+    → is_one_of (of_limit (Some TreeBytes)) d ≡ true → is_of_macro_fault language known_of fault TooMany d ≡ true
+of_all_files language known_of fault d z h =
+    subst (λ b. cond b (is_one_of (of_limit (Some TreeBytes)) d) (is_given (known_of fault.at.file) (λ bytes. on_expanded_line (line_at bytes fault.at.line)) never d) ≡ true) (sym z) h
 
-pub of_expanded : (language : Language) (known : Option (Option (List ℕ))) (fault : Fault) (d : Detail) → (fault.at.line == 0) ≡ false
-    → is_given known (λ bytes. on_expanded_line (line_at bytes fault.at.line)) [] d ≡ true → is_of_macro_fault language known fault TooMany d ≡ true
-of_expanded language known fault d z h =
-    subst (λ b. cond b (is_one_of (of_limit (Some TreeBytes)) d) (is_given known (λ bytes. on_expanded_line (line_at bytes fault.at.line)) [] d) ≡ true) (sym z) h
+pub of_expanded : (language : Language) (known_of : List ℕ → KnownFile) (fault : Fault) (d : Detail) → (fault.at.line == 0) ≡ false
+    → is_given (known_of fault.at.file) (λ bytes. on_expanded_line (line_at bytes fault.at.line)) never d ≡ true → is_of_macro_fault language known_of fault TooMany d ≡ true
+of_expanded language known_of fault d z h =
+    subst (λ b. cond b (is_one_of (of_limit (Some TreeBytes)) d) (is_given (known_of fault.at.file) (λ bytes. on_expanded_line (line_at bytes fault.at.line)) never d) ≡ true) (sym z) h

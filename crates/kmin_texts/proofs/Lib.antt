@@ -1,9 +1,4 @@
-pub mod CycleTexts
-pub mod ChangeBounds
-pub mod NearSteps
-pub mod OneLines
 pub mod NumberedLines
-pub mod SymbolNames
 pub mod OwnDetails
 pub mod OtherKinds
 pub mod FaultSteps

@@ -1,10 +1,5 @@
-pub mod NearNames
-pub mod Texts
-pub mod LineTexts
-pub mod OneLines
 pub mod NumberedLines
 pub mod KnownLines
 pub mod LineDetails
-pub mod ReportMessages
 pub mod Spellings
 pub mod between

@@ -4,8 +4,8 @@ use Rattle.std.specs.Str.{is_utf8}
 use Rattle.kc_value.specs.Lines.{pieces}
 use Rattle.kc_dotconfig_model.specs.declared.fault.LoadKind.{LoadKind}
 use Rattle.kc_dotconfig_model.specs.declared.notice.NoticeKind.{NoticeKind}
-use Rattle.kmin_texts.specs.LineTexts.{file_line_text}
-use Rattle.kmin_texts.specs.between.NamedSymbols.{notice_text, notice_names}
+use Rattle.kmin_details.specs.LineTexts.{file_line_text}
+use Rattle.kmin_details.specs.between.NamedSymbols.{notice_text, notice_names}
 
 -- the line of a file with this number, counted from 1, without its newline; None if there is none
 abbrev pub line_at : (bytes : List ℕ) (number : ℕ) → Option (List ℕ)

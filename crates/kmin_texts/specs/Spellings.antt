@@ -8,7 +8,7 @@ use Rattle.kmin_report.specs.PlainLines.{plain_line}
 use Rattle.kmin_report.specs.StandardError.{Detail, SpelledBytes}
 use Rattle.kmin_texts.specs.KnownLines.{KnownLines}
 use Rattle.kmin_texts.specs.LineDetails.{is_detail_of, no_detail}
-use Rattle.kmin_texts.specs.ReportMessages.{line_in}
+use Rattle.kmin_details.specs.ReportMessages.{line_in}
 
 -- a form of messages, and what their texts are read by: the folder of the tree, its language, and the prefix of names in configuration
 -- files

@@ -1,7 +1,3 @@
-pub mod FewestChanges
-pub mod NamedSymbols
-pub mod Details
 pub mod KeptDetails
 pub mod NoticeDetails
-pub mod MessageLines
 pub mod Wordings

@@ -1,29 +1,28 @@
 //! The details of faults, by the files and the tree that they are of.
-ghost use Rattle.std.specs.Prelude.{◌≡◌, ◌==◌, ℕ, true, List, [], Some, Option, IfOk, IfSome, option_map};
+ghost use Rattle.std.specs.Prelude.{◌≡◌, ◌==◌, ℕ, true, List, Some, IfOk, IfSome, option_map};
 ghost use Rattle.std.specs.Global.{Vec};
 ghost use Rattle.std.specs.List.{list_any};
 ghost use Rattle.kc_dotconfig_model.specs.between.Prefixes.{prefix_bytes};
 ghost use Rattle.kc_macros.specs.Runs.{fault_of};
 ghost use Rattle.kc_macros_model.specs.declared.fault.MacroKind.TheVariants.{TooMany};
 ghost use Rattle.kmin_report.specs.between.ReportLines.{report_line};
-ghost use Rattle.kmin_texts.specs.KnownLines.{IsReread};
-ghost use Rattle.kmin_texts.specs.LineDetails.{is_detail_of, is_given, is_of_macro_fault, is_of_missing, is_one_of, no_detail, on_answers_line, on_expanded_line, on_file_line, on_tree_line, path_details, sourced, sourced_on, unread, unread_answers, unread_file};
+ghost use Rattle.kmin_texts.specs.KnownLines.{IsReread, KnownFile};
+ghost use Rattle.kmin_texts.specs.LineDetails.{is_detail_of, is_given, is_of_macro_fault, is_of_missing, is_one_of, never, no_detail, on_answers_line, on_expanded_line, on_file_line, on_tree_line, path_details, sourced, sourced_on, unread, unread_answers, unread_file};
 ghost use Rattle.kmin_texts.specs.NumberedLines.{line_at};
 ghost use Rattle.kmin_texts.specs.declared.line_files.Reread.TheVariants.{Hidden};
-ghost use Rattle.kmin_texts.specs.between.KeptDetails.{HasMacroAt, MayBe, kept_detail};
+ghost use Rattle.kmin_texts.specs.between.KeptDetails.{HasMacroAt, MayBe, hidden_kept, kept_detail};
 
 use crate::form_messages::Wording;
 use crate::kept_details::{KeptDetail, hidden, limit_detail, path_detail};
-use crate::kinds::{file_line_text, tree_line_text};
 use crate::line_files::{LineFiles, Reread};
-use crate::line_words::{first_run, first_word};
 use crate::numbered_lines::text_of;
-use crate::text_details::{TreeTexts, first_detail, passed_limit, text_place};
+use crate::text_details::{TreeTexts, first_detail, passed_limit};
 use kc_dotconfig_model::LoadKind;
 use kc_macros::MacroFault;
 use kc_macros_model::{AnswersKind, MacroKind};
 use kc_tokens::Language;
 use kc_tree_model::TreeKind;
+use kmin_details::{file_line_text, first_run, first_word, tree_line_text};
 use kmin_faults::{Limit, expansion_limit, is_open, sourced_path};
 use kmin_report::Report;
 use std::alloc::{AllocError, Global};
@@ -53,11 +52,13 @@ pub(crate) fn fault_detail<L: LineFiles>(
                 first,
                 expanded: *expanded,
             };
-            let at = text_place(*file, *line);
             match kind {
-                TreeKind::TooMany => passed_limit(alloc, &tree, at),
-                TreeKind::TypeConflict | TreeKind::ChoiceMember => {
-                    first_detail(alloc, wording.root, &tree, *kind, at)
+                TreeKind::TooMany => passed_limit(alloc, &tree, *file, *line),
+                TreeKind::TypeConflict => {
+                    first_detail(alloc, wording.root, &tree, true, *file, *line)
+                }
+                TreeKind::ChoiceMember => {
+                    first_detail(alloc, wording.root, &tree, false, *file, *line)
                 }
                 TreeKind::MissingFile => { missing_at(alloc, wording, path, *line, files) }
                 _ => tree_detail(alloc, wording, path, *line, *kind, files),
@@ -87,7 +88,7 @@ fn tree_detail<L: LineFiles>(
     kind: TreeKind,
     files: &mut L,
 ) -> Result<KeptDetail, AllocError>
-    ensures { IfOk result (λ detail. MayBe (is_given (L.known.tree wording.now.root.now path.now) (λ bytes. on_tree_line wording.now.language kind (line_at bytes line)) []) (kept_detail detail)) }
+    ensures { IfOk result (λ detail. MayBe (is_given (L.known.tree wording.now.root.now path.now) (λ bytes. on_tree_line wording.now.language kind (line_at bytes line)) never) (kept_detail detail)) }
 {
     let reread = files.tree_line(alloc, wording.root, path, line)?;
     tree_line_detail(alloc, wording.language, kind, &reread)
@@ -100,8 +101,8 @@ fn tree_line_detail(
     kind: TreeKind,
     reread: &Reread,
 ) -> Result<KeptDetail, AllocError>
-    ensures given { (known : Option (Option (List ℕ))) (number : ℕ) → IsReread known number reread.now
-        → IfOk result (λ detail. MayBe (is_given known (λ bytes. on_tree_line language kind (line_at bytes number)) []) (kept_detail detail)) }
+    ensures given { (known : KnownFile) (number : ℕ) → IsReread known number reread.now
+        → IfOk result (λ detail. MayBe (is_given known (λ bytes. on_tree_line language kind (line_at bytes number)) never) (kept_detail detail)) }
     ensures hidden { (line : Vec ℕ) → reread.now ≡ Hidden line → IfOk result (λ detail. kept_detail detail ≡ no_detail) }
 {
     match reread {
@@ -130,7 +131,7 @@ fn shown_detail(
 
 /// The detail of a fault of a configuration file.
 fn file_detail(alloc: Global, kind: LoadKind, reread: &Reread) -> Result<KeptDetail, AllocError>
-    ensures given { (known : Option (Option (List ℕ))) (number : ℕ) → IsReread known number reread.now
+    ensures given { (known : KnownFile) (number : ℕ) → IsReread known number reread.now
         → IfOk result (λ detail. MayBe (is_given known (λ bytes. on_file_line kind (line_at bytes number)) (unread_file kind)) (kept_detail detail)) }
     ensures hidden { (line : Vec ℕ) → reread.now ≡ Hidden line → IfOk result (λ detail. kept_detail detail ≡ no_detail) }
 {
@@ -153,7 +154,7 @@ fn answers_detail(
     kind: AnswersKind,
     reread: &Reread,
 ) -> Result<KeptDetail, AllocError>
-    ensures given { (known : Option (Option (List ℕ))) (number : ℕ) → IsReread known number reread.now
+    ensures given { (known : KnownFile) (number : ℕ) → IsReread known number reread.now
         → IfOk result (λ detail. MayBe (is_given known (λ bytes. on_answers_line kind (line_at bytes number)) (unread_answers kind)) (kept_detail detail)) }
     ensures hidden { (line : Vec ℕ) → reread.now ≡ Hidden line → IfOk result (λ detail. kept_detail detail ≡ no_detail) }
 {
@@ -181,7 +182,7 @@ fn macro_detail<L: LineFiles>(
     missing: Option<&[u8]>,
     files: &mut L,
 ) -> Result<KeptDetail, AllocError>
-    ensures { IfOk result (λ detail. MayBe (is_of_macro_fault wording.now.language (L.known.tree wording.now.root.now (fault_of fault.now).at.file) (fault_of fault.now) fault.now.kind) (kept_detail detail)) }
+    ensures { IfOk result (λ detail. MayBe (is_of_macro_fault wording.now.language (L.known.tree wording.now.root.now) (fault_of fault.now) fault.now.kind) (kept_detail detail)) }
 {
     match fault.kind {
         MacroKind::MissingFile => macro_missing(alloc, wording, fault, missing, files),
@@ -200,7 +201,7 @@ fn macro_limit<L: LineFiles>(
     fault: &MacroFault,
     files: &mut L,
 ) -> Result<KeptDetail, AllocError>
-    ensures { IfOk result (λ detail. MayBe (is_of_macro_fault wording.now.language (L.known.tree wording.now.root.now (fault_of fault.now).at.file) (fault_of fault.now) TooMany) (kept_detail detail)) }
+    ensures { IfOk result (λ detail. MayBe (is_of_macro_fault wording.now.language (L.known.tree wording.now.root.now) (fault_of fault.now) TooMany) (kept_detail detail)) }
 {
     if fault.line == 0 {
         return Ok(KeptDetail::Limit(Limit::TreeBytes));
@@ -211,8 +212,8 @@ fn macro_limit<L: LineFiles>(
 
 /// The limit that a line passes in the expansion of its tree, if that is known.
 fn expansion_detail(reread: &Reread) -> KeptDetail
-    ensures { (known : Option (Option (List ℕ))) (number : ℕ) → IsReread known number reread.now
-        → MayBe (is_given known (λ bytes. on_expanded_line (line_at bytes number)) []) (kept_detail result) }
+    ensures { (known : KnownFile) (number : ℕ) → IsReread known number reread.now
+        → MayBe (is_given known (λ bytes. on_expanded_line (line_at bytes number)) never) (kept_detail result) }
 {
     match reread {
         Reread::Shown(line) | Reread::Hidden(line) => expanded_line_detail(line),
@@ -235,7 +236,7 @@ fn macro_missing<L: LineFiles>(
     missing: Option<&[u8]>,
     files: &mut L,
 ) -> Result<KeptDetail, AllocError>
-    ensures { IfOk result (λ detail. MayBe (is_of_missing wording.now.language (L.known.tree wording.now.root.now (fault_of fault.now).at.file) (fault_of fault.now).at.file (fault_of fault.now).at.line) (kept_detail detail)) }
+    ensures { IfOk result (λ detail. MayBe (is_of_missing wording.now.language (L.known.tree wording.now.root.now) (L.known.tree wording.now.root.now (fault_of fault.now).at.file) (fault_of fault.now).at.file (fault_of fault.now).at.line) (kept_detail detail)) }
 {
     let file = fault.file.as_slice();
     let reread = files.tree_line(alloc, wording.root, file, fault.line)?;
@@ -247,7 +248,7 @@ fn macro_missing<L: LineFiles>(
 
 /// The path `missing`, where it is that of a line with a macro, whose words may be shown.
 fn macro_path<'a>(reread: &Reread, missing: Option<&'a [u8]>) -> Option<&'a [u8]>
-    ensures has_macro { (known : Option (Option (List ℕ))) (number : ℕ) → IsReread known number reread.now → IfSome result (λ _. HasMacroAt known number) }
+    ensures has_macro { (known : KnownFile) (number : ℕ) → IsReread known number reread.now → IfSome result (λ _. HasMacroAt known number) }
     ensures shown { (line : Vec ℕ) → reread.now ≡ Hidden line → IfSome result (λ _. ⊥) }
 {
     match reread {
@@ -271,7 +272,7 @@ fn missing_at<L: LineFiles>(
     line: u32,
     files: &mut L,
 ) -> Result<KeptDetail, AllocError>
-    ensures { IfOk result (λ detail. MayBe (is_given (L.known.tree wording.now.root.now file.now) (λ bytes. sourced_on wording.now.language file.now (line_at bytes line)) unread) (kept_detail detail)) }
+    ensures { IfOk result (λ detail. MayBe (is_given (L.known.tree wording.now.root.now file.now) (λ bytes. sourced_on (L.known.tree wording.now.root.now) wording.now.language file.now (line_at bytes line)) unread) (kept_detail detail)) }
 {
     let reread = files.tree_line(alloc, wording.root, file, line)?;
     missing_detail(alloc, wording, file, &reread, files)
@@ -285,8 +286,8 @@ fn missing_detail<L: LineFiles>(
     reread: &Reread,
     files: &mut L,
 ) -> Result<KeptDetail, AllocError>
-    ensures { (known : Option (Option (List ℕ))) (number : ℕ) → IsReread known number reread.now
-        → IfOk result (λ detail. MayBe (is_given known (λ bytes. sourced_on wording.now.language file.now (line_at bytes number)) unread) (kept_detail detail)) }
+    ensures { (known : KnownFile) (number : ℕ) → IsReread known number reread.now
+        → IfOk result (λ detail. MayBe (is_given known (λ bytes. sourced_on (L.known.tree wording.now.root.now) wording.now.language file.now (line_at bytes number)) unread) (kept_detail detail)) }
 {
     match reread {
         Reread::Shown(line) => source_detail(alloc, wording, file, line, files),
@@ -307,7 +308,8 @@ fn source_detail<L: LineFiles>(
     line: &[u8],
     files: &mut L,
 ) -> Result<KeptDetail, AllocError>
-    ensures { IfOk result (λ detail. MayBe (is_one_of (sourced_on wording.now.language file.now (Some line.now))) (kept_detail detail)) }
+    ensures shown { IfOk result (λ detail. MayBe (is_one_of (sourced_on (L.known.tree wording.now.root.now) wording.now.language file.now (Some line.now))) (kept_detail detail)) }
+    ensures hidden { IfOk result (λ detail. MayBe (is_one_of (sourced_on (L.known.tree wording.now.root.now) wording.now.language file.now (Some line.now))) (hidden_kept detail)) }
 {
     let Some(line) = text_of(line) else {
         return Ok(KeptDetail::Nothing);
@@ -323,7 +325,8 @@ fn sourced_detail<L: LineFiles>(
     path: &Option<Vec<u8>>,
     files: &mut L,
 ) -> Result<KeptDetail, AllocError>
-    ensures { IfOk result (λ detail. MayBe (is_one_of (sourced (option_map (λ (bytes : Vec ℕ). bytes.items) path.now))) (kept_detail detail)) }
+    ensures shown { IfOk result (λ detail. MayBe (is_one_of (sourced (L.known.tree wording.now.root.now) (option_map (λ (bytes : Vec ℕ). bytes.items) path.now))) (kept_detail detail)) }
+    ensures hidden { IfOk result (λ detail. MayBe (is_one_of (sourced (L.known.tree wording.now.root.now) (option_map (λ (bytes : Vec ℕ). bytes.items) path.now))) (hidden_kept detail)) }
 {
     let Some(path) = path else {
         return Ok(KeptDetail::Nothing);
@@ -341,7 +344,8 @@ fn why_detail<L: LineFiles>(
     path: &[u8],
     files: &mut L,
 ) -> Result<KeptDetail, AllocError>
-    ensures { IfOk result (λ detail. is_one_of (path_details path.now) (kept_detail detail) ≡ true) }
+    ensures shown { IfOk result (λ detail. is_one_of (path_details (L.known.tree wording.now.root.now path.now) path.now) (kept_detail detail) ≡ true) }
+    ensures hidden { IfOk result (λ detail. MayBe (is_one_of (path_details (L.known.tree wording.now.root.now path.now) path.now)) (hidden_kept detail)) }
 {
     match files.why_unread(alloc, wording.root, path)? {
         Some(why) => Ok(KeptDetail::Missing {

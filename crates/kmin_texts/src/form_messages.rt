@@ -10,7 +10,7 @@ use kmin_messages::Form;
 use kmin_report::Messages;
 use std::alloc::AllocError;
 
-/// The form of lines, and what their texts are read by: the folder of the tree, which stands before the paths of its files, the language
+/// The form of lines, and what their texts are read by: the folder of the tree, which comes before the paths of its files, the language
 /// of the tree, and the prefix of names in configuration files.
 #[derive(Clone, Copy)]
 pub struct Wording<'a> {

@@ -1,12 +1,11 @@
 //! Details of messages that borrow nothing.
 ghost use Rattle.std.specs.Prelude.{◌≡◌, IfOk};
 ghost use Rattle.std.specs.Str.Lossy.{utf8_lossy};
-ghost use Rattle.kmin_texts.specs.LineDetails.{is_one_of, of_limit, unread, words};
-ghost use Rattle.kmin_texts.specs.between.Details.{detail_names, detail_text};
-ghost use Rattle.kmin_texts.specs.between.KeptDetails.{MayBe, kept_detail};
+ghost use Rattle.kmin_texts.specs.LineDetails.{is_one_of, no_detail, of_limit, words};
+ghost use Rattle.kmin_details.specs.between.Details.{detail_names, detail_text};
+ghost use Rattle.kmin_texts.specs.between.KeptDetails.{MayBe, hidden_kept, kept_detail};
 
-use crate::details::Detail;
-use crate::places::Unreadable;
+use kmin_details::{Detail, Unreadable};
 use kmin_faults::Limit;
 use std::alloc::{AllocError, Global};
 
@@ -59,7 +58,8 @@ pub(crate) fn limit_detail(limit: Option<Limit>) -> KeptDetail
 
 /// A path as a detail.
 pub(crate) fn path_detail(alloc: Global, path: &[u8]) -> Result<KeptDetail, AllocError>
-    ensures { IfOk result (λ detail. kept_detail detail ≡ words (utf8_lossy path.now)) }
+    ensures shown { IfOk result (λ detail. kept_detail detail ≡ words (utf8_lossy path.now)) }
+    ensures hidden { IfOk result (λ detail. hidden_kept detail ≡ no_detail) }
 {
     let words = String::from_utf8_lossy(alloc, path)?;
     Ok(KeptDetail::Words(words))
@@ -67,7 +67,7 @@ pub(crate) fn path_detail(alloc: Global, path: &[u8]) -> Result<KeptDetail, Allo
 
 /// A detail where no words of the line may be shown: of a path only why it can't be read.
 pub(crate) fn hidden(detail: KeptDetail) -> KeptDetail
-    ensures { MayBe (is_one_of unread) (kept_detail result) }
+    ensures { kept_detail result ≡ hidden_kept detail }
 {
     match detail {
         KeptDetail::Missing { why, .. } | KeptDetail::Unread(why) => KeptDetail::Unread(why),

@@ -1,43 +1,19 @@
-//! The texts of messages: of a line at fault, of a file that can't be read, of a limit, of a cycle, of another place, and of names.
-//! The lines of reports in the forms that have a text.
+//! The lines of reports in the forms that have a text, with what the files that they are about say; standard error whose form can be
+//! set.
 #![tactic(auto)]
 
-mod cycle_steps;
-mod details;
 mod fault_details;
 mod form_messages;
 mod formed_messages;
+mod joined_names;
 mod kept_details;
-mod kinds;
-mod limits;
 mod line_files;
-mod line_words;
-mod message_lines;
-mod names;
-mod near_names;
-mod near_symbols;
 mod notice_details;
 mod numbered_lines;
-mod places;
-mod report_lines;
 mod text_details;
-mod tree_lines;
 mod worded_lines;
 
-pub use cycle_steps::cycle_text;
-pub use details::{Detail, detail_names, shown_detail, without_words};
 pub use form_messages::{FormMessages, Wording};
 pub use formed_messages::FormedMessages;
-pub use kinds::{file_line_text, notice_detail, tree_line_text};
-pub use kmin_faults::{Cause, Limit, Step};
-pub use limits::limit_text;
 pub use line_files::{LineFiles, Reread};
-pub use line_words::{first_run, named_on};
-pub use message_lines::{MessageParts, message_line, messages_are_one_line};
-pub use names::{unknown_text, value_text};
-pub use near_names::nearest;
-pub use near_symbols::nearest_symbol;
 pub use numbered_lines::{after_lines, file_fault_text, file_notice_detail, line_at};
-pub use places::{Unreadable, first_place_text, missing_text};
-pub use report_lines::line_in;
-pub use tree_lines::{bad_token_text, first_token, left_out_text};

@@ -1,8 +1,8 @@
 //! The files that lines of standard error are about, read once more.
 ghost use Rattle.std.specs.Prelude.{IfOk};
-ghost use Rattle.kmin_texts.specs.KnownLines.{IsReread, KnownLines};
+ghost use Rattle.kmin_texts.specs.KnownLines.{IsReread, KnownLines, MayBeReason};
 
-use crate::places::Unreadable;
+use kmin_details::Unreadable;
 use std::alloc::{AllocError, Global};
 
 /// A line of a file that was read once more.
@@ -39,12 +39,12 @@ pub trait LineFiles {
     fn named_line(&mut self, alloc: Global, path: &str, number: u32) -> Result<Reread, AllocError>
         ensures { IfOk result (IsReread (known.named path.now) number) };
 
-    /// Why the file at a path below the folder `root` can't be read; `None` if it can be read now. An `Err` means out of memory. No
-    /// clause says which, since a file can't be read for reasons that its bytes don't have.
+    /// Why the file at a path below the folder `root` can't be read; `None` if it can be read now. An `Err` means out of memory.
     fn why_unread(
         &mut self,
         alloc: Global,
         root: &str,
         path: &[u8],
-    ) -> Result<Option<Unreadable>, AllocError>;
+    ) -> Result<Option<Unreadable>, AllocError>
+        ensures { IfOk result (MayBeReason (known.tree root.now path.now)) };
 }

@@ -1,22 +1,21 @@
 //! The details of notices of configuration files.
-ghost use Rattle.std.specs.Prelude.{◌≡◌, ℕ, List, Option, Some, IfOk, map, option_map};
+ghost use Rattle.std.specs.Prelude.{◌≡◌, ℕ, List, Some, IfOk, map, option_map};
 ghost use Rattle.std.specs.Borrow.{Bor};
 ghost use Rattle.kc_dotconfig_model.specs.between.Prefixes.{prefix_bytes};
 ghost use Rattle.kc_tree_model.specs.Trees.{Symbol};
-ghost use Rattle.kmin_texts.specs.KnownLines.{IsReread};
+ghost use Rattle.kmin_report.specs.Reports.{near_names};
+ghost use Rattle.kmin_texts.specs.KnownLines.{IsReread, KnownFile};
+ghost use Rattle.kmin_texts.specs.LineDetails.{is_of_notice};
 ghost use Rattle.kmin_texts.specs.NumberedLines.{utf8_line};
-ghost use Rattle.kmin_texts.specs.between.Details.{line_detail};
+ghost use Rattle.kmin_details.specs.between.Details.{line_detail};
 ghost use Rattle.kmin_texts.specs.between.KeptDetails.{MayBe};
-ghost use Rattle.kmin_texts.specs.between.NoticeDetails.{hidden_detail, is_noticed_at, is_noticed_on, nearest_detail};
+ghost use Rattle.kmin_texts.specs.between.NoticeDetails.{hidden_detail, is_noticed_on, nearest_detail};
 
-use crate::details::{Detail, without_words};
-use crate::kinds::notice_detail;
 use crate::line_files::Reread;
-use crate::line_words::named_on;
-use crate::near_symbols::nearest_symbol;
 use crate::numbered_lines::text_of;
 use kc_dotconfig_model::{NoticeKind, Prefix};
 use kc_tree::Tree;
+use kmin_details::{Detail, named_on, nearest_symbol, notice_detail, without_words};
 use std::alloc::{AllocError, Global};
 
 /// For how many unknown symbols of a run the nearest name of the tree is looked for.
@@ -32,8 +31,8 @@ pub(crate) fn notice_at<'a>(
     reread: &'a Reread,
     unknown: &mut u32,
 ) -> Result<Detail<'a>, AllocError>
-    ensures { (known : Option (Option (List ℕ))) (number : ℕ) → IsReread known number reread.now
-        → IfOk result (λ detail. MayBe (is_noticed_at kind (prefix_bytes prefix.now) known number) (line_detail detail)) }
+    ensures { (known : KnownFile) (number : ℕ) → IsReread known number reread.now
+        → IfOk result (λ detail. MayBe (is_of_notice kind (prefix_bytes prefix.now) (near_names tree.now.tree kind) known number) (line_detail detail)) }
 {
     match reread {
         Reread::Shown(line) => shown_notice(alloc, prefix, kind, tree, line, unknown),
@@ -52,7 +51,7 @@ fn shown_notice<'a>(
     line: &'a [u8],
     unknown: &mut u32,
 ) -> Result<Detail<'a>, AllocError>
-    ensures { IfOk result (λ detail. MayBe (is_noticed_on kind (prefix_bytes prefix.now) (Some line.now)) (line_detail detail)) }
+    ensures { IfOk result (λ detail. MayBe (is_noticed_on kind (prefix_bytes prefix.now) (near_names tree.now.tree kind) (Some line.now)) (line_detail detail)) }
 {
     let Some(line) = text_of(line) else {
         return Ok(Detail::Nothing);

@@ -5,15 +5,14 @@ ghost use Rattle.std.specs.Borrow.{Bor};
 ghost use Rattle.kc_value.specs.Lines.{pieces};
 ghost use Rattle.kc_dotconfig_model.specs.between.Prefixes.{prefix_bytes};
 ghost use Rattle.kmin_texts.specs.NumberedLines.{file_fault_text, file_notice_names, file_notice_text, line_at, utf8_line};
-ghost use Rattle.kmin_texts.specs.between.Details.{detail_names, detail_text};
+ghost use Rattle.kmin_details.specs.between.Details.{detail_names, detail_text};
 
-use crate::details::Detail;
-use crate::kinds::{file_line_text, notice_detail};
 use kc_dotconfig_model::{LoadKind, NoticeKind, Prefix};
+use kmin_details::{Detail, file_line_text, notice_detail};
 use kmin_lines::first_piece;
 use std::alloc::{AllocError, Global};
 
-/// The bytes of a file after its first lines, so many.
+/// The bytes of a file after this many lines.
 pub fn after_lines(bytes: &[u8], count: u32) -> &[u8]
     ensures { pieces 10 result.now ≡ drop count (pieces 10 bytes.now) }
 {
@@ -75,7 +74,7 @@ pub fn file_notice_detail<'a>(
 }
 
 /// A line, if there is one and it is UTF-8.
-fn utf8_line(line: Option<&[u8]>) -> Option<&str>
+pub(crate) fn utf8_line(line: Option<&[u8]>) -> Option<&str>
     ensures { option_map (λ (text : Bor (List ℕ)). text.now) result ≡ utf8_line (option_map (λ (bytes : Bor (List ℕ)). bytes.now) line.entry) }
 {
     match line {

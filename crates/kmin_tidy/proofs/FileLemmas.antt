@@ -67,34 +67,34 @@ kind_not_special content kind k other = λ e. other (subst (λ c. IsOfKind c kin
 module _ (s : Settings) (a : Disk) (path : List ℕ) (report : FileReport) where
   -- under `write`, the step of a path that leads to a link, a folder, a pipe or a device is its refusal
   pub not_regular_step : s.options.write ≡ true → IsOfKind (content_at a.state path) KindNotRegular → report.notices.items ≡ []
-      → report.problem ≡ Some ProblemNotRegular → report.outcome ≡ Failed → Step s a a path [] (report_lines path report) report.outcome
+      → report.problem ≡ Some ProblemNotRegular → report.outcome ≡ Failed → Step s a a path [] (report_lines s.tree path report) report.outcome
   not_regular_step w k n p o =
-      refused (not_regular_line path) (refusals.not_regular w k refl o refl) refl (lines_of_problem path report ProblemNotRegular n p)
+      refused (not_regular_line path) (refusals.not_regular w k refl o refl) refl (lines_of_problem s.tree path report ProblemNotRegular n p)
 
   -- the step of a file that can't be read or isn't accepted is its refusal, with the line of the fault
   pub fault_step : (b : Disk) (fault : LoadFault) → MayBeRead s a.state path
       → IsFaulty s.format s.tree (readable (content_at a.state path)) fault.kind fault.line → (fault.kind ≡ Read → FailsOnce a b) → MayFailOnce a b
-      → IsRefusedAs fault report → Step s a b path [] (report_lines path report) report.outcome
+      → IsRefusedAs fault report → Step s a b path [] (report_lines s.tree path report) report.outcome
   fault_step b fault may faulty failed once r =
       refused (fault_line path fault.line fault.kind)
       (refused_by s a b path fault.kind fault.line report.outcome failed once may faulty r.outcome) refl
-      (lines_of_problem path report (Fault fault) r.notices r.problem)
+      (lines_of_problem s.tree path report (Fault fault) r.notices r.problem)
 
   -- the lines of a report without a problem are those of the notices of the file
   lines_by : (noted : List Notice) → report.notices.items ≡ noted → report.problem ≡ None
-      → report_lines path report ≡ notice_lines path (map notice_pair noted)
-  lines_by noted n p = lines_of_notices path report p ∙ ap (λ ns. notice_lines path (map notice_pair ns)) n
+      → report_lines s.tree path report ≡ notice_lines s.tree path (map notice_pair noted)
+  lines_by noted n p = lines_of_notices s.tree path report p ∙ ap (λ ns. notice_lines s.tree path (map notice_pair ns)) n
 
   lines_with : (noted : List Notice) (problem : Problem) → report.notices.items ≡ noted → report.problem ≡ Some problem
-      → report_lines path report ≡ notice_lines path (map notice_pair noted) ++ problem_lines path (Some problem)
+      → report_lines s.tree path report ≡ notice_lines s.tree path (map notice_pair noted) ++ problem_lines path (Some problem)
   lines_with noted problem n p =
-      ap (λ q. notice_lines path (map notice_pair report.notices.items) ++ problem_lines path q) p
-      ∙ ap (λ ns. notice_lines path (map notice_pair ns) ++ problem_lines path (Some problem)) n
+      ap (λ q. notice_lines s.tree path (map notice_pair report.notices.items) ++ problem_lines path q) p
+      ∙ ap (λ ns. notice_lines s.tree path (map notice_pair ns) ++ problem_lines path (Some problem)) n
 
   -- the step of an accepted file that is refused for its notices reports the notices, and leaves the disk unchanged
   pub notices_step : (bytes : List ℕ) (noted : List Notice) → IsReadAt s a.state path bytes → HasNotices s bytes (map notice_pair noted)
       → refuses_notices s.options ≡ true → map notice_pair noted ≢ [] → report.notices.items ≡ noted → report.problem ≡ None
-      → report.outcome ≡ Refused → Step s a a path [] (report_lines path report) report.outcome
+      → report.outcome ≡ Refused → Step s a a path [] (report_lines s.tree path report) report.outcome
   notices_step bytes noted read has asked some n p o =
       noticed bytes (map notice_pair noted) read has some asked refl refl (lines_by noted n p) o
 
@@ -102,7 +102,7 @@ module _ (s : Settings) (a : Disk) (path : List ℕ) (report : FileReport) where
   pub rewritten_step : (b : Disk) (bytes least line : List ℕ) (noted : List Notice) (end : FileEnd)
       → Minimises s a.state path bytes least (map notice_pair noted) → IsRewritten s.options.write a b path bytes least line end
       → report.notices.items ≡ noted → report.problem ≡ end.problem → report.outcome ≡ end.outcome
-      → Step s a b path line (report_lines path report) report.outcome
+      → Step s a b path line (report_lines s.tree path report) report.outcome
   rewritten_step b bytes least line noted end m (results.same e k l q o) n p r =
       minimal bytes (map notice_pair noted) (subst (λ x. Minimises s a.state path bytes x (map notice_pair noted)) e m) k l
       (lines_by noted n (p ∙ q)) (r ∙ o)

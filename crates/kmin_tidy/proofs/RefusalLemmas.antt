@@ -1,5 +1,6 @@
 -- Files that are refused, and what is reported of them.
 use Rattle.std.proofs.Common.{◌≡◌, ◌≢◌, ℕ, List, [], ◌∷◌, ◌++◌, Some, None, map, refl, sym, ap, ◌∙◌, append-nil, ◌⊎◌, inl, inr}
+use Rattle.kc_tree_model.specs.Trees.{Tree}
 use Rattle.kc_dotconfig.specs.Fragments.{notice_pair}
 use Rattle.kc_dotconfig_model.specs.declared.fault.LoadKind.{LoadKind}
 use Rattle.kc_dotconfig_model.specs.declared.fault.LoadKind.TheVariants.{Read, OutOfMemory}
@@ -39,14 +40,14 @@ module _ (s : Settings) (a b : Disk) (path : List ℕ) (kind : LoadKind) (number
   refused_by may (for_memory memory) (inr is) = absurd (is.1 memory)
 
 -- the report of a file with a problem and without notices has the line of the problem alone
-pub lines_of_problem : (path : List ℕ) (report : FileReport) (problem : Problem) → report.notices.items ≡ [] → report.problem ≡ Some problem
-    → report_lines path report ≡ problem_line path problem ∷ []
-lines_of_problem path report problem no_notices is =
-    ap (λ ns. notice_lines path (map notice_pair ns) ++ problem_lines path report.problem) no_notices ∙ ap (problem_lines path) is
+pub lines_of_problem : (tree : Tree) (path : List ℕ) (report : FileReport) (problem : Problem) → report.notices.items ≡ [] → report.problem ≡ Some problem
+    → report_lines tree path report ≡ problem_line path problem ∷ []
+lines_of_problem tree path report problem no_notices is =
+    ap (λ ns. notice_lines tree path (map notice_pair ns) ++ problem_lines path report.problem) no_notices ∙ ap (problem_lines path) is
 
 -- the report of a file without a problem has the lines of its notices alone
-pub lines_of_notices : (path : List ℕ) (report : FileReport) → report.problem ≡ None
-    → report_lines path report ≡ notice_lines path (map notice_pair report.notices.items)
-lines_of_notices path report is =
-    ap (λ p. notice_lines path (map notice_pair report.notices.items) ++ problem_lines path p) is ∙ append-nil
-    (notice_lines path (map notice_pair report.notices.items))
+pub lines_of_notices : (tree : Tree) (path : List ℕ) (report : FileReport) → report.problem ≡ None
+    → report_lines tree path report ≡ notice_lines tree path (map notice_pair report.notices.items)
+lines_of_notices tree path report is =
+    ap (λ p. notice_lines tree path (map notice_pair report.notices.items) ++ problem_lines path p) is ∙ append-nil
+    (notice_lines tree path (map notice_pair report.notices.items))

@@ -1,7 +1,8 @@
 -- The lines of standard output and of standard error.
 use Rattle.std.specs.Prelude.{ℕ, ◌==◌, ◌&&◌, List, ◌++◌, codes, map, if◌then◌else◌}
 use Rattle.std.specs.Fmt.{decimal}
-use Rattle.kmin_report.specs.Reports.{ErrorLine, notice_line}
+use Rattle.kc_tree_model.specs.Trees.{Tree}
+use Rattle.kmin_report.specs.Reports.{ErrorLine, tree_notice_line}
 use Rattle.kmin_lines.specs.Lines.{count_lines_not_in, have_same_lines}
 use Rattle.kmin_tidy.specs.Options.{Notices}
 
@@ -23,6 +24,6 @@ difference bytes least = if have_same_lines bytes least
 abbrev pub difference_line : (path bytes least : List ℕ) → List ℕ
 difference_line path bytes least = path ++ (codes ": " ++ (difference bytes least ++ codes "\n"))
 
--- the lines of standard error for the notices of a configuration file, in order
-abbrev pub notice_lines : (path : List ℕ) → Notices → List ErrorLine
-notice_lines path notices = map (notice_line path) notices
+-- the lines of standard error for the notices of a configuration file over a tree, in order
+abbrev pub notice_lines : Tree → (path : List ℕ) → Notices → List ErrorLine
+notice_lines tree path notices = map (tree_notice_line tree path) notices

@@ -36,26 +36,26 @@ pub data Step (s : Settings) (old new : Disk) (path line : List ℕ) (reports : 
   -- the file is refused for its notices
   noticed : (bytes : List ℕ) (notices : Notices) → IsReadAt s old.state path bytes → HasNotices s bytes notices
       → notices ≢ [] → refuses_notices s.options ≡ true → new ≡ old → line ≡ []
-      → reports ≡ notice_lines path notices → outcome ≡ Refused → Step s old new path line reports outcome
+      → reports ≡ notice_lines s.tree path notices → outcome ≡ Refused → Step s old new path line reports outcome
   -- the file is minimal
   minimal : (bytes : List ℕ) (notices : Notices) → Minimises s old.state path bytes bytes notices → new ≡ old → line ≡ []
-      → reports ≡ notice_lines path notices → outcome ≡ Minimal → Step s old new path line reports outcome
+      → reports ≡ notice_lines s.tree path notices → outcome ≡ Minimal → Step s old new path line reports outcome
   -- the file isn't minimal, and files aren't replaced
   shown : (bytes least : List ℕ) (notices : Notices) → IsNotMinimal s old.state path bytes least notices
       → s.options.write ≡ false → new ≡ old → line ≡ difference_line path bytes least
-      → reports ≡ notice_lines path notices → outcome ≡ NotMinimal → Step s old new path line reports outcome
+      → reports ≡ notice_lines s.tree path notices → outcome ≡ NotMinimal → Step s old new path line reports outcome
   -- the file is replaced by its minimal file
   replaced : (bytes least : List ℕ) (notices : Notices) → IsNotMinimal s old.state path bytes least notices
       → s.options.write ≡ true → Replaces old.state new.state path least → new.failures ≡ old.failures
       → line ≡ difference_line path bytes least
-      → reports ≡ notice_lines path notices → outcome ≡ Minimal → Step s old new path line reports outcome
+      → reports ≡ notice_lines s.tree path notices → outcome ≡ Minimal → Step s old new path line reports outcome
   -- the file couldn't be replaced, and has no line
   unwritten : (bytes least : List ℕ) (notices : Notices) → IsNotMinimal s old.state path bytes least notices
       → s.options.write ≡ true → IsUnwritten old new path → line ≡ []
-      → reports ≡ notice_lines path notices ++ write_line path ∷ [] → outcome ≡ Failed
+      → reports ≡ notice_lines s.tree path notices ++ write_line path ∷ [] → outcome ≡ Failed
       → Step s old new path line reports outcome
   -- the file is replaced by its minimal file, and its folder couldn't be synced
   unsynced : (bytes least : List ℕ) (notices : Notices) → IsNotMinimal s old.state path bytes least notices
       → s.options.write ≡ true → IsUnsynced old new path least → line ≡ difference_line path bytes least
-      → reports ≡ notice_lines path notices ++ write_line path ∷ [] → outcome ≡ Failed
+      → reports ≡ notice_lines s.tree path notices ++ write_line path ∷ [] → outcome ≡ Failed
       → Step s old new path line reports outcome

@@ -1,9 +1,9 @@
 //! One file of a run: it is read, compared with its minimal file, and replaced under the option `--write`.
 ghost use Rattle.std.specs.Prelude.{◌≡◌, ◌≢◌, ◌⊎◌, ◌++◌, [], ℕ, List, map, take, true, false, Some, None, IfOk, IfErr, OnOk, if◌then◌else◌};
 ghost use Rattle.kc_dotconfig_model.specs.between.Formats.{file_format};
-ghost use Rattle.kc_rules.specs.between.SettledViews.{profile_of};
+ghost use Rattle.kc_rules.specs.between.SettledViews.{profile_of, tree_of_settled};
 ghost use Rattle.kc_dotconfig_model.specs.OtherChoices.{other_choices_of};
-ghost use Rattle.kc_dotconfig.specs.ConfigStates.{tree_in, IsSolved};
+ghost use Rattle.kc_config.specs.ConfigStates.{tree_in, IsSolved};
 ghost use Rattle.kc_minimal_model.specs.CanonicalText.{IsCanonicalText};
 ghost use Rattle.kc_dotconfig.specs.Fragments.{FitsTree, users_of, notice_pair};
 ghost use Rattle.kmin_disk.specs.Contents.{IsOfKind, readable, special};
@@ -23,7 +23,8 @@ use crate::options::TidyOptions;
 use crate::outcome::FileOutcome;
 use crate::report::{FileReport, Problem};
 use crate::stop::Stop;
-use kc_dotconfig::{ChoiceLine, Config, Format, Fragment, LoadFault, LoadKind, Notice, NoticeKind};
+use kc_config::Config;
+use kc_dotconfig::{ChoiceLine, Format, Fragment, LoadFault, LoadKind, Notice, NoticeKind};
 use kc_minimal::{add_lines, minimal_text, other_choices};
 use kmin_disk::{FileKind, ReadDisk, ReplaceFault, WriteDisk, replace};
 use std::alloc::{AllocError, Global};
@@ -42,7 +43,7 @@ pub(crate) fn tidy_file<D: WriteDisk>(
     ensures settled { config.new.system ≡ config.old.system }
     ensures step { IfOk result (λ report. (line : List ℕ) × (text.new.items ≡ text.old.items ++ line)
         × Step (settings_of config.old.system format.now options) (D.disk disk.old)
-        (D.disk disk.new) path.now line (report_lines path.now report) report.outcome) }
+        (D.disk disk.new) path.now line (report_lines (tree_of_settled config.old.system) path.now report) report.outcome) }
     ensures stopped { IfErr result (StopsFile (settings_of config.old.system format.now options) (D.disk disk.old) (D.disk disk.new) path.now) }
 {
     if is_refused_unread(options, path, disk) {
@@ -118,7 +119,7 @@ fn tidy_accepted<D: WriteDisk>(
     ensures settled { config.new.system ≡ config.old.system }
     ensures step { IfOk result (λ report. (line : List ℕ) × (text.new.items ≡ text.old.items ++ line)
         × Step (settings_of config.old.system format.now options) (D.disk disk.old)
-        (D.disk disk.new) path.now line (report_lines path.now report) report.outcome) }
+        (D.disk disk.new) path.now line (report_lines (tree_of_settled config.old.system) path.now report) report.outcome) }
     ensures stopped { IfErr result (StopsFile (settings_of config.old.system format.now options) (D.disk disk.old) (D.disk disk.new) path.now) }
 {
     let AcceptedFile { bytes, fragment } = file;

@@ -1,7 +1,7 @@
 //! The lines of standard error.
 ghost use Rattle.std.specs.Prelude.{◌≡◌, map};
 ghost use Rattle.kc_dotconfig.specs.Fragments.{notice_pair};
-ghost use Rattle.kmin_report.specs.Reports.{notice_line};
+ghost use Rattle.kmin_report.specs.Reports.{tree_notice_line};
 ghost use Rattle.kmin_report.specs.between.ReportLines.{report_line};
 ghost use Rattle.kmin_report.specs.StandardError.{TakesLine, TakesLines};
 ghost use Rattle.kmin_tidy.specs.checker.ReportLines.{problem_line, problem_lines, report_lines, stop_line};
@@ -33,7 +33,7 @@ pub(crate) struct FileReport {
 
 /// Writes the lines of a file's report: its notices, and then its problem.
 pub(crate) fn report_file<E: Messages>(path: &str, report: &FileReport, tree: &Tree, err: &mut E)
-    ensures { TakesLines (E.taken err.old) (E.failures err.old) (report_lines path.now report.now) (E.taken err.new) (E.failures err.new) }
+    ensures { TakesLines (E.taken err.old) (E.failures err.old) (report_lines tree.now.tree path.now report.now) (E.taken err.new) (E.failures err.new) }
 {
     report_notices(path, &report.notices, tree, err);
     report_problem(path, report.problem, err);
@@ -41,7 +41,7 @@ pub(crate) fn report_file<E: Messages>(path: &str, report: &FileReport, tree: &T
 
 /// Writes the notices of a file.
 fn report_notices<E: Messages>(path: &str, notices: &[Notice], tree: &Tree, err: &mut E)
-    ensures { TakesLines (E.taken err.old) (E.failures err.old) (map (λ notice. notice_line path.now (notice_pair notice)) notices.now)
+    ensures { TakesLines (E.taken err.old) (E.failures err.old) (map (λ notice. tree_notice_line tree.now.tree path.now (notice_pair notice)) notices.now)
         (E.taken err.new) (E.failures err.new) }
 {
     for notice in notices {

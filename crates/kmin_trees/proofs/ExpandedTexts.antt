@@ -1,13 +1,13 @@
 -- The texts of expanded files, and their names.
 use Rattle.std.proofs.Common.{◌≡◌, ℕ, suc, ◌+◌, ◌<◌, List, [], ◌∷◌, ◌++◌, Option, Some, None, take, length, get_or, refl, sym, ap, ◌∙◌, arith}
-use Rattle.std.specs.Prelude.{slice_get, option_map}
-use Rattle.std.proofs.lemmas.Option.{slice_get-get_or, slice_get-map}
+use Rattle.std.specs.Prelude.{slice_get}
+use Rattle.std.proofs.lemmas.Option.{slice_get-get_or}
 use Rattle.std.proofs.Math.Seq.{take-suc}
 use Rattle.kc_tokens.specs.declared.language.Language.{Language}
-use Rattle.kc_tree_model.specs.TreeFiles.{Files, path_at}
+use Rattle.kc_tree_model.specs.TreeFiles.{Files}
 use Rattle.kc_macros_model.specs.ReadingStates.{ExpandedFile}
 use Rattle.kmin_trees.specs.between.FilesByPlace.{with_file_at}
-use Rattle.kmin_trees.specs.JobTexts.{with_expanded_file, with_expanded_files, no_texts, name_of_key, named_texts}
+use Rattle.kmin_trees.specs.JobTexts.{with_expanded_file, with_expanded_files, no_texts}
 
 -- files after files
 with_more : (fs gs : List ExpandedFile) (texts : Files) → with_expanded_files (fs ++ gs) texts ≡ with_expanded_files gs (with_expanded_files fs texts)
@@ -25,18 +25,6 @@ with_next files n texts h =
     let before = with_expanded_files (take n files) texts in
     ap (λ k. with_expanded_files (take k files) texts) next ∙ ap (λ fs. with_expanded_files fs texts) (take-suc files n none h)
     ∙ with_more (take n files) (f ∷ []) texts ∙ sym (ap (λ o. with_file_at o before) at)
-
--- the name, in messages, of the file of a number is the name of its key
-pub named_at : (files : List ExpandedFile) (texts : Files) (number : ℕ) → path_at (named_texts files texts) number
-    ≡ option_map (name_of_key files) (path_at texts number)
-named_at files texts number =
-    ap (option_map (λ (f : List ℕ × List ℕ). f.0)) (slice_get-map (λ (f : List ℕ × List ℕ). (name_of_key files f.0, f.1)) texts.list number)
-    ∙ twice (slice_get texts.list number)
-  where
-    twice : (o : Option (List ℕ × List ℕ)) → option_map (λ (f : List ℕ × List ℕ). f.0) (option_map (λ (f : List ℕ × List ℕ). (name_of_key files f.0, f.1)) o)
-        ≡ option_map (name_of_key files) (option_map (λ (f : List ℕ × List ℕ). f.0) o)
-    twice None = refl
-    twice (Some f) = refl
 
 -- texts in a language that have no files are `no_texts` of that language
 pub are_no_texts : (texts : Files) (language : Language) → texts.language ≡ language → texts.list ≡ [] → texts ≡ no_texts language

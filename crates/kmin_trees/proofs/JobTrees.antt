@@ -11,7 +11,8 @@ use Rattle.kmin_report.specs.declared.run_error.RunError.{RunError}
 use Rattle.kmin_trees.specs.declared.expanded_trees.ExpandedTexts.{ExpandedTexts}
 use Rattle.kmin_inputs.specs.FileContents.{Surroundings, AreTextsBelow}
 use Rattle.kmin_inputs.specs.JobAnswers.{AreJobAnswers}
-use Rattle.kmin_trees.specs.JobTexts.{TreeTexts, AreExpandedTexts, AreTextsOfJob, as_they_are, expanded, expanded_texts, named_texts}
+use Rattle.kmin_trees.specs.JobTexts.{TreeTexts, AreExpandedTexts, AreTextsOfJob, as_they_are, expanded, expanded_texts}
+use Rattle.kmin_report.specs.FileNames.{named_texts}
 use Rattle.kmin_trees.specs.TreeFolders.{contents_below}
 use Rattle.kmin_report.specs.Reports.{ErrorLine, macro_notice_line}
 use Rattle.kmin_report.specs.StandardError.{SpelledBytes, TakesLines}

@@ -1,5 +1,5 @@
 -- The texts of a job's tree, with or without the expansion of macros.
-use Rattle.std.specs.Prelude.{◌≡◌, ℕ, List, [], ◌∷◌, Some, None, Ok, map, unwrap_or, if◌then◌else◌}
+use Rattle.std.specs.Prelude.{◌≡◌, ℕ, List, [], ◌∷◌, Some, None, Ok, map, if◌then◌else◌}
 use Rattle.std.specs.Str.{is_utf8}
 use Rattle.kc_tokens.specs.declared.language.Language.{Language}
 use Rattle.kc_tree_model.specs.TreeFiles.{Files, with_file}
@@ -7,11 +7,11 @@ use Rattle.kc_macros_model.specs.Programs.{Notice}
 use Rattle.kc_macros_model.specs.AnswerFiles.{RecordedAnswers}
 use Rattle.kc_macros_model.specs.ReadingStates.{ExpandedFile}
 use Rattle.kc_expansion.specs.Expansions.{IsExpansion}
-use Rattle.kc_files.specs.PathsOfKeys.{path_of_key}
 use Rattle.kmin_options.specs.Jobs.{Expansion, Settings}
 use Rattle.kmin_inputs.specs.FileContents.{Surroundings, AreTextsBelow}
 use Rattle.kmin_trees.specs.TreeFolders.{contents_below}
 use Rattle.kmin_inputs.specs.JobAnswers.{AreJobAnswers}
+use Rattle.kmin_report.specs.FileNames.{named_texts}
 use Rattle.kmin_report.specs.Reports.{ErrorLine, macro_notice_line}
 
 -- the texts of a tree with one more expanded file, at its key, which is its path in `source` lines; a file whose key isn't UTF-8
@@ -31,14 +31,6 @@ no_texts language = record { language = language; list = [] }
 -- the texts of a tree in this language that has these expanded files, each at its key, which is its path in `source` lines
 abbrev pub expanded_texts : Language → List ExpandedFile → Files
 expanded_texts language files = with_expanded_files files (no_texts language)
-
--- the path that was read for the expanded file with this key; the key itself if there is no such file
-abbrev pub name_of_key : List ExpandedFile → (key : List ℕ) → List ℕ
-name_of_key files key = unwrap_or (path_of_key files key) key
-
--- the texts of expanded files, each at its name in messages: the path that was read for its key
-abbrev pub named_texts : List ExpandedFile → Files → Files
-named_texts files texts = record { language = texts.language; list = map (λ (f : List ℕ × List ℕ). (name_of_key files f.0, f.1)) texts.list }
 
 -- the texts of a tree, the same texts by their names in messages, and the lines of standard error for the notices of their
 -- expansion

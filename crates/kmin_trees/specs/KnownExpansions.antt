@@ -10,7 +10,8 @@ use Rattle.kmin_options.specs.Jobs.{Expansion}
 use Rattle.kmin_inputs.specs.FileContents.{Surroundings, path_below}
 use Rattle.kmin_trees.specs.TreeFolders.{contents_below}
 use Rattle.kmin_inputs.specs.JobAnswers.{AreJobAnswers}
-use Rattle.kmin_trees.specs.JobTexts.{TreeTexts, expanded_texts, named_texts, AreExpandedTexts}
+use Rattle.kmin_trees.specs.JobTexts.{TreeTexts, expanded_texts, AreExpandedTexts}
+use Rattle.kmin_report.specs.FileNames.{named_texts}
 use Rattle.kmin_report.specs.Reports.{macro_notice_line}
 
 -- the expansion of the tree with the first file `first`, in which each file and each folder below the root is as it is known, with

@@ -22,7 +22,7 @@ use Rattle.kmin_report.specs.Reports.{ErrorLine, tree_fault_line, tree_cycle_lin
 -- Texts are refused as a tree, with this line of standard error, in which files have their names in `names`: for their first
 -- fault, or for a cycle of symbols and choices.
 pub data RefusesTexts (texts names : Files) (first : List ℕ) (line : ErrorLine) : Type 0 where
-  faulty : (fault : TreeFault) → IsReportedFault texts first fault → line ≡ tree_fault_line names first fault
+  faulty : (fault : TreeFault) → IsReportedFault texts first fault → line ≡ tree_fault_line texts names first fault
       → RefusesTexts texts names first line
   cyclic : (tree : Tree) (units : List ℕ) → IsTreeOfFiles texts first tree
       → IsNamedCycle (length tree.units) (dependencies tree) units → IsCycle (length tree.units) (dependencies tree) units

@@ -1,13 +1,13 @@
 //! The names of a tree's files in messages.
 ghost use Rattle.std.specs.Prelude.{◌≡◌, length, option_map};
 ghost use Rattle.kc_tree_model.specs.TreeFiles.{path_at};
-ghost use Rattle.kmin_trees.specs.JobTexts.{name_of_key};
-ghost use Rattle.kmin_trees.specs.between.FileNames.{names_of, texts_named};
+ghost use Rattle.kmin_trees.specs.between.FileNames.{names_of, texts_named, texts_of};
 
 use kc_expansion::ExpandedTree;
 use kc_tree::Texts;
+use kmin_report::file_name;
 
-/// The names of a tree's files in messages: their paths among the texts, or for expanded files the paths that were
+/// The texts of a tree, and the names of its files in messages: their paths among the texts, or for expanded files the paths that were
 /// read.
 #[derive(Drop)]
 pub struct FileNames<'a> {
@@ -15,17 +15,11 @@ pub struct FileNames<'a> {
     pub(crate) expanded: Option<&'a ExpandedTree>,
 }
 
-/// The path that was read for the key of an expanded file.
-fn name_of_key<'a>(tree: &'a ExpandedTree, key: &'a str) -> &'a [u8]
-    ensures { result.now ≡ name_of_key tree.now key.now }
-{
-    tree.path_of(key.as_bytes()).unwrap_or(key.as_bytes())
-}
-
 impl<'a> FileNames<'a> {
     /// The names of the files of a tree without expansion: their paths among the texts.
     pub fn of_texts(texts: &'a Texts) -> FileNames<'a>
-        ensures { names_of result ≡ texts.now }
+        ensures names { names_of result ≡ texts.now }
+        ensures texts { texts_of result ≡ texts.now }
     {
         FileNames {
             texts,
@@ -35,7 +29,8 @@ impl<'a> FileNames<'a> {
 
     /// The names of the files of a tree that may be expanded: those of an expanded one are the paths that were read for their keys.
     pub(crate) fn of_tree(texts: &'a Texts, expanded: &'a Option<ExpandedTree>) -> FileNames<'a>
-        ensures { names_of result ≡ texts_named expanded.now texts.now }
+        ensures names { names_of result ≡ texts_named expanded.now texts.now }
+        ensures texts { texts_of result ≡ texts.now }
     {
         match expanded {
             Some(tree) => FileNames {
@@ -57,10 +52,6 @@ impl<'a> FileNames<'a> {
     pub(crate) fn name_at(&self, number: u32) -> Option<&'a [u8]>
         ensures { option_map (λ name. name.now) result ≡ path_at (names_of self.now) number }
     {
-        let key = self.texts.path_at(number)?;
-        match self.expanded {
-            Some(tree) => Some(name_of_key(tree, key)),
-            None => Some(key.as_bytes()),
-        }
+        file_name(self.texts, self.expanded, number)
     }
 }

@@ -7,7 +7,7 @@ ghost use Rattle.kmin_options.specs.Jobs.{expansion_view, settings_view};
 ghost use Rattle.kmin_trees.specs.AcceptedTrees.{AreAccepted};
 ghost use Rattle.kmin_inputs.specs.FileContents.{AreTextsBelow};
 ghost use Rattle.kmin_trees.specs.MissingFiles.{MissesOnlyMissing};
-ghost use Rattle.kmin_trees.specs.JobTexts.{TreeTexts, AreExpandedTexts, AreTextsOfJob, named_texts};
+ghost use Rattle.kmin_trees.specs.JobTexts.{TreeTexts, AreExpandedTexts, AreTextsOfJob};
 ghost use Rattle.kmin_report.specs.StandardError.{TakesLines};
 ghost use Rattle.kc_files.specs.TreeContents.{HasRisen};
 ghost use Rattle.kmin_trees.specs.Stops.{StopsAtTree, StopsInExpansion};
@@ -16,6 +16,7 @@ ghost use Rattle.kmin_trees.specs.between.FileNames.{texts_named};
 ghost use Rattle.kmin_trees.specs.between.JobTrees.{IsJobTree, plain_texts};
 ghost use Rattle.kmin_trees.specs.between.Readings.{IsReadWith};
 ghost use Rattle.kmin_report.specs.between.RunErrors.{status_of};
+ghost use Rattle.kmin_report.specs.FileNames.{named_texts};
 ghost use Rattle.kmin_report.specs.Reports.{ErrorLine};
 ghost use Rattle.kmin_trees.specs.between.TreeStops.{StopsAtTexts};
 
@@ -191,7 +192,7 @@ fn settled_texts<L: KeptLines, E: Messages>(
     ensures remembered { IfErr result (λ stop. status_of stop ≡ 3 → IfErr read (λ fault. fault.kind ≢ OutOfMemory)) }
 {
     let names = FileNames::of_tree(&texts, &expanded);
-    match settled_read(alloc, &texts, &names, first, read, profile, err) {
+    match settled_read(alloc, &names, first, read, profile, err) {
         Ok((settled, lines)) => Ok(JobTree {
             settled,
             lines,

@@ -7,7 +7,7 @@ ghost use Rattle.kc_rules.specs.between.SettledViews.{tree_model_of, tree_of_set
 ghost use Rattle.kmin_trees.specs.AcceptedTrees.{AreAccepted};
 ghost use Rattle.kmin_report.specs.Reports.{ErrorLine, tree_fault_line, tree_cycle_line, cycle_place, unit_place};
 ghost use Rattle.kmin_report.specs.StandardError.{TakesLine, TakesLines};
-ghost use Rattle.kmin_trees.specs.between.FileNames.{names_of};
+ghost use Rattle.kmin_trees.specs.between.FileNames.{names_of, texts_of};
 ghost use Rattle.kmin_trees.specs.between.Readings.{IsRead, IsReadWith};
 ghost use Rattle.kmin_report.specs.between.RunErrors.{status_of};
 ghost use Rattle.kmin_trees.specs.between.TreeStops.{StopsAtTexts, settle_status, settle_lines};
@@ -31,23 +31,22 @@ pub fn read_texts(alloc: Global, texts: &Texts, first: &str) -> Result<Tree, Tre
 /// files.
 pub fn settled_tree<E: Messages>(
     alloc: Global,
-    texts: &Texts,
     names: &FileNames<'_>,
     first: &str,
     read: Result<Tree, TreeFault>,
     profile: Profile,
     err: &mut E,
 ) -> Result<Settled, RunError>
-    requires read { IsRead texts.now first.now read }
-    ensures accepted { IfOk result (λ settled. AreAccepted texts.now first.now (tree_of_settled settled)) }
+    requires read { IsRead (texts_of names.now) first.now read }
+    ensures accepted { IfOk result (λ settled. AreAccepted (texts_of names.now) first.now (tree_of_settled settled)) }
     ensures profile { IfOk result (λ settled. profile_of settled ≡ profile) }
     ensures unreported { OnOk result (TakesLines (E.taken err.old) (E.failures err.old) [] (E.taken err.new) (E.failures err.new)) }
-    ensures stopped { IfErr result (λ stop. (lines : List ErrorLine) × StopsAtTexts texts.now (names_of names.now) first.now (status_of stop) lines × TakesLines (E.taken err.old) (E.failures err.old) lines (E.taken err.new) (E.failures err.new)) }
+    ensures stopped { IfErr result (λ stop. (lines : List ErrorLine) × StopsAtTexts (texts_of names.now) (names_of names.now) first.now (status_of stop) lines × TakesLines (E.taken err.old) (E.failures err.old) lines (E.taken err.new) (E.failures err.new)) }
     ensures remembered { IfErr result (λ stop. status_of stop ≡ 3 → IfErr read (λ fault. fault.kind ≢ OutOfMemory)) }
 {
     match read {
-        Ok(tree) => settled_of(alloc, texts, names, first, tree, profile, err),
-        Err(fault) => Err(refuse_texts(texts, names, first, fault, err)),
+        Ok(tree) => settled_of(alloc, names, first, tree, profile, err),
+        Err(fault) => Err(refuse_texts(names, first, fault, err)),
     }
 }
 
@@ -55,48 +54,46 @@ pub fn settled_tree<E: Messages>(
 /// files.
 pub(crate) fn settled_read<L: KeptLines, E: Messages>(
     alloc: Global,
-    texts: &Texts,
     names: &FileNames<'_>,
     first: &str,
     read: Result<ReadTree<L>, TreeFault>,
     profile: Profile,
     err: &mut E,
 ) -> Result<(Settled, L), RunError>
-    requires read { IsReadWith L L.are_of texts.now first.now read }
-    ensures accepted { IfOk result (λ both. AreAccepted texts.now first.now (tree_of_settled both.0)) }
-    ensures lines { IfOk result (λ both. L.are_of texts.now first.now (tree_model_of both.0) both.1) }
+    requires read { IsReadWith L L.are_of (texts_of names.now) first.now read }
+    ensures accepted { IfOk result (λ both. AreAccepted (texts_of names.now) first.now (tree_of_settled both.0)) }
+    ensures lines { IfOk result (λ both. L.are_of (texts_of names.now) first.now (tree_model_of both.0) both.1) }
     ensures profile { IfOk result (λ both. profile_of both.0 ≡ profile) }
     ensures unreported { OnOk result (TakesLines (E.taken err.old) (E.failures err.old) [] (E.taken err.new) (E.failures err.new)) }
-    ensures stopped { IfErr result (λ stop. (lines : List ErrorLine) × StopsAtTexts texts.now (names_of names.now) first.now (status_of stop) lines × TakesLines (E.taken err.old) (E.failures err.old) lines (E.taken err.new) (E.failures err.new)) }
+    ensures stopped { IfErr result (λ stop. (lines : List ErrorLine) × StopsAtTexts (texts_of names.now) (names_of names.now) first.now (status_of stop) lines × TakesLines (E.taken err.old) (E.failures err.old) lines (E.taken err.new) (E.failures err.new)) }
     ensures remembered { IfErr result (λ stop. status_of stop ≡ 3 → IfErr read (λ fault. fault.kind ≢ OutOfMemory)) }
 {
     match read {
         Ok(ReadTree { tree, lines }) => {
-            match settled_of(alloc, texts, names, first, tree, profile, err) {
+            match settled_of(alloc, names, first, tree, profile, err) {
                 Ok(settled) => Ok((settled, lines)),
                 Err(stop) => Err(stop),
             }
         }
-        Err(fault) => Err(refuse_texts(texts, names, first, fault, err)),
+        Err(fault) => Err(refuse_texts(names, first, fault, err)),
     }
 }
 
 /// Settles the tree of texts. Reports its cycle, if it has one, with these names of files.
 fn settled_of<E: Messages>(
     alloc: Global,
-    texts: &Texts,
     names: &FileNames<'_>,
     first: &str,
     tree: Tree,
     profile: Profile,
     err: &mut E,
 ) -> Result<Settled, RunError>
-    requires read { IsTreeOfFiles texts.now first.now tree.tree }
-    ensures accepted { IfOk result (λ settled. AreAccepted texts.now first.now (tree_of_settled settled)) }
+    requires read { IsTreeOfFiles (texts_of names.now) first.now tree.tree }
+    ensures accepted { IfOk result (λ settled. AreAccepted (texts_of names.now) first.now (tree_of_settled settled)) }
     ensures tree { IfOk result (λ settled. tree_model_of settled ≡ tree) }
     ensures profile { IfOk result (λ settled. profile_of settled ≡ profile) }
     ensures unreported { OnOk result (TakesLines (E.taken err.old) (E.failures err.old) [] (E.taken err.new) (E.failures err.new)) }
-    ensures stopped { IfErr result (λ stop. (lines : List ErrorLine) × StopsAtTexts texts.now (names_of names.now) first.now (status_of stop) lines × TakesLines (E.taken err.old) (E.failures err.old) lines (E.taken err.new) (E.failures err.new)) }
+    ensures stopped { IfErr result (λ stop. (lines : List ErrorLine) × StopsAtTexts (texts_of names.now) (names_of names.now) first.now (status_of stop) lines × TakesLines (E.taken err.old) (E.failures err.old) lines (E.taken err.new) (E.failures err.new)) }
 {
     match settle(alloc, tree, profile) {
         Ok(settled) => Ok(settled),
@@ -110,14 +107,13 @@ fn settled_of<E: Messages>(
 
 /// Reports the fault of texts, with these names of files, and returns the error that ends the run. Out of memory is reported later.
 fn refuse_texts<'a, E: Messages>(
-    texts: &Texts,
     names: &FileNames<'a>,
     first: &'a str,
     fault: TreeFault,
     err: &mut E,
 ) -> RunError
-    requires reported { fault.kind ≢ OutOfMemory → IsReportedFault texts.now first.now fault }
-    ensures stopped { (lines : List ErrorLine) × StopsAtTexts texts.now (names_of names.now) first.now (status_of result) lines × TakesLines (E.taken err.old) (E.failures err.old) lines (E.taken err.new) (E.failures err.new) }
+    requires reported { fault.kind ≢ OutOfMemory → IsReportedFault (texts_of names.now) first.now fault }
+    ensures stopped { (lines : List ErrorLine) × StopsAtTexts (texts_of names.now) (names_of names.now) first.now (status_of result) lines × TakesLines (E.taken err.old) (E.failures err.old) lines (E.taken err.new) (E.failures err.new) }
     ensures remembered { status_of result ≡ 3 → fault.kind ≢ OutOfMemory }
 {
     if fault.kind == TreeKind::OutOfMemory {
@@ -134,7 +130,7 @@ fn report_tree_fault<'a, E: Messages>(
     fault: TreeFault,
     err: &mut E,
 )
-    ensures { TakesLine (E.taken err.old) (E.failures err.old) (tree_fault_line (names_of names.now) first.now fault) (E.taken err.new) (E.failures err.new) }
+    ensures { TakesLine (E.taken err.old) (E.failures err.old) (tree_fault_line (texts_of names.now) (names_of names.now) first.now fault) (E.taken err.new) (E.failures err.new) }
 {
     let path = match fault.file {
         Some(number) => path_of_file(names, first, number),

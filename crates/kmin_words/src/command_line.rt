@@ -11,6 +11,7 @@ ghost use Rattle.kmin_options.specs.between.Refusals.{Agrees};
 use crate::explain_words::explain_job_of;
 use crate::names::{nearest, with_tip};
 use crate::output_words::job_and_output;
+use crate::reasons_words::{asks_for_reasons, reasons_job_of};
 use crate::tidy_words::tidy_job_of;
 use clap::error::ErrorKind;
 use clap::{ArgMatches, Error};
@@ -36,7 +37,7 @@ pub enum ParsedWords<'a> {
     Questions(Questions<'a>),
     /// `kmin tidy`, which compares each file with its minimal file, or replaces it.
     Tidy(TidyJob<'a>),
-    /// `kmin explain`, which says why symbols have their values.
+    /// A command that gives reasons: `kmin explain`, or `kmin missed` or `kmin check` with `--long` or `--by-cause`.
     Explain(ExplainJob<'a>),
     /// The text of the help or of the version, if the words request it.
     Help(String),
@@ -116,7 +117,38 @@ fn named_job<'a>(
         "wants" => parsed_questions(alloc, matches),
         "tidy" => parsed_tidy_job(alloc, matches),
         "explain" => parsed_explain_job(alloc, matches),
-        _ => parsed_job(alloc, name, matches),
+        _ => parsed_listing(alloc, name, matches),
+    }
+}
+
+/// A command over one configuration that is written or listed, or with `--long` or `--by-cause` explained; or the message for a value
+/// that isn't allowed.
+fn parsed_listing<'a>(
+    alloc: Global,
+    name: &str,
+    matches: &ArgMatches<'a>,
+) -> Result<ParsedWords<'a>, AllocError>
+    ensures { IfOk result (parsed.IsListing name.now (found_of matches.now)) }
+{
+    if asks_for_reasons(matches) {
+        parsed_reasons(alloc, name, matches)
+    } else {
+        parsed_job(alloc, name, matches)
+    }
+}
+
+/// The command `missed` or `check` that asks for reasons, or the message for a value that isn't allowed.
+fn parsed_reasons<'a>(
+    alloc: Global,
+    name: &str,
+    matches: &ArgMatches<'a>,
+) -> Result<ParsedWords<'a>, AllocError>
+    ensures { IfOk result (parsed.IsExplainJob (parsed.reasons_job_of name.now (found_of matches.now))) }
+{
+    match reasons_job_of(alloc, name, matches) {
+        Ok(explain_job) => Ok(ParsedWords::Explain(explain_job)),
+        Err(Refusal::Words(line)) => Ok(ParsedWords::Refused(String::from_str(alloc, line)?)),
+        Err(Refusal::OutOfMemory) => Err(AllocError),
     }
 }
 

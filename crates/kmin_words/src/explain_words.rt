@@ -8,7 +8,7 @@ ghost use Rattle.kmin_options.specs.between.Refusals.{Agrees};
 
 use crate::command_line::settings_of;
 use clap::ArgMatches;
-use kmin_options::{ExplainFlags, ExplainJob, Refusal, is_given, value_of, values_of};
+use kmin_options::{ExplainFlags, ExplainJob, Question, Refusal, is_given, value_of, values_of};
 use std::alloc::{AllocError, Global};
 
 /// The command `kmin explain`, with its options, flags, names and files.
@@ -22,8 +22,10 @@ pub(crate) fn explain_job_of<'a>(
     let settings = settings_of(alloc, matches, &files)?;
     Ok(ExplainJob {
         settings,
-        flags: explain_flags_of(matches),
-        names: names_of(matches),
+        question: Question::Explain {
+            flags: explain_flags_of(matches),
+            names: names_of(matches),
+        },
         files,
     })
 }

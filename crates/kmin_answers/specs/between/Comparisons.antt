@@ -4,7 +4,7 @@ use Rattle.kc_tree_model.specs.Trees.{Tree}
 use Rattle.kc_dotconfig_model.specs.Formats.{FileFormat}
 use Rattle.kc_dotconfig_model.specs.ConfigFiles.{empty_assignment}
 use Rattle.kc_dotconfig_model.specs.OtherChoices.{other_choices_of, placed_from}
-use Rattle.kc_dotconfig.specs.ConfigStates.{tree_in}
+use Rattle.kc_config.specs.ConfigStates.{tree_in}
 use Rattle.kc_files.specs.TreeContents.{FileContent}
 use Rattle.kmin_report.specs.Reports.{choice_notice_lines}
 use Rattle.kmin_report.specs.StandardError.{SpelledBytes, TakesLines}

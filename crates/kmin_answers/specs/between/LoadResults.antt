@@ -28,7 +28,7 @@ pub record IsLoaded (content : FileContent) (format : FileFormat) (tree : Tree) 
   pub users : users_of tree fragment.assigns.items ≡ file_assignment tree meanings
   pub noted : map notice_pair fragment.notices.items ≡ notices_from 1 meanings
   pub chosen : fragment.chosen.items ≡ choice_lines_from 1 meanings
-  pub reported : TakesLines taken failed (file_notices path meanings) taken_after failed_after
+  pub reported : TakesLines taken failed (file_notices tree path meanings) taken_after failed_after
 
 -- configuration files, whose bytes match what is known of them, are accepted, `users` is the assignment `before` overridden by
 -- theirs, and their notices were reported on standard error
@@ -36,7 +36,7 @@ pub record AreLoaded (content_of : List ℕ → FileContent) (format : FileForma
   pub meanings : List (List LineMeaning)
   pub mean : FilesMean content_of format strict tree paths meanings
   pub users_are : users ≡ overlaid_by tree before meanings
-  pub reported : TakesLines taken failed (notice_lines paths meanings) taken_after failed_after
+  pub reported : TakesLines taken failed (notice_lines tree paths meanings) taken_after failed_after
 
 -- the lines of members of several files, from the vectors that hold them
 abbrev pub lists_of : List (Vec ChoiceLine) → List (List ChoiceLine)

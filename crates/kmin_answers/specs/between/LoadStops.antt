@@ -11,7 +11,7 @@ use Rattle.kc_files.specs.TreeContents.{FileContent}
 use Rattle.kc_rules_model.specs.declared.values.UnitValue.{UnitValue}
 use Rattle.kc_dotconfig_model.specs.declared.choice_line.ChoiceLine.{ChoiceLine}
 use Rattle.kc_dotconfig_model.specs.OtherChoices.{other_choices_of, placed_from}
-use Rattle.kmin_report.specs.Reports.{ErrorLine, fault_line, notice_line, choice_notice_lines}
+use Rattle.kmin_report.specs.Reports.{ErrorLine, fault_line, tree_notice_line, choice_notice_lines}
 use Rattle.kmin_answers.specs.Strictness.{RefusesNotices}
 use Rattle.kmin_report.specs.StandardError.{SpelledBytes, TakesLines}
 use Rattle.kmin_options.specs.Jobs.{Settings, Task, paths_of}
@@ -28,9 +28,9 @@ abbrev pub load_lines : (path : List ℕ) (number : ℕ) → LoadKind → List E
 load_lines path number OutOfMemory = []
 load_lines path number kind = fault_line path number kind ∷ []
 
--- the lines of standard error for the notices of a fragment of the configuration file at a path
-abbrev pub fragment_notices : (path : List ℕ) → Fragment → List ErrorLine
-fragment_notices path fragment = map (λ notice. notice_line path (notice_pair notice)) fragment.notices.items
+-- the lines of standard error for the notices of a fragment of the configuration file at a path, over a tree
+abbrev pub fragment_notices : Tree → (path : List ℕ) → Fragment → List ErrorLine
+fragment_notices tree path fragment = map (λ notice. tree_notice_line tree path (notice_pair notice)) fragment.notices.items
 
 -- reading a configuration file ended with a fault of this exit status, which was reported on standard error
 pub record StopsLoad (format : FileFormat) (tree : Tree) (path : List ℕ) (left left_after : Option (List ℕ)) (read_failed read_failed_after : ℕ) (status : ℕ) (taken : SpelledBytes) (failed : ℕ) (taken_after : SpelledBytes) (failed_after : ℕ) : Type 0 where

@@ -6,7 +6,7 @@ use Rattle.kc_tree_model.specs.Blocks.{Group}
 use Rattle.kc_tree_model.specs.Contents.{tree_of_groups}
 use Rattle.kc_rules.specs.between.SettledViews.{tree_model_of, profile_of}
 use Rattle.kc_dotconfig_model.specs.ConfigLines.{LineMeaning}
-use Rattle.kc_dotconfig.specs.ConfigStates.{Configured, tree_in}
+use Rattle.kc_config.specs.ConfigStates.{Configured, tree_in}
 use Rattle.kc_builder.specs.between.TreeLines.{HasLines}
 use Rattle.kc_symbol_lines.specs.between.Indexes.{IsReadTree, IsIndex}
 use Rattle.kc_config_reasons.specs.between.FileLines.{KeepsLines}

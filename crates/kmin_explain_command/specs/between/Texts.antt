@@ -6,12 +6,12 @@ use Rattle.kc_tree_model.specs.Blocks.{Group}
 use Rattle.kc_tree_model.specs.Contents.{tree_of_groups}
 use Rattle.kc_rules.specs.between.SettledViews.{tree_model_of, profile_of}
 use Rattle.kc_dotconfig_model.specs.ConfigLines.{LineMeaning}
-use Rattle.kc_dotconfig.specs.ConfigStates.{Configured, tree_in}
+use Rattle.kc_config.specs.ConfigStates.{Configured, tree_in}
 use Rattle.kc_builder.specs.between.TreeLines.{HasLines}
 use Rattle.kc_builder.specs.declared.tree_lines.TreeLines.{TreeLines}
 use Rattle.kc_config_reasons.specs.between.FileLines.{KeepsLines}
 use Rattle.kmin_explain.specs.Explanations.{SourcesModel, explained_in, is_one_hindered}
-use Rattle.kmin_options.specs.Jobs.{explain_job_view, ExplainJob as GivenJob}
+use Rattle.kmin_options.specs.Jobs.{explain_job_view, ExplainJob as GivenJob, Question}
 use Rattle.kmin_options.specs.declared.job.ExplainFlags.{ExplainFlags}
 use Rattle.kmin_options.specs.declared.job.ExplainJob.{ExplainJob}
 use Rattle.kmin_report.specs.Reports.{refused_line}
@@ -20,7 +20,7 @@ use Rattle.kmin_trees.specs.declared.lined_trees.LinedTree.{LinedTree}
 use Rattle.kmin_answers.specs.between.Comparisons.{AreNoticed}
 use Rattle.kmin_answers.specs.between.LoadStops.{StopsNoticing}
 use Rattle.kmin_answers.specs.between.LoadResults.{lists_of}
-use Rattle.kmin_explain_command.specs.Explains.{AreExplained, AreExplainedFor, IsUnknown, explain_status}
+use Rattle.kmin_explain_command.specs.Explains.{AreExplainedFor, IsTextFor, IsUnknown, status_for, symbols_in}
 use Rattle.kmin_explain_command.specs.Stops.{unknown_text}
 use Rattle.kmin_explain_command.specs.declared.lined_files.LinedFiles.{LinedFiles}
 
@@ -57,12 +57,14 @@ IsTextOf flags g named text = (symbols : List ℕ) × AreExplainedFor flags.deep
 abbrev pub status_by : ExplainFlags → SourcesModel → (named : List ℕ) → ℕ
 status_by flags g named = if flags.exit_code && is_one_hindered g named then 1 else 0
 
+-- the text and the status for a question, of `explain` for these named symbols
+pub record IsAnswerFor (question : Question) (g : SourcesModel) (named : List ℕ) (text : List ℕ) (status : ℕ) : Type 0 where
+  pub text_is : IsTextFor question g named text
+  pub status_is : status ≡ status_for question g named
+
 -- the text and the status for the symbols of a job, whether or not each of its names means one
-pub record IsAnswerOf (job : GivenJob) (g : SourcesModel) (text : List ℕ) (status : ℕ) : Type 0 where
-  pub symbols : List ℕ
-  pub explained : AreExplained job g symbols
-  pub text_is : text ≡ explained_in g job.flags.all symbols
-  pub status_is : status ≡ explain_status job g
+abbrev pub IsAnswerOf : GivenJob → SourcesModel → (text : List ℕ) → (status : ℕ) → Type 0
+IsAnswerOf job g text status = IsAnswerFor job.question g (symbols_in job g.tree) text status
 
 -- `explain` ends, once its files are read: at the choices of their configuration, or after the notices on these for a name that means
 -- no symbol, or since memory runs out

@@ -1,5 +1,5 @@
 -- The definitions of symbols among the statements of a listing.
-use Rattle.std.specs.Prelude.{◌≡◌, ℕ, ◌≤◌, Bool, true, false, ◌&&◌, ◌==◌, ◌∷◌, ◌++◌, nat_le, All, List, length, find, Option, Some, None, option_and_then, option_map, slice_range, if◌then◌else◌}
+use Rattle.std.specs.Prelude.{ℕ, Bool, true, false, ◌&&◌, ◌==◌, [], ◌∷◌, nat_le, List, length, find, reverse, Option, Some, None, option_and_then, option_map, slice_range, if◌then◌else◌}
 use Rattle.std.specs.List.{list_any, range_with_len}
 use Rattle.std.specs.Option.{option_or}
 use Rattle.kc_statements.specs.declared.statement.Attribute.{Attribute}
@@ -9,6 +9,8 @@ use Rattle.kc_listing.specs.declared.listing.GroupHead.{GroupHead}
 use Rattle.kc_listing.specs.declared.listing.GroupHead.TheVariants.{Config}
 use Rattle.kc_listing.specs.declared.listing.Line.{Line}
 use Rattle.kc_listing.specs.declared.listing.Listing.{Listing}
+use Rattle.kc_tree_model.specs.Blocks.{Position}
+use Rattle.kmin_faults.specs.FirstPlaces.{later}
 use Rattle.kc_checks.specs.between.Summaries.{attributes_end, group_at}
 use Rattle.kmin_faults.specs.declared.first_places.TextPlace.{TextPlace}
 
@@ -25,12 +27,18 @@ defines symbol group = elim (defined_by group.head) [ None ↦ false | Some s �
 abbrev pub begins_before : TextPlace → Group → Bool
 begins_before at group = elim (defined_by group.head) [ None ↦ false | Some s ↦ group.file == at.file && nat_le group.line at.line ]
 
--- the symbol whose definition has a place: that of the last line before it, or at it, where a definition begins; None where none does
-pub data IsDefinitionAt (groups : List Group) (at : TextPlace) : Option ℕ → Type 0 where
-  none : All (λ g. begins_before at g ≡ false) groups → IsDefinitionAt groups at None
-  last : (front back : List Group) (group : Group) (symbol : ℕ) → groups ≡ front ++ group ∷ back → begins_before at group ≡ true
-      → defined_by group.head ≡ Some symbol
-      → All (λ g. begins_before at g ≡ true → g.line ≤ group.line) groups → IsDefinitionAt groups at (Some symbol)
+-- the last line, at a place or before it in its file, at which one of these definitions begins; 0 if none does
+abbrev pub last_line : TextPlace → (newest : List Group) → ℕ
+last_line at [] = 0
+last_line at (g ∷ before) = if begins_before at g then later g.line (last_line at before) else last_line at before
+
+-- the number of the symbol whose definition begins at that line
+abbrev pub definition_at : TextPlace → (newest : List Group) → Option ℕ
+definition_at at newest = option_and_then (λ (g : Group). defined_by g.head) (find (λ g. begins_before at g && (g.line == last_line at newest)) newest)
+
+-- a place as the definitions have it
+abbrev pub position_of : TextPlace → Position
+position_of place = record { file = place.file; line = place.line }
 
 -- the place of a statement
 abbrev pub place_of : Group → TextPlace
@@ -75,8 +83,10 @@ unless_same (Some place) at = if is_same_place place at then None else Some plac
 abbrev pub other_place : Listing → (at : TextPlace) → (symbol : ℕ) → Option TextPlace
 other_place listing at symbol = option_or (unless_same (first_of listing.groups.items symbol) at) (unless_same (first_typed listing symbol) at)
 
--- a place is found for the symbol whose definition has another place; None where there is no such symbol
-pub record IsFoundFor (listing : Listing) (at : TextPlace) (find_place : ℕ → Option TextPlace) (found : Option TextPlace) : Type 0 where
-  pub symbol : Option ℕ
-  pub is_of : IsDefinitionAt listing.groups.items at symbol
-  pub place : found ≡ option_and_then find_place symbol
+-- the place of the first definition with a type of the symbol whose definition has a place
+abbrev pub first_type_in : Listing → (at : TextPlace) → Option TextPlace
+first_type_in listing at = option_and_then (first_typed listing) (definition_at at (reverse listing.groups.items))
+
+-- the place of another definition of the symbol whose definition has a place
+abbrev pub other_definition_in : Listing → (at : TextPlace) → Option TextPlace
+other_definition_in listing at = option_and_then (other_place listing at) (definition_at at (reverse listing.groups.items))

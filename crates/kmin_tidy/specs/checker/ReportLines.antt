@@ -1,5 +1,6 @@
 -- The lines of each report.
 use Rattle.std.specs.Prelude.{ℕ, List, [], ◌∷◌, ◌++◌, Option, Some, None, map, string_bytes}
+use Rattle.kc_tree_model.specs.Trees.{Tree}
 use Rattle.kc_dotconfig.specs.Fragments.{notice_pair}
 use Rattle.kmin_report.specs.Reports.{ErrorLine, fault_line, not_regular_line, write_line, left_line, memory_line}
 use Rattle.kmin_tidy.specs.Reports.{notice_lines}
@@ -20,9 +21,9 @@ abbrev pub problem_lines : (path : List ℕ) → Option Problem → List ErrorLi
 problem_lines path None = []
 problem_lines path (Some problem) = problem_line path problem ∷ []
 
--- the lines of standard error for a file's report: those of its notices, and then that of its problem
-abbrev pub report_lines : (path : List ℕ) → FileReport → List ErrorLine
-report_lines path report = notice_lines path (map notice_pair report.notices.items) ++ problem_lines path report.problem
+-- the lines of standard error for a file's report over a tree: those of its notices, and then that of its problem
+abbrev pub report_lines : Tree → (path : List ℕ) → FileReport → List ErrorLine
+report_lines tree path report = notice_lines tree path (map notice_pair report.notices.items) ++ problem_lines path report.problem
 
 -- the last line of standard error of a run that ends early for this reason
 abbrev pub stop_line : Stop → ErrorLine

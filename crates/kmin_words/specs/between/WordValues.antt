@@ -15,11 +15,13 @@ use Rattle.kmin_messages.specs.declared.message.Form.{Form}
 use Rattle.kmin_messages.specs.declared.message.Form.TheVariants.{Long, Json}
 use Rattle.kmin_options.specs.declared.job.TidyFlags.{TidyFlags}
 use Rattle.kmin_options.specs.declared.job.ExplainFlags.{ExplainFlags}
+use Rattle.kmin_options.specs.declared.job.MissedForm.{MissedForm}
+use Rattle.kmin_options.specs.declared.job.MissedForm.TheVariants.{Lines, Causes}
 use Rattle.kmin_options.specs.declared.job.Verb.{Verb}
 use Rattle.kmin_options.specs.declared.job.Verb.TheVariants.{Min, Full, Missed, Check}
 use Rattle.kmin_words.specs.declared.command_line.ParsedWords.{ParsedWords}
 use Rattle.kmin_words.specs.declared.command_line.ParsedWords.TheVariants.{Job, Save, Questions as TheQuestions, Tidy, Explain, Refused}
-use Rattle.kmin_options.specs.Jobs.{Settings, Questions, PathList, TidyJob, ExplainJob, Task, over, compare, paths_of, settings_view, questions_view, tidy_job_view, explain_job_view, task_view}
+use Rattle.kmin_options.specs.Jobs.{Settings, Questions, PathList, TidyJob, Question, explain, missed, check, ExplainJob, Task, over, compare, paths_of, settings_view, questions_view, tidy_job_view, explain_job_view, task_view}
 use Rattle.kmin_options.specs.between.OptionValues.{value_of, values_of, is_given, ValueResult, names_file, paths_beside, and_then, expansion_of, is_expanded, expansion_if_given, name_prefix_of}
 
 -- whether `--exit-code` is given
@@ -182,7 +184,38 @@ explained_files_of found = if is_given found (codes "every")
 abbrev pub explain_job_of : Found → ValueResult ExplainJob
 explain_job_of found =
     and_then (settings_of found (explained_files_of found)) (λ settings.
-    Ok (record { settings = settings; flags = explain_flags_of found; names = names_of found; files = explained_files_of found }))
+    Ok (record { settings = settings; question = explain (explain_flags_of found) (names_of found); files = explained_files_of found }))
+
+-- whether a command is asked for reasons: `--long` or `--by-cause` is given, which no command has but `missed` and `check`
+abbrev pub asks_for_reasons : Found → Bool
+asks_for_reasons found = is_given found (codes "long") || is_given found (codes "by-cause")
+
+-- the form in which `missed` says why symbols don't have their assigned values
+abbrev pub missed_form_of : Found → MissedForm
+missed_form_of found = if is_given found (codes "by-cause") then Causes else Lines
+
+-- what `check`, or else `missed`, asks of reasons
+abbrev pub question_of : List ℕ → Found → Question
+question_of name found =
+    if bytes_eq name (codes "check") then check (exit_code_of found) else missed (missed_form_of found) (exit_code_of found)
+
+-- the values of the command `missed` or `check` that asks for reasons in one form: its options, question and files
+abbrev pub question_job_of : List ℕ → Found → ValueResult ExplainJob
+question_job_of name found =
+    and_then (settings_of found (values_of found (codes "FILE"))) (λ settings.
+    Ok (record { settings = settings; question = question_of name found; files = values_of found (codes "FILE") }))
+
+-- the message with which `--long` is refused beside `--by-cause`
+abbrev pub two_forms : List ℕ
+two_forms = codes "error: the argument '--long' cannot be used with '--by-cause'\n\nFor more information, try '--help'.\n"
+
+-- whether both are given
+abbrev pub has_two_forms : Found → Bool
+has_two_forms found = is_given found (codes "long") && is_given found (codes "by-cause")
+
+-- the values of the command `missed` or `check` that asks for reasons; refused with two forms
+abbrev pub reasons_job_of : List ℕ → Found → ValueResult ExplainJob
+reasons_job_of name found = if has_two_forms found then Err two_forms else question_job_of name found
 
 -- parsed words are the command `wants` with these values, or the message with which a value is refused
 abbrev pub AreQuestions : ValueResult Questions → ParsedWords → Type 0
@@ -204,11 +237,17 @@ IsTidyJob found (Tidy tidy_job) = found ≡ Ok (tidy_job_view tidy_job)
 IsTidyJob found (Refused text) = found ≡ Err text.bytes.items
 IsTidyJob found words = ⊥
 
--- parsed words are the command `explain` with these values, or the message with which a value is refused
+-- parsed words are a command that gives reasons, with these values, or the message with which a value is refused
 abbrev pub IsExplainJob : ValueResult ExplainJob → ParsedWords → Type 0
 IsExplainJob found (Explain explain_job) = found ≡ Ok (explain_job_view explain_job)
 IsExplainJob found (Refused text) = found ≡ Err text.bytes.items
 IsExplainJob found words = ⊥
+
+-- parsed words are a command over configuration files with these values: `missed` or `check` where they ask for reasons, else the one
+-- of this name that writes or lists; or the message with which a value is refused
+abbrev pub IsListing : (name : List ℕ) → Found → ParsedWords → Type 0
+IsListing name found words =
+    elim (asks_for_reasons found) [ true ↦ IsExplainJob (reasons_job_of name found) words | false ↦ AreJob (job_and_output_of name found) words ]
 
 -- parsed words are the command of this name with the values that were found, or the message with which one is refused
 abbrev pub HasValues : (name : List ℕ) → Found → ParsedWords → Type 0
@@ -216,6 +255,6 @@ HasValues name found words = elim (bytes_eq name (codes "wants")) [
   | true ↦ AreQuestions (questions_of found) words
   | false ↦ elim (bytes_eq name (codes "tidy")) [
     | true ↦ IsTidyJob (tidy_job_of found) words
-    | false ↦ elim (bytes_eq name (codes "explain")) [ true ↦ IsExplainJob (explain_job_of found) words | false ↦ AreJob (job_and_output_of name found) words ]
+    | false ↦ elim (bytes_eq name (codes "explain")) [ true ↦ IsExplainJob (explain_job_of found) words | false ↦ IsListing name found words ]
   ]
 ]

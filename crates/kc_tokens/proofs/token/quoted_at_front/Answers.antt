@@ -1,21 +1,9 @@
-use Rattle.std.proofs.Common.{arith}
-use Rattle.std.proofs.lemmas.Grind.{common_steps}
+use Rattle.std.proofs.Common.{sym}
+use Rattle.kc_tokens.proofs.PlainQuotes.{plain_quoted, plain_reaches}
 use Rattle.kc_tokens.proofs.token.quoted_at_front.Goals as goal
 
-pub returns-in-None-dollar_left_out-clause-reaches : goal.returns-in-None-dollar_left_out-clause-reaches
-returns-in-None-dollar_left_out-clause-reaches c = grind (arith, common_steps)
+pub returns-in-Some-clause-lead : goal.returns-in-Some-clause-lead
+returns-in-Some-clause-lead c = sym (plain_quoted c.args.bytes.now c.in-Some.place c.requires.quote c.in-Some.ensures c.args.language)
 
-pub slice_bounds-dollar_left_out-end : goal.slice_bounds-dollar_left_out-end
-slice_bounds-dollar_left_out-end c = grind (arith, common_steps)
-
-pub returns-in-None-clause-lead : goal.returns-in-None-clause-lead
-returns-in-None-clause-lead c = grind (arith, common_steps)
-
-pub returns-in-Some-dollar_left_out-clause-reaches : goal.returns-in-Some-dollar_left_out-clause-reaches
-returns-in-Some-dollar_left_out-clause-reaches c = grind (arith, common_steps)
-
-pub returns-in-Some-dollar_left_out-clause-lead : goal.returns-in-Some-dollar_left_out-clause-lead
-returns-in-Some-dollar_left_out-clause-lead c = grind (arith, common_steps)
-
-pub returns-in-None-dollar_left_out-clause-lead : goal.returns-in-None-dollar_left_out-clause-lead
-returns-in-None-dollar_left_out-clause-lead c = grind (arith, common_steps)
+pub returns-in-Some-clause-reaches : goal.returns-in-Some-clause-reaches
+returns-in-Some-clause-reaches c = plain_reaches c.args.bytes.now c.in-Some.place c.requires.quote c.in-Some.ensures

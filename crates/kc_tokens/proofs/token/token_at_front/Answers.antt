@@ -8,9 +8,6 @@ bounds-bytes-1 c = omega arith
 pub returns-then-is_word-clause-reaches : goal.returns-then-is_word-clause-reaches
 returns-then-is_word-clause-reaches c = grind (arith, common_steps)
 
-pub quoted_at_front-requires-clause-quote : goal.quoted_at_front-requires-clause-quote
-quoted_at_front-requires-clause-quote c = omega arith
-
 pub returns-after-bytes-gt1-clause-reaches : goal.returns-after-bytes-gt1-clause-reaches
 returns-after-bytes-gt1-clause-reaches c = grind (arith, common_steps)
 

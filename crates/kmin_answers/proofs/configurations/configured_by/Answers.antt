@@ -1,7 +1,7 @@
 use Rattle.std.proofs.Common.{[], ◌∷◌, refl, ◌∙◌, arith}
 use Rattle.kc_rules.specs.between.SettledViews.{tree_of_settled}
 use Rattle.kc_dotconfig_model.specs.ConfigFiles.{empty_assignment}
-use Rattle.kc_dotconfig.proofs.UserValueUnits.{lies_alone}
+use Rattle.kc_config.proofs.UserValueUnits.{lies_alone}
 use Rattle.kmin_report.proofs.Results.{memory_err}
 use Rattle.kmin_answers.proofs.Sequences.{loaded_one, read_one, stopped_path, stopped_for_memory}
 use Rattle.kmin_answers.proofs.ErrorExits.{no_value, with_error}

@@ -5,4 +5,5 @@ use Rattle.kmin_commands.proofs.commands.listing.Goals as goal
 pub returns : goal.returns
 returns c =
     let files = with_argument _ _ _ _ _ c.in_ok-command-2.ensures c.any_number.ensures c.in_ok-command.ensures in
-    IfOk-weaker c.arg-2.result _ _ (λ made adds. with_argument _ made _ _ _ adds c.flag.ensures files) c.arg-2.ensures
+    let status = with_argument _ _ _ _ _ c.in_ok-command-3.ensures c.flag.ensures files in
+    IfOk-weaker c.arg-3.result _ _ (λ made adds. with_argument _ made _ _ _ adds c.flag-2.ensures status) c.arg-3.ensures

@@ -2,7 +2,7 @@ use Rattle.std.proofs.Common.{◌≡◌, ℕ, ◌<◌, [], length, get_or, All, 
 use Rattle.std.proofs.lemmas.List.{get_or_read}
 use Rattle.kc_tree.specs.TreeModel.{TreeModel}
 use Rattle.kc_rules.specs.between.SettledViews.{tree_model_of}
-use Rattle.kc_dotconfig.specs.ConfigStates.{tree_in}
+use Rattle.kc_config.specs.ConfigStates.{tree_in}
 use Rattle.kmin_explain.specs.Names.{each_once_after}
 use Rattle.kmin_explain.specs.Deep.{next_of}
 use Rattle.kmin_explain.specs.between.Sources.{config_of, sources_model}

@@ -2,7 +2,7 @@ use Rattle.std.proofs.Common.{◌≡◌, ◌≤◌, ◌++◌, ◌-◌, List, len
 use Rattle.std.specs.Prelude.{flat_map}
 use Rattle.kc_tree_model.specs.Blocks.{Group}
 use Rattle.kc_dotconfig_model.specs.ConfigLines.{LineMeaning}
-use Rattle.kc_dotconfig.specs.ConfigStates.{tree_in}
+use Rattle.kc_config.specs.ConfigStates.{tree_in}
 use Rattle.kmin_explain.specs.Names.{each_once}
 use Rattle.kmin_explain.specs.Deep.{next_of}
 use Rattle.kmin_explain.specs.between.Sources.{config_of, sources_model}

@@ -20,7 +20,7 @@ returns-in_err-fragment g c =
       stopped = λ content_of known. with_error c.from_residual.result _ _ c.from_residual.ensures.1
           (stopped_path content_of _ _ _ _ _ _ _ _ c.args.path.now
           (stopped_noticed _ _ _ _ _ c.args.fragment _ _ _ _ _
-          (loaded_of _ _ _ _ _ known _ _ _ _ c.args.fragment c.requires.read (rw c.deref.ensures.value at c.report_notices.ensures))
+          (loaded_of _ _ _ _ _ known _ _ _ _ c.args.fragment c.requires.read (rw (c.deref.ensures.value, c.tree.ensures.tree) at c.report_notices.ensures))
           refused.1 refused.2 refused.0));
       unfailed = with_error c.from_residual.result _ _ c.from_residual.ensures.1 (λ five. omega (arith, refused.0));
     }
@@ -35,7 +35,7 @@ returns-in_err-lines g c =
       stopped = λ content_of known. memory_err _ _ c.from_residual-in_err-lines.ensures (λ stop status.
           stopped_for_memory content_of _ _ tree _ _ _ _ _ (c.args.path.now ∷ []) [] _ [] _ refl status
           (loaded_one content_of _ _ tree c.args.path.now [] _ c.args.fragment _ _ _ _
-          (loaded_of _ _ _ _ _ known _ _ _ _ c.args.fragment c.requires.read (rw c.deref.ensures.value at c.report_notices.ensures))
+          (loaded_of _ _ _ _ _ known _ _ _ _ c.args.fragment c.requires.read (rw (c.deref.ensures.value, c.tree.ensures.tree) at c.report_notices.ensures))
           c.in_ok-fragment.ensures.ok.1 refl));
       unfailed = memory_err _ _ c.from_residual-in_err-lines.ensures (λ stop status. λ five. omega arith);
     }
@@ -51,7 +51,7 @@ returns g c =
           (record { fragment = f; lines = c.in_ok-lines.lines }) (g.E.Messages.taken c.args.err.now) (g.E.Messages.failures c.args.err.now)
           (g.E.Messages.taken c.report_notices.new.err) (g.E.Messages.failures c.report_notices.new.err)) (sym ok.0)
           (lined_whole content _ tree c.args.path.now c.args.bytes.now known _ _ _ _ c.args.fragment c.in_ok-lines.lines
-          c.args.settings.now.format.prefix.valid c.requires.read (rw c.deref.ensures.value at c.report_notices.ensures) c.in_ok-lines.ensures);
+          c.args.settings.now.format.prefix.valid c.requires.read (rw (c.deref.ensures.value, c.tree.ensures.tree) at c.report_notices.ensures) c.in_ok-lines.ensures);
       allowed = rw ok.0 ok.1;
       stopped = λ content_of known. tt;
       unfailed = tt;

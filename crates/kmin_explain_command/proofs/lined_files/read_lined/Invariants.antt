@@ -1,7 +1,7 @@
 use Rattle.std.proofs.Common.{◌≡◌, ◌≤◌, ℕ, List, [], map, take}
 use Rattle.std.specs.Borrow.{Bor}
 use Rattle.kc_rules.specs.between.SettledViews.{tree_of_settled}
-use Rattle.kc_dotconfig.specs.ConfigStates.{IsSolved}
+use Rattle.kc_config.specs.ConfigStates.{IsSolved}
 use Rattle.kc_dotconfig_model.specs.between.Formats.{file_format}
 use Rattle.kc_dotconfig_model.specs.ConfigFiles.{empty_assignment}
 use Rattle.kmin_answers.specs.between.LoadResults.{lists_of}

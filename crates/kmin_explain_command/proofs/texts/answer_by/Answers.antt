@@ -1,14 +1,21 @@
-use Rattle.std.proofs.Common.{ap, ◌∙◌}
-use Rattle.kc_tree.specs.TreeModel.{TreeModel}
-use Rattle.kc_rules.specs.between.SettledViews.{tree_model_of}
-use Rattle.kmin_options.specs.Jobs.{explain_job_view}
+use Rattle.std.proofs.Common.{ap}
+use Rattle.kc_config.specs.ConfigStates.{tree_in}
+use Rattle.kmin_explain.specs.between.Sources.{config_of}
+use Rattle.kmin_options.specs.Jobs.{explain_job_view, question_view}
 use Rattle.kmin_explain_command.specs.Explains.{symbols_in}
-use Rattle.kmin_explain_command.proofs.TextEnds.{both_answered}
+use Rattle.kmin_explain_command.proofs.TextEnds.{question_answered}
 use Rattle.kmin_explain_command.proofs.texts.answer_by.Goals as goal
 
-pub returns-clause-answer : goal.returns-clause-answer
-returns-clause-answer c =
-    both_answered c.args.job.now c.args.by.now c.named_answer.result _
-    (c.deref.ensures.value ∙ c.in_ok-symbols.ensures.symbols
-    ∙ ap (λ (t : TreeModel). symbols_in (explain_job_view c.args.job.now) t.tree) (c.tree.ensures.tree ∙ ap tree_model_of c.settled.ensures)) c.named_answer.ensures.text
-    c.named_answer.ensures.status
+pub returns-in-Explain-clause-answer : goal.returns-in-Explain-clause-answer
+returns-in-Explain-clause-answer c =
+    question_answered c.args.job.now _ c.args.by.now c.explained_answer.result (ap question_view c.in-Explain.is) (c.explained_answer.ensures.answer _)
+
+pub returns-in-Missed-clause-answer : goal.returns-in-Missed-clause-answer
+returns-in-Missed-clause-answer c =
+    question_answered c.args.job.now _ c.args.by.now c.missed_answer.result (ap question_view c.in-Missed.is)
+    (c.missed_answer.ensures.answer (symbols_in (explain_job_view c.args.job.now) (tree_in (config_of c.args.by.now))))
+
+pub returns-in-Check-clause-answer : goal.returns-in-Check-clause-answer
+returns-in-Check-clause-answer c =
+    question_answered c.args.job.now _ c.args.by.now c.unmet_answer.result (ap question_view c.in-Check.is)
+    (c.unmet_answer.ensures.answer (symbols_in (explain_job_view c.args.job.now) (tree_in (config_of c.args.by.now))))

@@ -1,7 +1,7 @@
 use Rattle.std.proofs.Common.{◌≡◌, None, ◌∙◌, ap, sym, subst}
 use Rattle.kc_tree.specs.TreeModel.{TreeModel}
 use Rattle.kc_rules.specs.between.SettledViews.{tree_model_of}
-use Rattle.kc_dotconfig.specs.ConfigStates.{tree_in}
+use Rattle.kc_config.specs.ConfigStates.{tree_in}
 use Rattle.kc_tree_model.specs.Trees.{Tree}
 use Rattle.kmin_answers.specs.between.Comparisons.{AreNoticed}
 use Rattle.kmin_answers.proofs.ErrorExits.{no_value, with_error}

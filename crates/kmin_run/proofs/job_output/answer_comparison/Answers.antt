@@ -1,5 +1,5 @@
 use Rattle.std.proofs.Common.{inl, sym, ◌∙◌}
-use Rattle.kc_dotconfig.specs.ConfigStates.{tree_in}
+use Rattle.kc_config.specs.ConfigStates.{tree_in}
 use Rattle.kc_minimal_model.specs.Differences.{differences}
 use Rattle.kmin_options.specs.Jobs.{settings_view}
 use Rattle.kmin_report.proofs.Results.{if_err_map}

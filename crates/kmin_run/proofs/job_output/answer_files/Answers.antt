@@ -1,6 +1,6 @@
 use Rattle.std.proofs.Common.{inl, List, ℕ, map}
 use Rattle.std.specs.Borrow.{Bor}
-use Rattle.kc_dotconfig.specs.ConfigStates.{tree_in}
+use Rattle.kc_config.specs.ConfigStates.{tree_in}
 use Rattle.kmin_options.specs.Jobs.{settings_view}
 use Rattle.kmin_report.proofs.Results.{if_err_map}
 use Rattle.kmin_answers.proofs.ReadFailures.{answering_unfailed}

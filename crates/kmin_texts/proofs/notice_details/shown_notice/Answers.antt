@@ -3,8 +3,9 @@ use Rattle.std.specs.Borrow.{Bor}
 use Rattle.std.proofs.lemmas.Result.{IfOk-weaker}
 use Rattle.kc_dotconfig_model.specs.between.Prefixes.{prefix_bytes}
 use Rattle.kc_tree_model.specs.Trees.{Symbol}
+use Rattle.kmin_report.specs.Reports.{near_names}
 use Rattle.kmin_texts.specs.NumberedLines.{utf8_line}
-use Rattle.kmin_texts.specs.between.Details.{line_detail}
+use Rattle.kmin_details.specs.between.Details.{line_detail}
 use Rattle.kmin_texts.specs.between.NoticeDetails.{nearest_detail}
 use Rattle.kmin_texts.proofs.OwnDetails.{same_parts}
 use Rattle.kmin_texts.proofs.NoticeSteps.{named_is, nearest_on, shown_on}
@@ -27,5 +28,5 @@ returns-in_default-kind c =
     let line : List ℕ = c.args.line.now in
     let text : List ℕ = c.in-Some.line.now in
     let utf8 : utf8_line (Some line) ≡ Some text = sym c.text_of.ensures ∙ ap (option_map (λ (text : Bor (List ℕ)). text.now)) c.in-Some.is in
-    shown_on c.args.kind (prefix_bytes c.args.prefix.now) line text utf8 (line_detail c.notice_detail.result)
+    shown_on c.args.kind (prefix_bytes c.args.prefix.now) (near_names c.args.tree.now.tree c.args.kind) line text utf8 (line_detail c.notice_detail.result)
     (same_parts _ _ _ c.notice_detail.ensures.text c.notice_detail.ensures.names)

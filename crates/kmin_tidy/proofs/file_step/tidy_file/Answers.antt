@@ -38,7 +38,7 @@ returns-in-Ok-clause-step g c =
     let s = settings_of c.args.config.now.system c.args.format.now c.args.options in
     let after = g.D.ReadDisk.disk c.tidy_accepted.new.disk in
     subst (λ (d : Disk). IfOk c.tidy_accepted.result (λ report. (line : List ℕ) × (c.tidy_accepted.new.text.items ≡ c.args.text.now.items ++ line)
-    × Step s d after c.args.path.now line (report_lines c.args.path.now report) report.outcome)) c.in-Ok.ensures.unfailed c.tidy_accepted.ensures.step
+    × Step s d after c.args.path.now line (report_lines s.tree c.args.path.now report) report.outcome)) c.in-Ok.ensures.unfailed c.tidy_accepted.ensures.step
 
 pub returns-in-Ok-clause-stopped : goal.returns-in-Ok-clause-stopped
 returns-in-Ok-clause-stopped g c =

@@ -1,6 +1,8 @@
-use Rattle.std.proofs.Common.{◌≡◌, ◌++◌, ◌<◌, [], ℕ, suc, List, get_or, length, refl, sym, subst, ◌∙◌, take, drop, arith, rules}
+use Rattle.std.proofs.Common.{◌≡◌, ◌++◌, ◌<◌, [], ℕ, suc, List, get_or, length, refl, sym, ap, subst, ◌∙◌, take, drop, arith, rules}
 use Rattle.std.specs.Borrow.{Bor}
 use Rattle.std.proofs.lemmas.List.{take_all}
+use Rattle.kc_tree.specs.TreeModel.{TreeModel}
+use Rattle.kc_rules.specs.between.SettledViews.{tree_of_settled}
 use Rattle.kc_rules.specs.declared.rules.Settled.{Settled}
 use Rattle.kmin_tidy.specs.Options.{settings_of}
 use Rattle.kmin_tidy.specs.Steps.{Step}
@@ -36,17 +38,20 @@ loop-path-preserved g c =
     let h : i < length c.args.paths.now = omega arith in
     let inv = c.loop-path.invariant in
     let report = c.in_ok-report.report in
-    let own = report_lines path report in
+    let own = report_lines s.tree path report in
+    let same : c.tree.result.now.tree ≡ s.tree =
+    ap (λ (m : TreeModel). m.tree) c.tree.ensures.tree ∙ ap tree_of_settled (c.settled.ensures ∙ c.in_ok-report.ensures.settled ∙ inv.system) in
     let step = c.in_ok-report.ensures.step in
     let own_step : Step s b after path step.0 own report.outcome =
-    subst (λ (sys : Settled). Step (settings_of sys c.args.format.now c.args.options) b after path step.0 own report.outcome) inv.system step.2 in
+    subst (λ (sys : Settled). Step (settings_of sys c.args.format.now c.args.options) b after path step.0 (report_lines (tree_of_settled sys) path report)
+    report.outcome) inv.system step.2 in
     record {
       system = c.in_ok-report.ensures.settled ∙ inv.system;
       ran = (
         inv.ran.0 ++ own,
         tidies_more s a b after (paths_of (take i c.args.paths.now)) _ path c.loop-path.text.items step.0 _ inv.ran.0 own _ c.loop-path.status _ report.outcome
             inv.ran.1 own_step (paths_next c.args.paths.now i absent h) step.1 refl c.status_after-status.ensures,
-        lines_append _ _ _ _ inv.ran.0 own _ _ inv.ran.2 c.report_file.ensures,
+        lines_append _ _ _ _ inv.ran.0 own _ _ inv.ran.2 (rw same at c.report_file.ensures),
       );
     }
 

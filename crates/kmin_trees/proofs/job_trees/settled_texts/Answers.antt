@@ -1,5 +1,6 @@
 use Rattle.kc_tree_model.specs.TreeFiles.{Files}
 use Rattle.kmin_report.specs.between.RunErrors.{status_of}
+use Rattle.kmin_trees.specs.between.FileNames.{texts_named, texts_of}
 use Rattle.kmin_trees.specs.between.TreeStops.{StopsAtTexts}
 use Rattle.std.proofs.Common.{subst}
 use Rattle.kmin_trees.proofs.job_trees.settled_texts.Goals as goal
@@ -8,6 +9,9 @@ pub returns-in-Err-clause-stopped : goal.returns-in-Err-clause-stopped
 returns-in-Err-clause-stopped g c =
     let stopped = c.in-Err.ensures.stopped in (
       stopped.0,
-      subst (λ (names : Files). StopsAtTexts c.args.texts names c.args.first.now (status_of c.in-Err.stop) stopped.0) c.of_tree-names.ensures stopped.1,
+      subst (λ (texts : Files). StopsAtTexts texts (texts_named c.args.expanded c.args.texts) c.args.first.now (status_of c.in-Err.stop) stopped.0)
+          c.of_tree-names.ensures.texts
+          (subst (λ (names : Files). StopsAtTexts (texts_of c.of_tree-names.result) names c.args.first.now (status_of c.in-Err.stop) stopped.0)
+          c.of_tree-names.ensures.names stopped.1),
       stopped.2,
     )

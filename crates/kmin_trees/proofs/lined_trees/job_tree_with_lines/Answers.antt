@@ -17,6 +17,6 @@ returns-clause-accepted g c =
     let a = c.in_ok-settled.ensures.accepted in (
       a.0,
       a.1,
-      record { accepted = a.2.accepted; lines = a.2.lines; paths = c.in_ok-paths.ensures ∙ ap names_by_number (c.of_tree.ensures ∙ sym a.2.names) },
+      record { accepted = a.2.accepted; lines = a.2.lines; paths = c.in_ok-paths.ensures ∙ ap names_by_number (c.of_tree.ensures.names ∙ sym a.2.names) },
       a.3,
     )

@@ -3,7 +3,7 @@ use Rattle.std.specs.Prelude.{slice_get, slice_index}
 use Rattle.kc_rules_model.specs.declared.values.UserValue.{UserValue}
 use Rattle.kc_rules_model.specs.Shapes.{user_fits}
 use Rattle.kc_rules.specs.between.SettledViews.{tree_of_settled}
-use Rattle.kc_dotconfig.specs.checker.Configs.{units_of, next_at}
+use Rattle.kc_dotconfig.specs.checker.UserValueOrder.{units_of, next_at}
 use Rattle.kc_dotconfig.proofs.fragment.Fragment.fits.Given as goal
 
 -- the user values checked so far fit the tree, and `next` is one more than the last unit checked

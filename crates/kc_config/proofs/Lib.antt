@@ -1,0 +1,4 @@
+pub mod UserValueUnits
+pub mod ConfigSolutions
+pub mod MissedMembers
+pub mod MergedValues

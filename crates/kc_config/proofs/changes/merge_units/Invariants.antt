@@ -1,0 +1,8 @@
+use Rattle.std.proofs.Common.{◌≡◌, ◌++◌, take, filter}
+use Rattle.std.specs.Prelude.{is_none}
+use Rattle.kc_system.specs.Solutions.{user_of}
+use Rattle.kc_dotconfig.specs.checker.UserValueOrder.{units_of}
+use Rattle.kc_config.proofs.changes.merge_units.Given as goal
+
+abbrev pub invariant-loop-unit : goal.invariant-loop-unit
+invariant-loop-unit l = l.valued.items ≡ l.fn.valued.items ++ filter (λ u. is_none (user_of l.fn.users u)) (units_of (take l.unit-index l.fn.assigns))

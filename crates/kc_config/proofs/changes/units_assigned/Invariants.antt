@@ -1,0 +1,6 @@
+use Rattle.std.proofs.Common.{◌≡◌, take}
+use Rattle.kc_dotconfig.specs.checker.UserValueOrder.{units_of}
+use Rattle.kc_config.proofs.changes.units_assigned.Given as goal
+
+abbrev pub invariant-loop-unit : goal.invariant-loop-unit
+invariant-loop-unit l = l.units.items ≡ units_of (take l.unit-index l.fn.assigns)

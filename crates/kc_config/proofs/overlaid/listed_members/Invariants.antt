@@ -1,0 +1,8 @@
+use Rattle.std.proofs.Common.{◌≡◌, ℕ, take}
+use Rattle.std.specs.BTreeSet.{contains}
+use Rattle.std.specs.Ordering.{nat_cmp}
+use Rattle.kc_rules_model.specs.MemberLines.{is_listed}
+use Rattle.kc_config.proofs.overlaid.listed_members.Given as goal
+
+abbrev pub invariant-loop-line : goal.invariant-loop-line
+invariant-loop-line l = (s : ℕ) → contains nat_cmp l.members s ≡ is_listed (take l.line-index l.lines) s

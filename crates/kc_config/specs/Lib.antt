@@ -1,0 +1,2 @@
+pub mod ConfigStates
+pub mod checker

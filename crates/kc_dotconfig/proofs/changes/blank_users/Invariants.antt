@@ -1,5 +1,0 @@
-use Rattle.std.proofs.Common.{◌≡◌, None, replicate}
-use Rattle.kc_dotconfig.proofs.changes.blank_users.Given as goal
-
-abbrev pub invariant-loop-unit : goal.invariant-loop-unit
-invariant-loop-unit l = l.users.items ≡ replicate l._unit None

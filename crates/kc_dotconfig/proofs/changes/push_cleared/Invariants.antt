@@ -1,6 +1,0 @@
-use Rattle.std.proofs.Common.{◌≡◌, ◌++◌, take}
-use Rattle.kc_dotconfig.specs.checker.Configs.{clears_of}
-use Rattle.kc_dotconfig.proofs.changes.push_cleared.Given as goal
-
-abbrev pub invariant-loop-unit : goal.invariant-loop-unit
-invariant-loop-unit l = l.changes.items ≡ l.fn.changes.items ++ clears_of (take l.unit-index l.fn.units)

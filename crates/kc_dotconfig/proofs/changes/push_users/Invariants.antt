@@ -1,6 +1,0 @@
-use Rattle.std.proofs.Common.{◌≡◌, ◌++◌, take}
-use Rattle.kc_dotconfig.specs.Fragments.{changes_of}
-use Rattle.kc_dotconfig.proofs.changes.push_users.Given as goal
-
-abbrev pub invariant-loop-unit : goal.invariant-loop-unit
-invariant-loop-unit l = l.changes.items ≡ l.fn.changes.items ++ changes_of (take l.unit-index l.fn.assigns)

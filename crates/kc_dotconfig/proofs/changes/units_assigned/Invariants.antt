@@ -1,6 +1,0 @@
-use Rattle.std.proofs.Common.{◌≡◌, take}
-use Rattle.kc_dotconfig.specs.checker.Configs.{units_of}
-use Rattle.kc_dotconfig.proofs.changes.units_assigned.Given as goal
-
-abbrev pub invariant-loop-unit : goal.invariant-loop-unit
-invariant-loop-unit l = l.units.items ≡ units_of (take l.unit-index l.fn.assigns)

@@ -1,7 +1,0 @@
-use Rattle.std.proofs.Common.{◌≡◌, not, filter, take}
-use Rattle.kc_rules_model.specs.declared.values.MemberLine.{MemberLine}
-use Rattle.kc_rules_model.specs.MemberLines.{is_listed}
-use Rattle.kc_dotconfig.proofs.overlaid.laid_over.Given as goal
-
-abbrev pub invariant-loop-line : goal.invariant-loop-line
-invariant-loop-line l = l.lines.items ≡ filter (λ (m : MemberLine). not (is_listed l.later m.member)) (take l.line-index l.earlier)

@@ -1,0 +1,4 @@
+pub mod FewestChanges
+pub mod NamedSymbols
+pub mod Details
+pub mod MessageLines

@@ -1,0 +1,138 @@
+//! The lines of reports, in the forms that have more than the plain line.
+ghost use Rattle.std.specs.Prelude.{◌≡◌, ◌∷◌, ◌++◌, ℕ, Some, option_map, IfOk};
+ghost use Rattle.std.specs.Global.{Vec};
+ghost use Rattle.kmin_messages.specs.ShownTexts.{shown};
+ghost use Rattle.kmin_messages.specs.between.MessageViews.{bytes_of};
+ghost use Rattle.kmin_details.specs.between.Details.{detail_names, detail_text};
+ghost use Rattle.kmin_messages.specs.Messages.{form_line};
+ghost use Rattle.kmin_details.specs.ReportMessages.{file_of, kind_of, line_in, message_of, number_of, severity_of};
+ghost use Rattle.kmin_report.specs.between.ReportLines.{report_line};
+
+use crate::details::Detail;
+use crate::message_lines::{MessageParts, message_line};
+use kmin_messages::{Form, Severity};
+use kmin_report::Report;
+use std::alloc::{AllocError, Global};
+
+/// The line of a report in a form, with this detail. A file of a tree is named by its path with the root in front. Words that are
+/// refused are in each form as they are.
+pub fn line_in(
+    alloc: Global,
+    form: Form,
+    root: &[u8],
+    report: &Report<'_>,
+    detail: Detail<'_>,
+) -> Result<Vec<u8>, AllocError>
+    ensures { IfOk result (λ line. line.items ≡ line_in form root.now (report_line report.now) (shown (detail_text detail.entry)) (detail_names detail.entry)) }
+{
+    match report {
+        Report::RefusedWords(message) => Vec::from_slice(alloc, message.as_bytes()),
+        _ => message_in(alloc, form, root, report, detail),
+    }
+}
+
+/// The line of the message of a report in a form, with this detail.
+fn message_in(
+    alloc: Global,
+    form: Form,
+    root: &[u8],
+    report: &Report<'_>,
+    detail: Detail<'_>,
+) -> Result<Vec<u8>, AllocError>
+    ensures { IfOk result (λ line. line.items ≡ form_line form (message_of root.now (report_line report.now) (shown (detail_text detail.entry)) (detail_names detail.entry))) }
+{
+    let file = file_of(alloc, root, report)?;
+    let parts = MessageParts {
+        kind: kind_of(report),
+        severity: severity_of(report),
+        file: borrowed(&file),
+        line: number_of(report),
+        detail,
+    };
+    message_line(alloc, form, &parts)
+}
+
+/// A path, borrowed.
+fn borrowed(file: &Option<Vec<u8>>) -> Option<&[u8]>
+    ensures { bytes_of result ≡ option_map (λ (path : Vec ℕ). path.items) file.now }
+{
+    match file {
+        Some(path) => Some(path.as_slice()),
+        None => None,
+    }
+}
+
+/// The name of the kind of a report.
+fn kind_of(report: &Report<'_>) -> &'static str
+    ensures { result.now ≡ kind_of (report_line report.now) }
+{
+    match report {
+        Report::TreeFault { kind, .. } => kind.name(),
+        Report::Cycle { .. } => "Cycle",
+        Report::FileFault { kind, .. } => kind.name(),
+        Report::Notice { kind, .. } => kind.name(),
+        Report::AnswersFault { kind, .. } => kind.name(),
+        Report::MacroNotice(notice) => notice.kind.name(),
+        Report::MacroFault { fault, .. } => fault.kind.name(),
+        Report::OutputFault | Report::Unwritten(_) => "Write",
+        Report::NotRegular(_) => "NotRegular",
+        Report::Left(_) => "Left",
+        Report::OutOfMemory => "OutOfMemory",
+        Report::RefusedWords(_) => "",
+    }
+}
+
+/// The severity of a report.
+fn severity_of(report: &Report<'_>) -> Severity
+    ensures { result ≡ severity_of (report_line report.now) }
+{
+    match report {
+        Report::Notice { .. } | Report::MacroNotice(_) => Severity::Warning,
+        _ => Severity::Error,
+    }
+}
+
+/// The number of the line of a report in its file; 0 where it is of no line.
+fn number_of(report: &Report<'_>) -> u32
+    ensures { result ≡ number_of (report_line report.now) }
+{
+    match report {
+        Report::TreeFault { line, .. }
+        | Report::Cycle { line, .. }
+        | Report::FileFault { line, .. }
+        | Report::Notice { line, .. }
+        | Report::AnswersFault { line, .. } => *line,
+        Report::MacroNotice(notice) => notice.line,
+        Report::MacroFault { fault, .. } => fault.line,
+        _ => 0,
+    }
+}
+
+/// The path of the file of a report, if it is of one; of a file of a tree it has the root in front.
+fn file_of(alloc: Global, root: &[u8], report: &Report<'_>) -> Result<Option<Vec<u8>>, AllocError>
+    ensures { IfOk result (λ file. option_map (λ (path : Vec ℕ). path.items) file ≡ file_of root.now (report_line report.now)) }
+{
+    match report {
+        Report::TreeFault { path, .. } | Report::Cycle { path, .. } => below(alloc, root, path),
+        Report::MacroNotice(notice) => below(alloc, root, notice.file.as_slice()),
+        Report::MacroFault { fault, .. } => below(alloc, root, fault.file.as_slice()),
+        Report::FileFault { path, .. }
+        | Report::Notice { path, .. }
+        | Report::AnswersFault { path, .. }
+        | Report::NotRegular(path)
+        | Report::Unwritten(path)
+        | Report::Left(path) => Ok(Some(Vec::from_slice(alloc, path.as_bytes())?)),
+        Report::OutputFault | Report::OutOfMemory | Report::RefusedWords(_) => Ok(None),
+    }
+}
+
+/// The path of a file of a tree, with the root in front.
+fn below(alloc: Global, root: &[u8], path: &[u8]) -> Result<Option<Vec<u8>>, AllocError>
+    ensures { IfOk result (λ file. option_map (λ (path : Vec ℕ). path.items) file ≡ Some (root.now ++ 47 ∷ path.now)) }
+{
+    let mut whole = Vec::with_capacity(alloc, root.len())?;
+    whole.extend_from_slice(root)?;
+    whole.push(b'/')?;
+    whole.extend_from_slice(path)?;
+    Ok(Some(whole))
+}

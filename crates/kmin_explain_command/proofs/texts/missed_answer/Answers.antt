@@ -1,0 +1,13 @@
+use Rattle.std.proofs.Common.{◌≤◌, ◌∙◌, ap, subst, sym}
+use Rattle.kmin_answers.specs.Statuses.{status_of_list}
+use Rattle.kmin_explain_command.proofs.TextEnds.{list_status_small}
+use Rattle.kmin_explain_command.proofs.texts.missed_answer.Goals as goal
+
+pub returns-clause-status : goal.returns-clause-status
+returns-clause-status c = subst (λ n. n ≤ 1) (sym c.list_status-status.ensures) (list_status_small c.args.exit_code c.deref-2.result.now)
+
+pub returns-clause-answer : goal.returns-clause-answer
+returns-clause-answer c = λ named read meanings are. record {
+  text_is = c.in_ok-text.ensures read meanings are;
+  status_is = c.list_status-status.ensures ∙ ap (status_of_list c.args.exit_code) (c.deref-2.ensures.value ∙ c.in_ok-symbols.ensures);
+}

@@ -1,0 +1,7 @@
+pub mod OneLine
+pub mod CauseTexts
+pub mod RowTexts
+pub mod MissedMarks
+pub mod UnmetTexts
+pub mod CauseLists
+pub mod CauseOrder

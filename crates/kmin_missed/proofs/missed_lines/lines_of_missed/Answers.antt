@@ -1,0 +1,24 @@
+use Rattle.std.proofs.Common.{ℕ, ◌<◌, List, All, length, sym, subst, ◌∙◌, ap, arith}
+use Rattle.kc_tree.specs.TreeModel.{TreeModel}
+use Rattle.kc_rules.specs.between.SettledViews.{tree_model_of}
+use Rattle.kc_config.specs.ConfigStates.{tree_in}
+use Rattle.kc_dotconfig_model.specs.MissedAssignments.{missed}
+use Rattle.kmin_explain.specs.between.Sources.{config_of, sources_model}
+use Rattle.kmin_missed.proofs.MissedMarks.{missed_below, one_more_rows}
+use Rattle.kmin_missed.proofs.missed_lines.lines_of_missed.Goals as goal
+
+pub marked-requires : goal.marked-requires
+marked-requires c =
+    let config = config_of c.args.by.now in
+    let count = c.symbol_count-count.ensures ∙ ap (λ (t : TreeModel). length t.tree.symbols) (c.tree.ensures.tree ∙ ap tree_model_of c.settled.ensures) in
+    record {
+      there = subst (λ (xs : List ℕ). All (λ (s : ℕ). s < c.symbol_count-count.result) xs) (sym c.requires.missed)
+          (subst (λ (n : ℕ). All (λ (s : ℕ). s < n) (missed (tree_in config) config.users config.values)) (sym count) (missed_below (tree_in config) config.users config.values));
+    }
+
+pub loop-s-preserved : goal.loop-s-preserved
+loop-s-preserved c = λ read meanings are.
+    let count = c.symbol_count-count.ensures ∙ ap (λ (t : TreeModel). length t.tree.symbols) (c.tree.ensures.tree ∙ ap tree_model_of c.settled.ensures) in
+    one_more_rows (sources_model c.args.by.now read meanings) c.loop-s.s c.at.result c.loop-s.text.items _ c.args.symbols.now c.is_marked-is_missed.result c.at.ensures
+    (let l = c.loop-s-test.true in omega (arith, l, count)) (c.is_marked-is_missed.ensures ∙ c.in_ok-marks.ensures.marks c.loop-s.s c.loop-s-test.true) c.requires.missed
+    (λ symbol at. c.in_ok-push_missed_rows.ensures read meanings symbol are at) (c.loop-s.invariant read meanings are)

@@ -1,0 +1,7 @@
+use Rattle.kc_explanation.proofs.ExplanationLemmas.{joined_three}
+use Rattle.kmin_missed.proofs.missed_lines.push_deciding_row.Goals as goal
+
+pub returns : goal.returns
+returns c = λ read meanings are.
+    joined_three c.args.out.now.items _ _ _ _ _ _ (c.in_ok-push_asking_front.ensures read meanings) (c.in_ok-push_cause.ensures read meanings are)
+    c.in_ok-extend_from_slice.ensures.items

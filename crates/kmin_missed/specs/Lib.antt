@@ -1,0 +1,4 @@
+pub mod MissedLines
+pub mod MissedCauses
+pub mod UnmetLines
+pub mod checker

@@ -1,0 +1,216 @@
+//! The lines of `missed --long`.
+ghost use Rattle.std.specs.Prelude.{◌≡◌, ◌<◌, ◌==◌, ◌++◌, ℕ, false, List, All, Some, length, flat_map, slice_get, IfOk, OnOk, option_map};
+ghost use Rattle.std.specs.List.{list_any, slice_index_or};
+ghost use Rattle.kc_tree_model.specs.Blocks.{Group};
+ghost use Rattle.kc_dotconfig_model.specs.ConfigLines.{LineMeaning};
+ghost use Rattle.kc_tree_model.specs.TreeLookup.{unit_of};
+ghost use Rattle.kc_tree_model.specs.Trees.{Symbol as ModelSymbol};
+ghost use Rattle.kc_dotconfig_model.specs.MissedAssignments.{missed};
+ghost use Rattle.kc_config.specs.ConfigStates.{tree_in};
+ghost use Rattle.kc_reasons_model.specs.OverriddenLines.{places_of, overridden};
+ghost use Rattle.kc_config_reasons.specs.between.FileLines.{line_view};
+ghost use Rattle.kc_config_reasons.specs.between.Places.{place_view};
+ghost use Rattle.kmin_missed.specs.MissedLines.{asking_front, overridden_row, missed_row, missed_rows, missed_rows_at, missed_lines};
+ghost use Rattle.kmin_explain.specs.between.Sources.{config_of, AreReadSources, AreSourcesOf, sources_model};
+ghost use Rattle.kmin_explain.specs.checker.FileLineTexts.{line_in};
+ghost use Rattle.kmin_missed.specs.checker.RowTexts.{overridden_row_text};
+
+use crate::causes::push_cause;
+use kc_config_reasons::{AskingLine, Overridden, deciding_line, overridden_files, valuation};
+use kc_explanation::{push_asked_value, push_line_place, push_name};
+use kc_tree::Sym;
+use kmin_explain::{AskedSymbol, Sources, SymbolsOnce, line_in, path_at};
+use std::alloc::{AllocError, Global};
+
+/// Appends `PATH:LINE: NAME: ASKED -> `, of a line of the configuration file with a number.
+fn push_asking_front(
+    out: &mut Vec<u8>,
+    by: &Sources<'_>,
+    symbol: &AskedSymbol,
+    file: usize,
+    line: &AskingLine,
+) -> Result<(), AllocError>
+    ensures { (read : List Group) (meanings : List (List LineMeaning)) → OnOk result (out.new.items ≡ out.old.items ++ asking_front (sources_model by.now read meanings) symbol.now.s symbol.now.kind (record { file = file; line = line_view line.now })) }
+{
+    let under = &valuation(by.config);
+    push_line_place(out, path_at(by.file_paths, file), line.number)?;
+    out.extend_from_slice(b": ")?;
+    push_name(out, under, symbol.s)?;
+    out.extend_from_slice(b": ")?;
+    push_asked_value(out, under, by.strings, symbol.s, symbol.kind, &line.user)?;
+    out.extend_from_slice(b" -> ")?;
+    Ok(())
+}
+
+/// Appends the row of a line, and of one of a later file that overrides it.
+fn push_both_rows(
+    out: &mut Vec<u8>,
+    by: &Sources<'_>,
+    symbol: &AskedSymbol,
+    found: Overridden,
+    line: &AskingLine,
+    other: &AskingLine,
+) -> Result<(), AllocError>
+    ensures { (read : List Group) (meanings : List (List LineMeaning)) → OnOk result (out.new.items ≡ out.old.items ++ overridden_row_text (sources_model by.now read meanings) symbol.now.s symbol.now.kind found (Some line.now) (Some other.now)) }
+{
+    push_asking_front(out, by, symbol, found.file, line)?;
+    out.extend_from_slice(b"overridden by ")?;
+    push_line_place(out, path_at(by.file_paths, found.by), other.number)?;
+    out.extend_from_slice(b"\n")?;
+    Ok(())
+}
+
+/// Appends the row of a line that a later file overrides.
+fn push_overridden_row(
+    out: &mut Vec<u8>,
+    by: &Sources<'_>,
+    symbol: &AskedSymbol,
+    found: Overridden,
+) -> Result<(), AllocError>
+    ensures { (read : List Group) (meanings : List (List LineMeaning)) → OnOk result (out.new.items ≡ out.old.items ++ overridden_row_text (sources_model by.now read meanings) symbol.now.s symbol.now.kind found (line_in by.now.files.now symbol.now.unit symbol.now.s found.file) (line_in by.now.files.now symbol.now.unit symbol.now.s found.by)) }
+{
+    let line = line_in(by.files, symbol, found.file);
+    let other = line_in(by.files, symbol, found.by);
+    match (line, other) {
+        (Some(line), Some(other)) => push_both_rows(out, by, symbol, found, line, other),
+        (Some(_), None) => out.extend_from_slice(b""),
+        (None, _) => out.extend_from_slice(b""),
+    }
+}
+
+/// Appends the row of each line that a later file overrides.
+fn push_overridden_rows(
+    out: &mut Vec<u8>,
+    by: &Sources<'_>,
+    symbol: &AskedSymbol,
+    found: &[Overridden],
+) -> Result<(), AllocError>
+    ensures { (read : List Group) (meanings : List (List LineMeaning)) → OnOk result (out.new.items ≡ out.old.items ++ flat_map (λ n. overridden_row_text (sources_model by.now read meanings) symbol.now.s symbol.now.kind n (line_in by.now.files.now symbol.now.unit symbol.now.s n.file) (line_in by.now.files.now symbol.now.unit symbol.now.s n.by)) found.now) }
+{
+    for one in found {
+        push_overridden_row(out, by, symbol, *one)?;
+    }
+    Ok(())
+}
+
+/// Appends the rows of the lines on a symbol that later files override.
+fn push_all_overridden(
+    alloc: Global,
+    out: &mut Vec<u8>,
+    by: &Sources<'_>,
+    symbol: &AskedSymbol,
+) -> Result<(), AllocError>
+    requires unit { symbol.now.unit ≡ unit_of (tree_in (config_of by.now)) symbol.now.s }
+    ensures { (read : List Group) (meanings : List (List LineMeaning)) → AreSourcesOf by.now read meanings → OnOk result (out.new.items ≡ out.old.items ++ flat_map (overridden_row (sources_model by.now read meanings) symbol.now.s symbol.now.kind) (overridden (places_of (unit_of (tree_in (config_of by.now)) symbol.now.s) symbol.now.s 0 meanings))) }
+{
+    let found = overridden_files(alloc, by.files, symbol.unit, symbol.s)?;
+    push_overridden_rows(out, by, symbol, &found)
+}
+
+/// Appends the row of the line that counts, which is of the file with this number.
+fn push_deciding_row(
+    alloc: Global,
+    out: &mut Vec<u8>,
+    by: &Sources<'_>,
+    symbol: &AskedSymbol,
+    file: usize,
+    line: &AskingLine,
+) -> Result<(), AllocError>
+    requires read { AreReadSources by.now }
+    requires there { symbol.now.s < length (tree_in (config_of by.now)).symbols }
+    ensures { (read : List Group) (meanings : List (List LineMeaning)) → AreSourcesOf by.now read meanings → OnOk result (out.new.items ≡ out.old.items ++ missed_row (sources_model by.now read meanings) symbol.now.s symbol.now.kind (Some (record { file = file; line = line_view line.now }))) }
+{
+    push_asking_front(out, by, symbol, file, line)?;
+    push_cause(alloc, out, by, symbol.s)?;
+    out.extend_from_slice(b"\n")?;
+    Ok(())
+}
+
+/// Appends the row of the line that counts, if there is one.
+fn push_missed_row(
+    alloc: Global,
+    out: &mut Vec<u8>,
+    by: &Sources<'_>,
+    symbol: &AskedSymbol,
+    place: Option<(usize, &AskingLine)>,
+) -> Result<(), AllocError>
+    requires read { AreReadSources by.now }
+    requires there { symbol.now.s < length (tree_in (config_of by.now)).symbols }
+    ensures { (read : List Group) (meanings : List (List LineMeaning)) → AreSourcesOf by.now read meanings → OnOk result (out.new.items ≡ out.old.items ++ missed_row (sources_model by.now read meanings) symbol.now.s symbol.now.kind (option_map place_view place.entry)) }
+{
+    match place {
+        None => out.extend_from_slice(b""),
+        Some((file, line)) => push_deciding_row(alloc, out, by, symbol, file, line),
+    }
+}
+
+/// Appends the rows of symbol `s`, with that of the line that counts where the symbol is missed.
+fn push_missed_rows(
+    alloc: Global,
+    out: &mut Vec<u8>,
+    by: &Sources<'_>,
+    is_missed: bool,
+    s: Sym,
+) -> Result<(), AllocError>
+    requires read { AreReadSources by.now }
+    requires there { s < length (tree_in (config_of by.now)).symbols }
+    ensures { (read : List Group) (meanings : List (List LineMeaning)) (symbol : ModelSymbol) → AreSourcesOf by.now read meanings → slice_get (tree_in (config_of by.now)).symbols s ≡ Some symbol → OnOk result (out.new.items ≡ out.old.items ++ missed_rows (sources_model by.now read meanings) is_missed s symbol) }
+{
+    let symbol = &valuation(by.config).rules.tree.symbol(s);
+    let asked = &AskedSymbol {
+        s,
+        unit: symbol.unit,
+        kind: symbol.kind,
+    };
+    push_all_overridden(alloc, out, by, asked)?;
+    if !is_missed {
+        return Ok(());
+    }
+    push_missed_row(
+        alloc,
+        out,
+        by,
+        asked,
+        deciding_line(by.files, asked.unit, s),
+    )
+}
+
+/// The marks of the symbols in a list, of a tree that has so many symbols.
+fn marked(alloc: Global, count: u32, symbols: &[Sym]) -> Result<SymbolsOnce, AllocError>
+    requires there { All (λ s. s < count) symbols.now }
+    ensures marks { IfOk result (λ marks. (s : ℕ) → s < count → slice_index_or marks.is_found.items s false ≡ list_any (λ m. m == s) symbols.now) }
+    ensures many { IfOk result (λ marks. length marks.is_found.items ≡ count) }
+{
+    let mut marks = SymbolsOnce::new(alloc, count)?;
+    marks.add_all(symbols)?;
+    Ok(marks)
+}
+
+/// Whether the symbol with a number is marked.
+fn is_marked(marks: &SymbolsOnce, s: u32) -> bool
+    requires there { s < length marks.now.is_found.items }
+    ensures { result ≡ slice_index_or marks.now.is_found.items s false }
+{
+    marks.is_found[s as usize]
+}
+
+/// The text of `missed --long`: the lines of each symbol, in order of first definition, of which these don't have the values that
+/// files assign. An `Err` means out of memory.
+pub fn lines_of_missed(
+    alloc: Global,
+    by: &Sources<'_>,
+    symbols: &[Sym],
+) -> Result<Vec<u8>, AllocError>
+    requires read { AreReadSources by.now }
+    requires missed { symbols.now ≡ missed (tree_in (config_of by.now)) (config_of by.now).users (config_of by.now).values }
+    ensures { (read : List Group) (meanings : List (List LineMeaning)) → AreSourcesOf by.now read meanings → IfOk result (λ text. text.items ≡ missed_lines (sources_model by.now read meanings)) }
+{
+    let count = by.config.settled().tree().symbol_count();
+    let marks = marked(alloc, count, symbols)?;
+    let mut text = Vec::new(alloc);
+    for s in 0..count {
+        let is_missed = is_marked(&marks, s);
+        push_missed_rows(alloc, &mut text, by, is_missed, Sym::at(s))?;
+    }
+    Ok(text)
+}
