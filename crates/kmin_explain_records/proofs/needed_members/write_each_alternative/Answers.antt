@@ -1,0 +1,16 @@
+use Rattle.std.specs.Global.{Vec}
+use Rattle.json.specs.Tree.{json_tokens}
+use Rattle.kc_evaluation.specs.checker.ValuationView.{valuation_tree, valuation_exprs, valuation_values}
+use Rattle.kc_rules_model.specs.SymbolValues.{environment}
+use Rattle.kc_located_reasons.specs.declared.located_parts.LocatedPart.{LocatedPart}
+use Rattle.kc_located_reasons.specs.between.PartsView.{located_parts_view}
+use Rattle.kmin_explain_records.specs.SymbolRecords.{parts_json}
+use Rattle.kmin_records.proofs.JsonLists.{one_more_written}
+use Rattle.kmin_explain_records.proofs.needed_members.write_each_alternative.Goals as goal
+
+pub loop-list-preserved : goal.loop-list-preserved
+loop-list-preserved c =
+    let under = c.args.under.now in
+    one_more_written
+    (λ (v : Vec LocatedPart). json_tokens (parts_json c.args.strings (environment (valuation_tree under) (valuation_values under)) c.args.paths.now (located_parts_view (valuation_exprs under) v.items)))
+    c.args.lists.now c.loop-list.list-index _ _ _ _ c.loop-list-test.true c.loop-list.invariant c.in_ok-write_parts.ensures
