@@ -19,7 +19,7 @@ returns-clause-declared c =
     let explain = with_command _ _ _ _ _ c.in_ok-program-3.ensures c.in_ok-explain.ensures listing in
     let compare = with_command _ _ _ _ _ c.in_ok-program-4.ensures c.in_ok-compare.ensures explain in
     IfOk-weaker c.with_tidy_and_wants.result _ _ (λ made adds.
-    (_, record { languages = search rules; forms = search rules; profiles = search rules; messages = search rules }, (adds _ compare).1)) c.with_tidy_and_wants.ensures
+    (_, record { languages = search rules; forms = search rules; profiles = search rules; messages = search rules; outputs = search rules }, (adds _ compare).1)) c.with_tidy_and_wants.ensures
 
 pub returns-clause-simple : goal.returns-clause-simple
 returns-clause-simple c =

@@ -1,0 +1,4 @@
+pub mod RecordDepths
+pub mod RecordTexts
+pub mod AskedTokens
+pub mod ListedSymbols
