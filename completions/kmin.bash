@@ -30,6 +30,9 @@ _kmin_words() {
         missed) echo "--long --by-cause" ;;
     esac
     case $1 in
+        missed|check|explain|compare|tidy) echo "--format" ;;
+    esac
+    case $1 in
         check) echo "--long" ;;
     esac
     case $1 in
@@ -55,6 +58,7 @@ _kmin_value() {
         --answers|-o|--output|--from) echo "file" ;;
         --env) echo "name" ;;
         --messages) echo "one of plain long json" ;;
+        --format) echo "one of plain json" ;;
     esac
 }
 

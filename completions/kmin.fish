@@ -61,6 +61,7 @@ complete -c kmin -n "__fish_seen_subcommand_from min" -l drop -d "Replaces a FIL
 complete -c kmin -n "__fish_seen_subcommand_from missed check" -l exit-code -d "Ends with status 1 where a symbol is listed"
 complete -c kmin -n "__fish_seen_subcommand_from missed" -l long -d "Lists each line that isn't taken, and why"
 complete -c kmin -n "__fish_seen_subcommand_from missed" -l by-cause -d "Lists the symbols below what keeps them; not with --long"
+complete -c kmin -n "__fish_seen_subcommand_from missed check explain compare tidy" -l format -d "Form of what is listed" -x -a "plain json"
 complete -c kmin -n "__fish_seen_subcommand_from check" -l long -d "Says what selects each symbol, and what is unmet"
 complete -c kmin -n "__fish_seen_subcommand_from explain" -l every -d "Explains each symbol of the tree; no NAME is given"
 complete -c kmin -n "__fish_seen_subcommand_from explain" -l deep -d "Goes on with the symbols that keep those explained too low"

@@ -81,6 +81,11 @@ _kmin_specs() {
         ) ;;
     esac
     case $1 in
+        missed|check|explain|compare|tidy) specs+=(
+            '--format=[Form of what is listed]:FORM:(plain json)'
+        ) ;;
+    esac
+    case $1 in
         check) specs+=(
             '--long[Says what selects each symbol, and what is unmet]'
         ) ;;

@@ -1,7 +1,6 @@
 -- The collected lists represent the tree.
-use Rattle.std.proofs.Common.{◌≡◌, ℕ, zero, suc, ◌+◌, ◌<◌, ◌≤◌, ◌^◌, Bool, true, false, cond, List, [], ◌∷◌, length, map, Option, Some, None, refl, ap, sym, subst, ◌∙◌, arith}
+use Rattle.std.proofs.Common.{◌≡◌, ℕ, zero, suc, ◌+◌, ◌<◌, ◌≤◌, ◌^◌, Bool, true, false, cond, List, [], ◌∷◌, length, map, reverse, Option, Some, None, refl, ap, sym, subst, ◌∙◌, arith}
 use Rattle.std.specs.Prelude.{All, filter, filter_map, flat_map, slice_get, option_to_list, option_and_then}
-use Rattle.std.specs.Option.{option_or}
 use Rattle.std.specs.List.{cons_option}
 use Rattle.std.proofs.lemmas.List.{length-map}
 use Rattle.std.proofs.lemmas.List.Elements.{All-append, All-cons, All-nil}
@@ -14,14 +13,13 @@ use Rattle.kc_tree_model.specs.Blocks.{Group, defined_name}
 use Rattle.kc_tree_model.specs.Conditions.{GroupInContext}
 use Rattle.kc_tree_model.specs.Contents.{Contents, begins_symbol, contents_of, symbol_of, choice_of, choice_number, tree_of_groups, tree_of_files}
 use Rattle.kc_tree_model.specs.Limits.{names_defined}
-use Rattle.kc_tree_model.proofs.Consistency.Definitions.{IsSound, sound_contents, no_first}
+use Rattle.kc_tree_model.proofs.Consistency.Definitions.{IsSound, sound_contents, no_first, nothing_at}
 use Rattle.kc_tree_model.proofs.Consistency.Consistent.{tree_is_consistent}
 use Rattle.kc_tree_model.specs.TreeLookup.{IsConsistent}
 use Rattle.kc_tree_model.proofs.Consistency.NameLimits.{few_symbols as few_defined}
 use Rattle.kc_tree_model.proofs.Consistency.Places.{is_read}
-use Rattle.kc_tree_model.specs.declared.fault.TreeFault.{TreeFault}
 use Rattle.kc_tree_model.specs.TreeReading.{reading}
-use Rattle.kc_tree_model.specs.TreeFaults.{first_tree_fault, tree_faults}
+use Rattle.kc_tree_model.specs.TreeFaults.{faults_of_group, first_tree_fault, tree_faults}
 use Rattle.kc_tree_model.proofs.Consistency.Lists.{get_below, place-get, number-get, map-get}
 use Rattle.kc_tree_model.proofs.Consistency.Units.{number_is}
 use Rattle.kc_listing.specs.declared.listing.Listing.{Listing}
@@ -30,7 +28,9 @@ use Rattle.kc_listing.specs.between.ListingView.{RepresentsListing}
 use Rattle.kc_checks.specs.between.FaultSearch.{HasNoFaults}
 use Rattle.kc_tree.specs.TreeModel.{TreeModel}
 use Rattle.kc_tree.specs.between.Views.{member_default_view}
-use Rattle.kc_builder.specs.checker.Assembly.{AreSymbolParts, AreChoiceParts, IsGathering}
+use Rattle.kc_builder.specs.checker.Assembly.{IsGathering, IsReadIn, IsWalk}
+use Rattle.kc_conditions.specs.between.Walks.{RepresentsAllConditions}
+use Rattle.kc_conditions.specs.declared.listing_walk.WalkedListing.{WalkedListing}
 use Rattle.kc_builder.specs.checker.ChoiceDefaults.{choice_defaults_of}
 use Rattle.kc_builder.specs.checker.ChoiceRows.{opens, IsChoiceRow, AreChoiceRows}
 use Rattle.kc_builder.specs.checker.Definitions.{AreAttributes}
@@ -40,16 +40,16 @@ use Rattle.kc_tree.specs.between.GatheredView.{symbol_gathered, choice_gathered,
 use Rattle.kc_tree.specs.between.GroupedItems.{items_of}
 use Rattle.kc_tree.specs.between.PartsView.{from_rows, entry_from_row}
 use Rattle.kc_builder.specs.checker.Rows.{IsRowOf, AreRowsOf}
-use Rattle.kc_checks.specs.between.Summaries.{AreOwnMembers, own_choice, member_in, members_at, member_keys_at}
-use Rattle.kc_builder.specs.checker.UnitList.{unit_read, units_read}
-use Rattle.kc_builder.specs.declared.builder.ChoiceParts.{ChoiceParts}
-use Rattle.kc_builder.specs.declared.builder.SymbolParts.{SymbolParts}
+use Rattle.kc_checks.specs.between.Summaries.{own_choice, member_in, members_at, member_keys_at, IsSummary, IsSummaryOf}
+use Rattle.kc_checks.specs.declared.summary.Summary.{Summary}
+use Rattle.kc_builder.specs.checker.GroupParts.{AreParts}
+use Rattle.kc_builder.specs.declared.group_parts.GroupParts.{GroupParts}
 use Rattle.kc_tree.specs.declared.tree_lists.TreeLists.{TreeLists}
-use Rattle.kc_tree.specs.declared.items_with_keys.ItemsWithKeys.{ItemsWithKeys}
 use Rattle.kc_tree.specs.declared.parts.ChoiceRow.{ChoiceRow}
 use Rattle.kc_tree.specs.declared.parts.SymbolRow.{SymbolRow}
 use Rattle.kc_checks.proofs.GroupPlaces.{placed_count, count_is}
 use Rattle.kc_checks.proofs.MemberLaw.{own_members_are}
+use Rattle.kc_builder.proofs.UnitLaw.{unit_read, units_read, units_same}
 
 -- symbols
 module _ (language : Language) (g : TreeLists) (c : Contents) (a : AreAttributes language g.arena c g.attributes) where
@@ -216,50 +216,60 @@ few_mapped {A = A} {B = B} f (x ∷ xs) = by (f x) (few_mapped f xs)
     by (Some y) h = omega (arith, h)
 
 -- no fault is left
-after_by : (f : Option TreeFault) (x : Option TreeFault) → option_or f x ≡ None → x ≡ None
-after_by None x e = e
-after_by (Some g) x e = cc
+pub faultless_of : (language : Language) (read : List Group) → None ≡ slice_get (tree_faults language read) 0 → HasNoFaults read
+faultless_of language read h = (language, no_first (tree_faults language read) (sym h))
 
-pub faultless_of : (files : Files) (root : List ℕ) → first_tree_fault files root ≡ None → HasNoFaults (reading files root).read
-unfolding first_tree_fault
-faultless_of files root h = (
-  files.language,
-  no_first (tree_faults files.language (reading files root).read)
-      (after_by (reading files root).fault (slice_get (tree_faults files.language (reading files root).read) 0) h),
-)
+-- a walk of what was read of files
+pub walk_read : (language : Language) (l : Listing) (w : WalkedListing) (files : Files) (root : List ℕ) → IsReadIn language l files root → w.language ≡ language
+    → ((read : List Group) → RepresentsListing l read → RepresentsListing w.listing read)
+    → ((read : List Group) → RepresentsListing l read → RepresentsAllConditions language w.listing.names.arena w.listing.texts.items w.conditions.items
+    (length w.conditions.items) (reverse w.groups.items) read) → IsWalk w files root
+walk_read language l w files root k written shows walked = record {
+  walk = record {
+    shows = shows (reading files root).read k.shows;
+    shown = subst (λ x. RepresentsAllConditions x w.listing.names.arena w.listing.texts.items w.conditions.items (length w.conditions.items)
+        (reverse w.groups.items) (reading files root).read) k.written (walked (reading files root).read k.shows);
+  };
+  written = written ∙ k.written;
+}
 
 -- the whole, part by part
-module _ (files : Files) (root : List ℕ) (l : Listing) (symbols : SymbolParts) (choices : ChoiceParts) (members : ItemsWithKeys ℕ) (g : TreeLists)
-    (arena_is : g.arena ≡ l.names.arena) (symbols_is : g.symbols ≡ symbols.rows) (attributes_is : g.attributes ≡ symbols.attributes)
-    (choices_is : g.choices ≡ choices.rows) (members_is : g.members ≡ members)
-    (defaults_is : g.member_defaults ≡ choices.defaults) (entries_is : g.entries ≡ choices.entries) (titles_is : g.titles ≡ l.texts)
-    (units_is : g.units ≡ symbols.units) (language_is : g.language ≡ files.language)
-    (shows : RepresentsListing l (reading files root).read) (s : AreSymbolParts files.language l.names.arena (reading files root).read symbols)
-    (k : AreChoiceParts l files.language (reading files root).read choices)
-    (m : AreOwnMembers (contents_of (reading files root).read) members) (few : length l.groups.items < 2 ^ 32) where
+module _ (files : Files) (root : List ℕ) (l : Listing) (symbols : List SymbolRow) (parts : GroupParts) (summary : Summary) (g : TreeLists)
+    (arena_is : g.arena ≡ l.names.arena) (symbols_is : g.symbols.items ≡ symbols) (attributes_is : g.attributes ≡ parts.attributes)
+    (choices_is : g.choices ≡ parts.rows) (members_is : g.members ≡ summary.own_members)
+    (defaults_is : g.member_defaults ≡ parts.defaults) (entries_is : g.entries ≡ parts.entries) (titles_is : g.titles ≡ l.texts)
+    (units_is : g.units ≡ summary.units) (language_is : g.language ≡ files.language)
+    (shows : RepresentsListing l (reading files root).read)
+    (s : AreRowsOf l.names.arena (contents_of (reading files root).read) (names_defined (reading files root).read) symbols)
+    (k : AreParts files.language l (reading files root).read parts) (m : IsSummary (reading files root).read summary)
+    (none : HasNoFaults (reading files root).read) (few : length l.groups.items < 2 ^ 32) where
   abbrev read : List Group
   read = (reading files root).read
 
   abbrev c : Contents
   c = contents_of (reading files root).read
 
+  summed : IsSummaryOf c c.places summary
+  unfolding IsSummary
+  summed = m
+
   sound : IsSound c
   sound = sound_contents (reading files root).read (is_read files root)
 
   rows : AreRowsOf g.arena c c.names g.symbols.items
-  rows = rw (arena_is, symbols_is) s.rows
+  rows = rw (arena_is, symbols_is) s
 
   attributes : AreAttributes files.language g.arena c g.attributes
-  attributes = rw (arena_is, attributes_is) s.attributes
+  attributes = rw (arena_is, attributes_is) k.attributes
 
   choice_rows : AreChoiceRows files.language g.arena (filter opens c.places) g.choices.items
   choice_rows = rw (arena_is, choices_is) k.rows
 
   keys : g.members.keys.items ≡ flat_map (member_keys_at (own_choice c) c) c.places
-  keys = ap (λ v. v.keys.items) members_is ∙ m.member_keys
+  keys = ap (λ v. v.keys.items) members_is ∙ summed.own_members.member_keys
 
   items : g.members.items.items ≡ flat_map (members_at (own_choice c) c) c.places
-  items = ap (λ v. v.items.items) members_is ∙ m.members
+  items = ap (λ v. v.items.items) members_is ∙ summed.own_members.members
 
   defaults_by : (o : Option GroupInContext) → choice_defaults_of files.language c o ≡ elim o as (λ _. List tree.MemberDefault)
       [ None ↦ [] | Some p ↦ (choice_of files.language c p).defaults ]
@@ -275,7 +285,10 @@ module _ (files : Files) (root : List ℕ) (l : Listing) (symbols : SymbolParts)
   entries = rw (arena_is, titles_is, entries_is) k.entries
 
   units : g.units.items ≡ units_read c
-  units = rw units_is s.units
+  unfolding tree_faults
+  units =
+      ap (λ v. v.items) units_is ∙ summed.units
+      ∙ units_same none.0 read sound (λ p h. nothing_at (faults_of_group none.0 c) c.places p none.1 h)
 
   pub whole : gathered_tree g ≡ tree_of_groups files.language read
   unfolding tree_of_groups

@@ -1,5 +1,5 @@
 -- The defaults of choices, as they are collected.
-use Rattle.std.proofs.Common.{◌≡◌, ℕ, zero, suc, ◌+◌, ◌<◌, ◌≤◌, ◌==◌, Bool, true, false, cond, List, [], ◌∷◌, ◌++◌, length, get_or, take, map, Option, Some, None, refl, ap, sym, subst, ◌∙◌, arith, append_assoc, append-nil}
+use Rattle.std.proofs.Common.{◌≡◌, ℕ, zero, suc, ◌+◌, ◌<◌, ◌==◌, Bool, true, false, cond, List, [], ◌∷◌, ◌++◌, length, get_or, take, map, Option, Some, None, refl, ap, sym, subst, ◌∙◌, arith, append_assoc, append-nil}
 use Rattle.std.specs.Prelude.{All, slice_get, slice_index, option_map, option_and_then, option_to_list, filter, filter_map, flat_map, is_none}
 use Rattle.std.specs.List.{cons_option}
 use Rattle.std.proofs.lemmas.Bool.{eq-eqb, eqb-true, false≢true}
@@ -38,7 +38,6 @@ use Rattle.kc_tree.specs.between.Views.{member_default_view, MemberDefaultFits}
 use Rattle.kc_builder.specs.checker.ChoiceDefaults.{default_value_view, symbol_bare, member_default_row, member_default_rows, group_default_rows, choice_defaults_of, AreDefaultsOf, IsWalkOf}
 use Rattle.kc_builder.specs.checker.ChoiceRows.{opens}
 use Rattle.kc_conditions.specs.between.GroupConditions.{own_conditions}
-use Rattle.kc_builder.specs.checker.Entries.{choices_after}
 use Rattle.kc_checks.specs.between.Summaries.{read_before, group_at, own_lines, is_choice_code}
 use Rattle.kc_tree.specs.declared.items_with_keys.ItemsWithKeys.{ItemsWithKeys}
 use Rattle.kc_conditions.specs.declared.group_walk.GroupConditions.{GroupConditions}
@@ -308,24 +307,6 @@ pub get_last : {X : Type 0} (xs : List X) (y : X) → slice_get (xs ++ y ∷ [])
 get_last [] y = refl
 get_last (x ∷ xs) y = get_last xs y
 
-pub choices_by : (x : CodeHead) (n : ℕ) → choices_after x n ≡ cond (is_choice_code x) (n + 1) n
-choices_by (codes.Config s) n = refl
-choices_by codes.Choice n = refl
-choices_by (codes.Menu t) n = refl
-choices_by (codes.Condition id) n = refl
-choices_by (codes.Comment t) n = refl
-choices_by (codes.Source t) n = refl
-choices_by codes.Mainmenu n = refl
-choices_by (codes.Ends b) n = refl
-choices_by codes.FileEnd n = refl
-
-pub choices_few : (x : CodeHead) (n : ℕ) → choices_after x n ≤ n + 1
-choices_few x n = by (is_choice_code x) (choices_by x n)
-  where
-    by : (b : Bool) → choices_after x n ≡ cond b (n + 1) n → choices_after x n ≤ n + 1
-    by true e = omega (arith, e)
-    by false e = omega (arith, e)
-
 choice_given : (exprs : Exprs) (names texts : List (List ℕ)) (c : CodeHead) (m : Group) → RepresentsHead exprs names texts c m.head → is_choice_code c ≡ true
     → m.head ≡ of_head choice
 choice_given exprs names texts (codes.Config s) m h e = cc
@@ -440,30 +421,24 @@ module _ (language : Language) (l : Listing) (groups : List GroupConditions) (co
       }
 
   -- the defaults collected from the first `i` groups, with those of the next group, are those of the first `i + 1`
-  pub one_more : (i n n2 : ℕ) (what : CodeHead) (old new : ItemsWithKeys MemberDefault) → i < length l.groups.items → what ≡ (group_at l.groups.items i).head
-      → n ≡ length (numbers_of_choices (read_before i read)) → n2 ≡ choices_after what n → HasNoFaults read
-      → new.keys.items ≡ old.keys.items ++ map (λ (_ : MemberDefault). n) (group_default_rows what l.names (own_lines l i) (own_conditions groups conditions i))
-      → new.items.items ≡ old.items.items ++ group_default_rows what l.names (own_lines l i) (own_conditions groups conditions i) → AreTo i n old
-      → AreTo (i + 1) n2 new
-  one_more i n n2 what old new h v c m none e f d =
-      by (is_choice_code what) refl e f
+  pub one_more : (i n n2 : ℕ) (old new : ItemsWithKeys MemberDefault) → i < length l.groups.items
+      → n ≡ length (numbers_of_choices (read_before i read)) → n2 ≡ cond (is_choice_code (group_at l.groups.items i).head) (n + 1) n → HasNoFaults read
+      → new.keys.items ≡ old.keys.items ++ map (λ (_ : MemberDefault). n)
+      (group_default_rows (group_at l.groups.items i).head l.names (own_lines l i) (own_conditions groups conditions i))
+      → new.items.items ≡ old.items.items ++ group_default_rows (group_at l.groups.items i).head l.names (own_lines l i) (own_conditions groups conditions i)
+      → AreTo i n old → AreTo (i + 1) n2 new
+  one_more i n n2 old new h c m none e f d = subst (λ k. AreTo (i + 1) k new) (sym m) (by (is_choice_code (group_at l.groups.items i).head) refl e f)
     where
-      choices_after_by : (x : CodeHead) (b : Bool) → is_choice_code x ≡ b → choices_after x n ≡ cond b (n + 1) n
-      choices_after_by x b e = choices_by x n ∙ ap (λ t. cond t (n + 1) n) e
-
-      by : (b : Bool) → is_choice_code what ≡ b
+      by : (b : Bool) → is_choice_code (group_at l.groups.items i).head ≡ b
           → new.keys.items ≡ old.keys.items ++ map (λ (_ : MemberDefault). n)
-          (cond (is_choice_code what) (member_default_rows l.names (own_lines l i) (own_conditions groups conditions i)) [])
-          → new.items.items ≡ old.items.items ++ cond (is_choice_code what) (member_default_rows l.names (own_lines l i) (own_conditions groups conditions i))
-          [] → AreTo (i + 1) n2 new
+          (cond b (member_default_rows l.names (own_lines l i) (own_conditions groups conditions i)) [])
+          → new.items.items ≡ old.items.items ++ cond b (member_default_rows l.names (own_lines l i) (own_conditions groups conditions i)) []
+          → AreTo (i + 1) (cond b (n + 1) n) new
       by true t e f =
           let count : n ≡ length (filter opens (groups_in_context (read_before i read))) = c
           ∙ length-map (filter opens (groups_in_context (read_before i read))) (λ (p : GroupInContext). p.group.number) in
-          subst (λ k. AreTo (i + 1) k new) (sym (m ∙ choices_after_by what true t))
-          (more_defaults i n old new h (ap is_choice_code (sym v) ∙ t) count none (rw t at e) (rw t at f) d)
-      by false t e f =
-          subst (λ k. AreTo (i + 1) k new) (sym (m ∙ choices_after_by what false t))
-          (same_defaults i n old new h (ap is_choice_code (sym v) ∙ t) ((rw t at e) ∙ append-nil old.keys.items) ((rw t at f) ∙ append-nil old.items.items) d)
+          more_defaults i n old new h t count none e f d
+      by false t e f = same_defaults i n old new h t (e ∙ append-nil old.keys.items) (f ∙ append-nil old.items.items) d
 
   pub all_gathered : (i n : ℕ) (found : ItemsWithKeys MemberDefault) → i ≡ length l.groups.items → n ≡ length (numbers_of_choices (read_before i read))
       → AreTo i n found

@@ -17,23 +17,17 @@ use Rattle.kc_listing.specs.declared.listing.Line.{Line as CodeLine}
 use Rattle.kc_listing.specs.declared.listing.Listing.{Listing}
 use Rattle.kc_listing.specs.between.ListingView.{RepresentsListing, line_in, RepresentsGroup}
 use Rattle.kc_tree_model.specs.Limits.{names_defined}
-use Rattle.kc_builder.specs.checker.ChoiceRows.{IsGoneThrough, is_optional_line, choice_row, opens, IsChoiceRow, AreChoiceRows}
-use Rattle.kc_conditions.specs.between.GroupConditions.{conditions_at, own_conditions, IsConditioned}
+use Rattle.kc_builder.specs.checker.ChoiceRows.{is_optional_line, choice_row, group_rows, opens, IsChoiceRow, AreChoiceRows}
+use Rattle.kc_conditions.specs.between.GroupConditions.{conditions_at, own_conditions}
 use Rattle.kc_checks.specs.between.Attributes.{is_optional_code, is_prompt}
 use Rattle.kc_conditions.specs.between.Firsts.{first_prompt}
-use Rattle.kc_checks.specs.between.Summaries.{read_before, group_at, own_lines, is_choice_code, IsRepresented}
+use Rattle.kc_checks.specs.between.Summaries.{read_before, group_at, own_lines, is_choice_code}
 use Rattle.kc_conditions.specs.between.Walks.{condition_at, RepresentsConditions, RepresentsAllConditions}
 use Rattle.kc_tree.specs.declared.parts.ChoiceRow.{ChoiceRow}
 use Rattle.kc_conditions.specs.declared.group_walk.GroupConditions.{GroupConditions}
 use Rattle.kc_checks.proofs.GroupPlaces.{shown_at, placed_more, none_before, all_before, count_is}
 use Rattle.kc_conditions.proofs.GroupConditionLemmas.{conditioned_at, conditions_count}
 use Rattle.kc_checks.proofs.Rounds.{begins_is}
-
-pub shown_of : (l : Listing) (groups : List GroupConditions) (conditions : List ℕ) → IsGoneThrough l groups conditions → IsRepresented l
-shown_of l groups conditions g = record { read = g.read; shows = g.shows }
-
-pub conditioned_of : (l : Listing) (groups : List GroupConditions) (conditions : List ℕ) → IsGoneThrough l groups conditions → IsConditioned groups conditions
-conditioned_of l groups conditions g = record { language = g.language; exprs = g.exprs; texts = l.texts.items; read = g.read; shown = g.walked }
 
 same_group : (m n : Group) (a b : List Group) → m ∷ a ≡ n ∷ b → m ≡ n
 same_group m n a b e = cc
@@ -183,18 +177,21 @@ module _ (language : Language) (l : Listing) (exprs : Exprs) (groups : List Grou
       ∙ ap (λ t. filter opens (groups_in_context (read_before i read)) ++ cond t (p ∷ []) [])
       (begins_is l.names.arena (names_defined read) l.texts.items (group_at l.groups.items i).head x.group x.shown.head ∙ e)
 
-  pub rows_more : (i : ℕ) (rows : List ChoiceRow) → i < length l.groups.items → is_choice_code (group_at l.groups.items i).head ≡ true → AreRowsTo i rows
-      → AreRowsTo (i + 1) (rows ++ choice_row (group_at l.groups.items i) (own_lines l i) (own_conditions groups conditions i) ∷ [])
-  rows_more i rows h e r =
-      let p : GroupInContext = group_in_context (open_blocks 0 (read_before i read)) (both_at i h).group in
-      let row = choice_row (group_at l.groups.items i) (own_lines l i) (own_conditions groups conditions i) in
-      subst (λ ps. AreChoiceRows language exprs ps (rows ++ row ∷ [])) (sym (places_more i h true e))
-      (rows_pushed _ exprs (filter opens (groups_in_context (read_before i read))) rows p row r (row_shown i h))
-
-  pub rows_same : (i : ℕ) (rows : List ChoiceRow) → i < length l.groups.items → is_choice_code (group_at l.groups.items i).head ≡ false → AreRowsTo i rows
-      → AreRowsTo (i + 1) rows
-  rows_same i rows h e r =
-      subst (λ ps. AreChoiceRows language exprs ps rows) (sym (places_more i h false e ∙ append-nil (filter opens (groups_in_context (read_before i read))))) r
+  pub rows_more : (i : ℕ) (rows rows2 : List ChoiceRow) → i < length l.groups.items
+      → rows2 ≡ rows ++ group_rows (group_at l.groups.items i) (own_lines l i) (own_conditions groups conditions i) → AreRowsTo i rows → AreRowsTo (i + 1) rows2
+  rows_more i rows rows2 h e r = subst (AreRowsTo (i + 1)) (sym e) (by (is_choice_code (group_at l.groups.items i).head) refl)
+    where
+      by : (b : Bool) → is_choice_code (group_at l.groups.items i).head ≡ b
+          → AreRowsTo (i + 1) (rows ++ cond b (choice_row (group_at l.groups.items i) (own_lines l i) (own_conditions groups conditions i) ∷ []) [])
+      by true t =
+          let p : GroupInContext = group_in_context (open_blocks 0 (read_before i read)) (both_at i h).group in
+          let row = choice_row (group_at l.groups.items i) (own_lines l i) (own_conditions groups conditions i) in
+          subst (λ ps. AreChoiceRows language exprs ps (rows ++ row ∷ [])) (sym (places_more i h true t))
+          (rows_pushed _ exprs (filter opens (groups_in_context (read_before i read))) rows p row r (row_shown i h))
+      by false t =
+          subst (AreRowsTo (i + 1)) (sym (append-nil rows))
+          (subst (λ ps. AreChoiceRows language exprs ps rows)
+          (sym (places_more i h false t ∙ append-nil (filter opens (groups_in_context (read_before i read))))) r)
 
   pub no_rows : AreRowsTo 0 []
   no_rows = subst (λ ms. AreChoiceRows language exprs (filter opens (groups_in_context ms)) []) (sym (none_before read)) tt

@@ -1,139 +1,40 @@
 -- The entries of what was read, group by group.
-use Rattle.std.proofs.Common.{◌≡◌, ◌⊎◌, inl, inr, ℕ, suc, ◌+◌, ◌<◌, ◌≤◌, Bool, true, false, cond, List, [], ◌∷◌, ◌++◌, length, drop, map, reverse, Option, Some, None, refl, ap, sym, subst, ◌∙◌, arith, append-nil, append_assoc, length-append, eq-eqb, eqb-true}
-use Rattle.std.specs.Prelude.{◌==◌, All, filter, filter_map, slice_get, slice_index_or, option_map, option_to_list}
+use Rattle.std.proofs.Common.{◌≡◌, ◌⊎◌, inl, inr, ℕ, ◌+◌, ◌-◌, ◌<◌, true, List, [], ◌∷◌, ◌++◌, length, map, reverse, Option, Some, None, refl, ap, sym, subst, ◌∙◌}
+use Rattle.std.specs.Prelude.{All, filter_map, slice_get, slice_index_or, option_map, option_to_list}
 use Rattle.std.specs.List.{cons_option}
-use Rattle.std.proofs.lemmas.List.{length-map, map-append, reverse-append, reverse-reverse, length-reverse}
+use Rattle.std.proofs.lemmas.List.{map-append}
 use Rattle.std.proofs.lemmas.List.Elements.{All-append, All-cons, All-nil}
 use Rattle.std.proofs.lemmas.Option.{get_or_from_slice_get}
-use Rattle.std.proofs.Math.Seq.{drop-length}
 use Rattle.kc_tokens.specs.declared.language.Language.{Language}
 use Rattle.kc_expr.specs.between.Arena.{Exprs, Represents, node_expr}
 use Rattle.kc_expr.specs.Expr.{Expr}
 use Rattle.kc_tree_model.specs.declared.keyword.Block.TheVariants as blocks
 use Rattle.kc_tree_model.specs.Trees as tree
 use Rattle.kc_tree_model.specs.Statements.{block_of_head, title_of_head, visible_of}
-use Rattle.kc_tree_model.specs.Blocks.{Group, GroupHead, opening, closing, side_of, from_head, is_some_block, open_blocks, opens_choice}
+use Rattle.kc_tree_model.specs.Blocks.{Group, GroupHead, opening, closing, side_of, from_head, defined_name, is_some_block, open_blocks, opens_choice}
 use Rattle.kc_tree_model.specs.Conditions.{context_of, GroupInContext, group_in_context, groups_in_context, dependency_of, conjunction_of, attribute_values}
-use Rattle.kc_tree_model.specs.Contents.{Contents, contents_of, choice_number, index_of_number, entry_of_head, menu_end_of, tree_of_groups}
+use Rattle.kc_tree_model.specs.Contents.{Contents, contents_of, choice_number, entry_of_head, menu_end_of}
 use Rattle.kc_tree_model.specs.Limits.{names_defined}
-use Rattle.kc_tree_model.proofs.Consistency.Lists.{Differ, Differ-once, get_below, number_of_more}
-use Rattle.kc_tree_model.specs.Blocks.{defined_name}
-use Rattle.kc_listing.specs.declared.listing.Group.{Group as CodeGroup}
-use Rattle.kc_listing.specs.declared.listing.Line.{Line as CodeLine}
+use Rattle.kc_tree_model.proofs.Consistency.Lists.{Differ, Differ-once, get_below, number-get}
 use Rattle.kc_listing.specs.declared.listing.Listing.{Listing}
 use Rattle.kc_listing.specs.declared.listing.GroupHead.{GroupHead as CodeHead}
 use Rattle.kc_listing.specs.declared.listing.GroupHead.TheVariants as codes
-use Rattle.kc_listing.specs.between.SymbolTable.{text_of_name}
-use Rattle.kc_listing.specs.between.ListingView.{RepresentsListing, RepresentsHead, RepresentsGroups}
-use Rattle.kc_builder.specs.checker.Entries.{entry_row, choices_after, entries_from}
+use Rattle.kc_listing.specs.between.ListingView.{RepresentsListing, RepresentsHead}
+use Rattle.kc_builder.specs.checker.ChoiceDefaults.{IsWalkOf}
+use Rattle.kc_builder.specs.checker.Entries.{entry_row}
 use Rattle.kc_tree.specs.between.StoredParts.{EntryRowFits}
 use Rattle.kc_tree.specs.between.PartsView.{entry_from_row}
-use Rattle.kc_conditions.specs.between.Walks.{RepresentsConditions, RepresentsAllConditions, RepresentsEnd}
+use Rattle.kc_conditions.specs.between.GroupConditions.{conditions_at, own_conditions}
+use Rattle.kc_conditions.specs.between.Walks.{RepresentsConditions, RepresentsEnd}
 use Rattle.kc_tree.specs.declared.parts.EntryRow.{EntryRow}
 use Rattle.kc_tree.specs.declared.parts.EntryRow.TheVariants.{Definition, ChoiceBegins, MenuBegins, MenuEnds, Comment}
 use Rattle.kc_conditions.specs.declared.group_walk.GroupConditions.{GroupConditions}
+use Rattle.kc_checks.specs.between.FaultSearch.{choices_before}
+use Rattle.kc_checks.specs.between.Summaries.{group_at, read_before}
+use Rattle.kc_checks.proofs.GroupPlaces.{are_numbers, numbers_before, placed_more}
+use Rattle.kc_checks.proofs.Rounds.{number_counts}
 use Rattle.kc_checks.proofs.Symbols.{place_is}
-
--- the entries of groups, the newest first
-abbrev count_back : List CodeGroup → ℕ
-count_back [] = 0
-count_back (g ∷ gs) = choices_after g.head (count_back gs)
-
-abbrev entries_back : List CodeGroup → List GroupConditions → List EntryRow
-entries_back [] cs = []
-entries_back (g ∷ gs) [] = []
-entries_back (g ∷ gs) (c ∷ cs) = entries_back gs cs ++ option_to_list (entry_row g.head c (count_back gs))
-
-abbrev count_from : ℕ → List CodeGroup → ℕ
-count_from n [] = n
-count_from n (g ∷ gs) = count_from (choices_after g.head n) gs
-
-count-append : (n : ℕ) (gs : List CodeGroup) (g : CodeGroup) → count_from n (gs ++ g ∷ []) ≡ choices_after g.head (count_from n gs)
-count-append n [] g = refl
-count-append n (h ∷ gs) g = count-append (choices_after h.head n) gs g
-
-count_reverse : (gs : List CodeGroup) → count_from 0 (reverse gs) ≡ count_back gs
-count_reverse [] = refl
-count_reverse (g ∷ gs) = ap (count_from 0) (reverse-append (g ∷ []) gs) ∙ count-append 0 (reverse gs) g ∙ ap (choices_after g.head) (count_reverse gs)
-
-from-append : (n : ℕ) (gs : List CodeGroup) (cs : List GroupConditions) (g : CodeGroup) (c : GroupConditions) → length gs ≡ length cs
-    → entries_from n (gs ++ g ∷ []) (cs ++ c ∷ []) ≡ entries_from n gs cs ++ option_to_list (entry_row g.head c (count_from n gs))
-from-append n [] [] g c e = append-nil (option_to_list (entry_row g.head c n))
-from-append n [] (d ∷ cs) g c e = absurd (omega (arith, e))
-from-append n (h ∷ gs) [] g c e = absurd (omega (arith, e))
-from-append n (h ∷ gs) (d ∷ cs) g c e =
-    ap (λ t. option_to_list (entry_row h.head d n) ++ t) (from-append (choices_after h.head n) gs cs g c (omega (arith, e)))
-    ∙ sym (append_assoc (option_to_list (entry_row h.head d n)) (entries_from (choices_after h.head n) gs cs)
-    (option_to_list (entry_row g.head c (count_from (choices_after h.head n) gs))))
-
-from_reverse : (gs : List CodeGroup) (cs : List GroupConditions) → length gs ≡ length cs → entries_from 0 (reverse gs) (reverse cs) ≡ entries_back gs cs
-from_reverse [] cs e = refl
-from_reverse (g ∷ gs) [] e = absurd (omega (arith, e))
-from_reverse (g ∷ gs) (c ∷ cs) e =
-    let f : length gs ≡ length cs = omega (arith, e) in
-    ap (λ xs. entries_from 0 xs (reverse (c ∷ cs))) (reverse-append (g ∷ []) gs)
-    ∙ ap (λ xs. entries_from 0 (reverse gs ++ g ∷ []) xs) (reverse-append (c ∷ []) cs)
-    ∙ from-append 0 (reverse gs) (reverse cs) g c (length-reverse gs ∙ f ∙ sym (length-reverse cs))
-    ∙ ap (λ t. t ++ option_to_list (entry_row g.head c (count_from 0 (reverse gs)))) (from_reverse gs cs f)
-    ∙ ap (λ n. entries_back gs cs ++ option_to_list (entry_row g.head c n)) (count_reverse gs)
-
--- the numbers of the choices
-abbrev opens : GroupInContext → Bool
-opens p = opens_choice p.group
-
-abbrev number : GroupInContext → ℕ
-number p = p.group.number
-
-abbrev numbers : List Group → List ℕ
-numbers ms = map number (filter opens (groups_in_context ms))
-
-snoc_by : {A : Type 0} (t : Bool) (a b z : List A) (y : A) → a ≡ b ++ z → cond t (y ∷ a) a ≡ cond t (y ∷ b) b ++ z
-snoc_by true a b z y e = ap (λ l. y ∷ l) e
-snoc_by false a b z y e = e
-
-filter_snoc : {A : Type 0} (f : A → Bool) (xs : List A) (x : A) → filter f (xs ++ x ∷ []) ≡ filter f xs ++ cond (f x) (x ∷ []) []
-filter_snoc f [] x = refl
-filter_snoc f (y ∷ xs) x = snoc_by (f y) (filter f (xs ++ x ∷ [])) (filter f xs) (cond (f x) (x ∷ []) []) y (filter_snoc f xs x)
-
-numbers_by : (b : Bool) (xs : List GroupInContext) (p : GroupInContext)
-    → map number (xs ++ cond b (p ∷ []) []) ≡ map number xs ++ cond b (p.group.number ∷ []) []
-numbers_by true xs p = map-append number xs (p ∷ [])
-numbers_by false xs p = map-append number xs []
-
-numbers_more : (m : Group) (ms : List Group) → numbers (m ∷ ms) ≡ numbers ms ++ cond (opens_choice m) (m.number ∷ []) []
-numbers_more m ms =
-    ap (map number) (filter_snoc opens (groups_in_context ms) (group_in_context (open_blocks 0 ms) m))
-    ∙ numbers_by (opens_choice m) (filter opens (groups_in_context ms)) (group_in_context (open_blocks 0 ms) m)
-
-abbrev AreBelow : ℕ → List ℕ → Type 0
-AreBelow k [] = Unit {0}
-AreBelow k (n ∷ ns) = (n < k) × AreBelow k ns
-
-below_later : (k : ℕ) (ns : List ℕ) → AreBelow k ns → AreBelow (suc k) ns
-below_later k [] h = tt
-below_later k (n ∷ ns) h = (let l = h.0 in omega (arith, l), below_later k ns h.1)
-
-below_one : (k n : ℕ) (ns : List ℕ) → AreBelow k ns → n < k → AreBelow k (ns ++ n ∷ [])
-below_one k n [] h l = (l, tt)
-below_one k n (x ∷ ns) h l = (h.0, below_one k n ns h.1 l)
-
-below_by : (b : Bool) (k n : ℕ) (ns : List ℕ) → AreBelow k ns → n < k → AreBelow k (ns ++ cond b (n ∷ []) [])
-below_by true k n ns h l = below_one k n ns h l
-below_by false k n ns h l = subst (AreBelow k) (sym (append-nil ns)) h
-
-place_by : (j k n : ℕ) (b : Bool) (o : Option ℕ) → (j == k) ≡ b → j < k → o ≡ Some n → cond b (Some 0) (option_map suc o) ≡ Some (suc n)
-place_by j k n true o e l h = let s = eqb-true j k e in absurd (omega (arith, s, l))
-place_by j k n false o e l h = ap (option_map suc) h
-
-place_first : (n : ℕ) (rest : List ℕ) (b : Bool) (o : Option ℕ) → b ≡ true → cond b (Some 0) (option_map suc o) ≡ Some 0
-place_first n rest true o e = refl
-place_first n rest false o e = cc
-
-place_there : (k : ℕ) (ks rest : List ℕ) → AreBelow k ks → index_of_number k ((ks ++ k ∷ []) ++ rest) ≡ Some (length ks)
-place_there k [] rest h = number_of_more k k rest ∙ place_first k rest (k == k) (index_of_number k rest) (eq-eqb k k refl)
-place_there k (j ∷ ks) rest h =
-    number_of_more k j ((ks ++ k ∷ []) ++ rest)
-    ∙ place_by j k (length ks) (j == k) (index_of_number k ((ks ++ k ∷ []) ++ rest)) refl h.0 (place_there k ks rest h.1)
+use Rattle.kc_builder.proofs.ChoiceRowSteps.{both_at, IsBoth}
 
 filter_map-one : {A B : Type 0} (f : A → Option B) (x : A) (o : Option B) → f x ≡ o → cons_option (f x) [] ≡ option_to_list o
 filter_map-one f x None e = rw e refl
@@ -151,65 +52,7 @@ map_option : {A B : Type 0} (f : A → B) (o : Option A) → map f (option_to_li
 map_option f None = refl
 map_option f (Some x) = refl
 
--- what a group counts
-module _ (e : Exprs) (names texts : List (List ℕ)) (m : Group) (n : ℕ) where
-  abbrev counted : GroupHead → ℕ
-  counted v = cond (is_some_block blocks.Choice (from_head block_of_head v)) (n + 1) n
-
-  pub counts : (w : CodeHead) → RepresentsHead e names texts w m.head → choices_after w n ≡ cond (opens_choice m) (n + 1) n
-  counts (codes.Config s) h = sym (ap counted h.2)
-  counts codes.Choice h = sym (ap counted h)
-  counts (codes.Menu t) h = sym (ap counted h.2)
-  counts (codes.Condition id) h = sym (ap counted h.1)
-  counts (codes.Comment t) h = sym (ap counted h.2)
-  counts (codes.Source t) h = sym (ap counted h.2)
-  counts codes.Mainmenu h = sym (ap counted h)
-  counts (codes.Ends blocks.Menu) h = sym (ap counted h)
-  counts (codes.Ends blocks.If) h = sym (ap counted h)
-  counts (codes.Ends blocks.Choice) h = sym (ap counted h)
-  counts codes.FileEnd h = sym (ap counted h)
-
-long_by : (b : Bool) (ns : List ℕ) (k : ℕ) → length (ns ++ cond b (k ∷ []) []) ≡ cond b (length ns + 1) (length ns)
-long_by true ns k = length-append ns (k ∷ [])
-long_by false ns k = ap length (append-nil ns)
-
-module _ (e : Exprs) (names texts : List (List ℕ)) (lines : List CodeLine) where
-  -- the count is that of the choices
-  count_is : (end : ℕ) (gs : List CodeGroup) (ms : List Group) → RepresentsGroups e names texts lines end gs ms → count_back gs ≡ length (numbers ms)
-  count_is end [] [] h = refl
-  count_is end (g ∷ gs) (m ∷ ms) h =
-      ap (choices_after g.head) (count_is g.attributes gs ms h.2)
-      ∙ counts e names texts m (length (numbers ms)) g.head h.0.head
-      ∙ sym (ap length (numbers_more m ms) ∙ long_by (opens_choice m) (numbers ms) m.number)
-  count_is end [] (m ∷ ms) h = absurd h
-  count_is end (g ∷ gs) [] h = absurd h
-
-  -- the numbers count the groups
-  numbers_below : (end : ℕ) (gs : List CodeGroup) (ms : List Group) → RepresentsGroups e names texts lines end gs ms → AreBelow (length ms) (numbers ms)
-  numbers_below end [] [] h = tt
-  numbers_below end (g ∷ gs) (m ∷ ms) h =
-      let n = h.0.number_is in
-      subst (AreBelow (suc (length ms))) (sym (numbers_more m ms))
-      (below_by (opens_choice m) (suc (length ms)) m.number (numbers ms) (below_later (length ms) (numbers ms) (numbers_below g.attributes gs ms h.2))
-      (omega (arith, n)))
-  numbers_below end [] (m ∷ ms) h = absurd h
-  numbers_below end (g ∷ gs) [] h = absurd h
-
--- the number of a choice, and that it is one
-module _ (C : Contents) (m : Group) (ms : List Group) (rest : List ℕ) (c : C.choices ≡ numbers (m ∷ ms) ++ rest) where
-  listed : opens_choice m ≡ true → C.choices ≡ (numbers ms ++ m.number ∷ []) ++ rest
-  listed o = c ∙ ap (λ ns. ns ++ rest) (numbers_more m ms ∙ ap (λ b. numbers ms ++ cond b (m.number ∷ []) []) o)
-
-  numbered : m.number ≡ length ms → AreBelow (length ms) (numbers ms) → opens_choice m ≡ true → choice_number C m.number ≡ Some (length (numbers ms))
-  numbered n b o = ap (index_of_number m.number) (listed o) ∙ place_there m.number (numbers ms) rest (subst (λ k. AreBelow k (numbers ms)) (sym n) b)
-
-  there : opens_choice m ≡ true → length (numbers ms) < length C.choices
-  there o = omega (arith, ap length (listed o), length-append (numbers ms ++ m.number ∷ []) rest, length-append (numbers ms) (m.number ∷ []))
-
-  before : C.choices ≡ numbers ms ++ (cond (opens_choice m) (m.number ∷ []) [] ++ rest)
-  before = c ∙ ap (λ ns. ns ++ rest) (numbers_more m ms) ∙ append_assoc (numbers ms) (cond (opens_choice m) (m.number ∷ []) []) rest
-
-abbrev entry_at : Language → Contents → GroupInContext → Option tree.Entry
+abbrev pub entry_at : Language → Contents → GroupInContext → Option tree.Entry
 entry_at language C p = from_head (entry_of_head language C p) p.group.head
 
 -- an entry represents that of the definition
@@ -296,77 +139,49 @@ module _ (language : Language) (e e2 : Exprs) (texts : List (List ℕ)) (C : Con
   entry_fits (codes.Ends blocks.Choice) c own h k o = All-nil Fits
   entry_fits codes.FileEnd c own h k o = All-nil Fits
 
--- all entries
-module _ (language : Language) (e e2 : Exprs) (texts : List (List ℕ)) (lines : List CodeLine) (conditions : List ℕ) (C : Contents) (d : Differ C.names) where
-  all_entries : (end end2 : ℕ) (gs : List CodeGroup) (cs : List GroupConditions) (ms : List Group) (rest : List ℕ)
-      → RepresentsGroups e C.names texts lines end gs ms
-      → RepresentsAllConditions language e2 texts conditions end2 cs ms → C.choices ≡ numbers ms ++ rest
-      → map (entry_from_row e2 texts) (entries_back gs cs) ≡ filter_map (entry_at language C) (groups_in_context ms)
-  all_entries end end2 [] [] [] rest h k c = refl
-  all_entries end end2 (g ∷ gs) (x ∷ xs) (m ∷ ms) rest h k c =
-      let f = entry_from_row e2 texts in
-      let p : GroupInContext = group_in_context (open_blocks 0 ms) m in
-      let n = count_is e C.names texts lines g.attributes gs ms h.2 in
-      let b = numbers_below e C.names texts lines g.attributes gs ms h.2 in
-      map-append f (entries_back gs xs) (option_to_list (entry_row g.head x (count_back gs)))
-      ∙ ap (λ t. t ++ map f (option_to_list (entry_row g.head x (count_back gs))))
-      (all_entries g.attributes x.first gs xs ms (cond (opens_choice m) (m.number ∷ []) [] ++ rest) h.2 k.2 (before C m ms rest c))
-      ∙ ap (λ t. filter_map (entry_at language C) (groups_in_context ms) ++ t) (map_option f (entry_row g.head x (count_back gs)))
-      ∙ ap (λ o. filter_map (entry_at language C) (groups_in_context ms) ++ option_to_list o)
-      (entry_shown _ e e2 texts C d p (count_back gs) g.head x _ h.0.head k.0 (λ o. numbered C m ms rest c h.0.number_is b o ∙ ap Some (sym n)))
-      ∙ sym (filter_map-snoc (entry_at language C) (groups_in_context ms) p)
-  all_entries end end2 [] cs (m ∷ ms) rest h k c = absurd h
-  all_entries end end2 (g ∷ gs) cs [] rest h k c = absurd h
-  all_entries end end2 [] (x ∷ xs) [] rest h k c = absurd k
-  all_entries end end2 (g ∷ gs) [] (m ∷ ms) rest h k c = absurd k
+-- the entries of the first groups and that of the next one
+module _ (language : Language) (l : Listing) (groups : List GroupConditions) (conditions : List ℕ) (read : List Group)
+    (w : IsWalkOf language l groups conditions read) (i n : ℕ) (h : i < length l.groups.items) (count : n ≡ choices_before i read) (old new : List EntryRow)
+    (more : new ≡ old ++ option_to_list (entry_row (group_at l.groups.items i).head (conditions_at groups i) n)) where
+  abbrev c : Contents
+  c = contents_of read
 
-  all_fit : (end end2 : ℕ) (gs : List CodeGroup) (cs : List GroupConditions) (ms : List Group) (rest : List ℕ)
-      → RepresentsGroups e C.names texts lines end gs ms
-      → RepresentsAllConditions language e2 texts conditions end2 cs ms → C.choices ≡ numbers ms ++ rest
-      → All (EntryRowFits (length e2.nodes) (length C.names) (length C.choices) (length texts)) (entries_back gs cs)
-  all_fit end end2 [] [] [] rest h k c = All-nil (EntryRowFits (length e2.nodes) (length C.names) (length C.choices) (length texts))
-  all_fit end end2 (g ∷ gs) (x ∷ xs) (m ∷ ms) rest h k c =
-      let p : GroupInContext = group_in_context (open_blocks 0 ms) m in
-      let n = count_is e C.names texts lines g.attributes gs ms h.2 in
-      All-append (EntryRowFits (length e2.nodes) (length C.names) (length C.choices) (length texts)) (entries_back gs xs)
-      (option_to_list (entry_row g.head x (count_back gs)))
-      (all_fit g.attributes x.first gs xs ms (cond (opens_choice m) (m.number ∷ []) [] ++ rest) h.2 k.2 (before C m ms rest c))
-      (entry_fits _ e e2 texts C d p (count_back gs) g.head x _ h.0.head k.0 (λ o. let t = there C m ms rest c o in omega (arith, t, n)))
-  all_fit end end2 [] cs (m ∷ ms) rest h k c = absurd h
-  all_fit end end2 (g ∷ gs) cs [] rest h k c = absurd h
-  all_fit end end2 [] (x ∷ xs) [] rest h k c = absurd k
-  all_fit end end2 (g ∷ gs) [] (m ∷ ms) rest h k c = absurd k
+  abbrev prior : List GroupInContext
+  prior = groups_in_context (read_before i read)
 
--- once no group is left, the collected rows are those of the entries of all groups
-pub rows_are : (gs : List CodeGroup) (cs : List GroupConditions) (rows : List EntryRow) (n i : ℕ) → length cs ≡ length gs → length gs ≤ i
-    → rows ++ entries_from n (drop i gs) (drop i cs) ≡ entries_from 0 gs cs → i ≤ length gs
-    → rows ≡ entries_back (reverse gs) (reverse cs)
-rows_are gs cs rows n i m a e b =
-    let at : i ≡ length gs = omega (arith, a, b) in
-    sym (append-nil rows)
-    ∙ ap (λ xs. rows ++ entries_from n xs (drop i cs)) (sym (ap (λ k. drop k gs) at ∙ drop-length gs))
-    ∙ e
-    ∙ ap (λ xs. entries_from 0 xs cs) (sym (reverse-reverse gs))
-    ∙ ap (λ xs. entries_from 0 (reverse (reverse gs)) xs) (sym (reverse-reverse cs))
-    ∙ from_reverse (reverse gs) (reverse cs) (length-reverse gs ∙ sym m ∙ sym (length-reverse cs))
+  abbrev both : IsBoth language l l.names.arena groups conditions read w.shows w.shown i
+  both = both_at language l l.names.arena groups conditions read w.shows w.shown i h
 
-module _ (l : Listing) (language : Language) (e2 : Exprs) (conditions : List ℕ) (end : ℕ) (cs : List GroupConditions) (read : List Group)
-    (s : RepresentsListing l read)
-    (k : RepresentsAllConditions language e2 l.texts.items conditions end (reverse cs) read) (rows : List EntryRow)
-    (r : rows ≡ entries_back (reverse l.groups.items) (reverse cs)) where
-  pub entries_are : map (entry_from_row e2 l.texts.items) rows ≡ (tree_of_groups language read).entries
-  unfolding RepresentsListing tree_of_groups
-  entries_are =
-      ap (map (entry_from_row e2 l.texts.items)) r
-      ∙ all_entries language l.names.arena e2 l.texts.items l.lines.items conditions (contents_of read) (Differ-once (filter_map defined_name read))
-      (length l.lines.items) end (reverse l.groups.items) (reverse cs) read [] s.groups_are k (sym (append-nil (numbers read)))
+  abbrev place : GroupInContext
+  place = group_in_context (open_blocks 0 (read_before i read)) both.group
 
-  pub entries_fit : All (EntryRowFits (length e2.nodes) (length l.names.symbols.items) (length (contents_of read).choices) (length l.texts.items)) rows
+  abbrev rows : List EntryRow
+  rows = option_to_list (entry_row (group_at l.groups.items i).head (conditions_at groups i) n)
+
+  numbered : opens_choice place.group ≡ true → choice_number c place.group.number ≡ Some n
   unfolding RepresentsListing
-  entries_fit =
-      let f = all_fit language l.names.arena e2 l.texts.items l.lines.items conditions (contents_of read) (Differ-once (filter_map defined_name read))
-      (length l.lines.items) end (reverse l.groups.items) (reverse cs) read [] s.groups_are k (sym (append-nil (numbers read))) in
-      let n : length (names_defined read) ≡ length l.names.symbols.items = sym (ap length s.names.words)
-      ∙ length-map l.names.symbols.items (text_of_name l.names.arena) in
-      subst (λ (k : ℕ). All (EntryRowFits (length e2.nodes) k (length (contents_of read).choices) (length l.texts.items)) rows) n
-      (subst (All (EntryRowFits (length e2.nodes) (length (names_defined read)) (length (contents_of read).choices) (length l.texts.items))) (sym r) f)
+  numbered opens =
+      let a = are_numbers l.names.arena (names_defined read) l.texts.items l.lines.items (length l.lines.items) (reverse l.groups.items) read w.shows.groups_are in
+      number_counts read i both.group a (numbers_before (length read - (i + 1)) read a) both.now opens ∙ ap Some (sym count)
+
+  pub entries_more : map (entry_from_row l.names.arena l.texts.items) old ≡ filter_map (entry_at language c) prior
+      → map (entry_from_row l.names.arena l.texts.items) new ≡ filter_map (entry_at language c) (groups_in_context (read_before (i + 1) read))
+  entries_more k =
+      let f = entry_from_row l.names.arena l.texts.items in
+      let row = entry_row (group_at l.groups.items i).head (conditions_at groups i) n in
+      ap (map f) more
+      ∙ map-append f old rows
+      ∙ ap (λ t. t ++ map f rows) k
+      ∙ ap (λ t. filter_map (entry_at language c) prior ++ t) (map_option f row ∙ ap option_to_list
+      (entry_shown language l.names.arena l.names.arena l.texts.items c (Differ-once (filter_map defined_name read)) place n (group_at l.groups.items i).head
+      (conditions_at groups i) (own_conditions groups conditions i) both.shown.head both.conditioned numbered))
+      ∙ sym (ap (filter_map (entry_at language c)) (placed_more read i both.group both.now) ∙ filter_map-snoc (entry_at language c) prior place)
+
+  pub fits_more : All (EntryRowFits (length l.names.arena.nodes) (length c.names) (length c.choices) (length l.texts.items)) old
+      → All (EntryRowFits (length l.names.arena.nodes) (length c.names) (length c.choices) (length l.texts.items)) new
+  fits_more k =
+      let F = EntryRowFits (length l.names.arena.nodes) (length c.names) (length c.choices) (length l.texts.items) in
+      subst (All F) (sym more) (All-append F old rows k
+      (entry_fits language l.names.arena l.names.arena l.texts.items c (Differ-once (filter_map defined_name read)) place n (group_at l.groups.items i).head
+      (conditions_at groups i) (own_conditions groups conditions i) both.shown.head both.conditioned
+      (λ opens. get_below c.choices n place.group.number (number-get place.group.number c.choices n (numbered opens)))))

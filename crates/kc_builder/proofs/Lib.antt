@@ -2,6 +2,7 @@ pub mod AssemblySteps
 pub mod ChoiceDefaultSteps
 pub mod ChoiceRowSteps
 pub mod EntrySteps
+pub mod GroupPartSteps
 pub mod ItemLaw
 pub mod ItemSteps
 pub mod ItemViews
@@ -9,4 +10,4 @@ pub mod RepresentedGroups
 pub mod RowSteps
 pub mod SymbolItems
 pub mod TreeLineSteps
-pub mod UnitSteps
+pub mod UnitLaw

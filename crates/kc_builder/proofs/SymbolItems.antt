@@ -1,5 +1,5 @@
 -- The attributes that all definitions give symbols.
-use Rattle.std.proofs.Common.{◌≡◌, inl, inr, ℕ, ◌+◌, ◌<◌, List, [], ◌∷◌, ◌++◌, length, map, reverse, Option, Some, None, ap, sym, ◌∙◌, subst}
+use Rattle.std.proofs.Common.{◌≡◌, inl, inr, ℕ, ◌+◌, ◌<◌, List, [], ◌∷◌, ◌++◌, length, map, reverse, Option, Some, None, refl, ap, sym, ◌∙◌, subst}
 use Rattle.std.specs.Prelude.{slice_range, filter_map, option_map, unwrap_or, All, IfSome}
 use Rattle.std.proofs.lemmas.List.{length-map}
 use Rattle.std.proofs.lemmas.List.Elements.{All-nil, All-cons}
@@ -15,16 +15,15 @@ use Rattle.kc_tree_model.specs.Limits.{names_defined}
 use Rattle.kc_tree_model.proofs.Consistency.Lists.{Differ-once, get_below}
 use Rattle.kc_listing.specs.declared.listing.Group.{Group as CodeGroup}
 use Rattle.kc_listing.specs.declared.listing.Line.{Line as CodeLine}
-use Rattle.kc_listing.specs.declared.listing.Listing.{Listing}
 use Rattle.kc_listing.specs.declared.listing.SymbolTable.{SymbolTable}
+use Rattle.kc_listing.specs.declared.listing.GroupHead.{GroupHead as CodeHead}
 use Rattle.kc_listing.specs.declared.listing.GroupHead.TheVariants as codes
 use Rattle.kc_listing.specs.between.SymbolTable.{HasNames}
-use Rattle.kc_listing.specs.between.ListingView.{RepresentsGroups, RepresentsHead, LineNodesExist, line_in, RepresentsListing}
+use Rattle.kc_listing.specs.between.ListingView.{RepresentsGroups, RepresentsHead, LineNodesExist, line_in}
 use Rattle.kc_tree.specs.between.Views.{DefaultFits, ReverseDependencyFits}
 use Rattle.kc_tree.specs.between.Views as views
-use Rattle.kc_builder.specs.checker.ChoiceDefaults.{IsWalkOf}
 use Rattle.kc_conditions.specs.between.GroupConditions.{conditions_at, own_conditions}
-use Rattle.kc_builder.specs.checker.Definitions.{HasDefinition, AreAttributes}
+use Rattle.kc_builder.specs.checker.Definitions.{HasDefinition, HasStatement, AreAttributes}
 use Rattle.kc_builder.specs.checker.GatheredItems.{gathered_prompt, gathered_default, gathered_range, own_key, target_key, gathered_reverse_dependency, gathered_items, HasAppended}
 use Rattle.kc_checks.specs.between.Summaries.{read_before, group_at, attributes_end}
 use Rattle.kc_conditions.specs.between.Walks.{condition_at, RepresentsConditions, RepresentsAllConditions}
@@ -34,8 +33,8 @@ use Rattle.kc_tree.specs.declared.tree_lists.Attributes.{Attributes}
 use Rattle.kc_tree.specs.declared.items_with_keys.ItemsWithKeys.{ItemsWithKeys}
 use Rattle.kc_tree.specs.declared.symbol.ReverseDependency.{ReverseDependency as CodeForce}
 use Rattle.kc_conditions.specs.declared.group_walk.GroupConditions.{GroupConditions}
-use Rattle.kc_checks.proofs.GroupPlaces.{all_before, count_is, none_before, placed_more, shown_at}
-use Rattle.kc_conditions.proofs.GroupConditionLemmas.{conditioned_at, conditions_count}
+use Rattle.kc_checks.proofs.GroupPlaces.{all_before, none_before, placed_more, shown_at}
+use Rattle.kc_conditions.proofs.GroupConditionLemmas.{conditioned_at}
 use Rattle.kc_builder.proofs.ItemLaw.{by_name, AreListed, none_listed, listed_more, listed_same, number_of, number_is, own_key_of, own_item_of, own_keys, own_items, own_law, direct_keys, direct_items, direct_law, force_key_of, force_item_of, force_keys, force_items, reverse_dependency_law}
 use Rattle.kc_builder.proofs.ItemViews.{pairs_keys, pairs_items, pairs_fit, prompt_item, default_item, range_item, prompt_key, default_key, range_key, prompt_fit, default_fit, range_fit, RangeStands, own_below, aim_of, reverse_dependency_key, reverse_dependency_item, reverse_dependency_fit, target_below}
 use Rattle.kc_checks.proofs.Symbols.{nameless}
@@ -238,7 +237,7 @@ module _ (language : Language) (n : SymbolTable) (read : List Group) (h : HasNam
     (lines : List CodeLine) (groups : List CodeGroup) (conditioned : List GroupConditions) (conditions : List ℕ)
     (shown : RepresentsGroups n.arena (names_defined read) texts lines (length lines) (reverse groups) read)
     (walked : RepresentsAllConditions language n.arena texts conditions (length conditions) (reverse conditioned) read) where
-  pub gathered_definition : (i s : ℕ) (old new : Attributes) → i < length groups → i < length conditioned → (group_at groups i).head ≡ codes.Config s
+  gathered_definition : (i s : ℕ) (old new : Attributes) → i < length groups → i < length conditioned → (group_at groups i).head ≡ codes.Config s
       → All (LineNodesExist n.arena) (slice_range lines (group_at groups i).attributes (attributes_end groups lines i))
       → AreGathered language n.arena (names_defined read) (groups_in_context (read_before i read)) old
       → HasDefinition n s old new (slice_range lines (group_at groups i).attributes (attributes_end groups lines i)) (own_conditions conditioned conditions i)
@@ -267,7 +266,7 @@ module _ (language : Language) (n : SymbolTable) (read : List Group) (h : HasNam
       (definition_step _ n (names_defined read) h (groups_in_context prior) p what.0 s ls cs name number (get_below (names_defined read) s what.0 what.1) many
       held c.held t.shown.attributes conds (conditions_at conditioned i).dependency old new g more stands)
 
-  pub gathered_other : (i : ℕ) (a : Attributes) → i < length groups → ((s : ℕ) → (group_at groups i).head ≡ codes.Config s → ⊥)
+  gathered_other : (i : ℕ) (a : Attributes) → i < length groups → ((s : ℕ) → (group_at groups i).head ≡ codes.Config s → ⊥)
       → AreGathered language n.arena (names_defined read) (groups_in_context (read_before i read)) a
       → AreGathered language n.arena (names_defined read) (groups_in_context (read_before (i + 1) read)) a
   gathered_other i a l w g =
@@ -278,20 +277,22 @@ module _ (language : Language) (n : SymbolTable) (read : List Group) (h : HasNam
       (nothing_more _ n.arena (names_defined read) (groups_in_context prior) p a
       (nameless n.arena (names_defined read) texts (group_at groups i).head t.group.head t.shown.head w) g)
 
-  pub definition_many : (i : ℕ) → i < length groups → i < length conditioned
-      → length (own_conditions conditioned conditions i) ≡ length (slice_range lines (group_at groups i).attributes (attributes_end groups lines i))
-  definition_many i l m =
-      let t = shown_at n.arena (names_defined read) texts lines groups read shown i l in
-      let q = conditioned_at _ n.arena texts conditions conditioned read walked i m in
-      let prior : List Group = read_before i read in
-      let both : q.group ∷ prior ≡ t.group ∷ prior = sym q.now ∙ t.now in
-      let same : q.group ≡ t.group = cc in
-      let p : GroupInContext = group_in_context (open_blocks 0 prior) t.group in
-      let ls : List CodeLine = slice_range lines (group_at groups i).attributes (attributes_end groups lines i) in
-      let cs : List ℕ = own_conditions conditioned conditions i in
-      let c = subst (λ k. RepresentsConditions language n.arena texts cs (conditions_at conditioned i) (group_in_context (open_blocks 0 prior) k)) same q.shown in
-      let conds : map (node_expr n.arena) cs ≡ map (condition_at language p) (map (line_in n.arena) ls) = c.own_are ∙ ap (map (condition_at language p)) t.shown.attributes in
-      sym (length-map cs (node_expr n.arena)) ∙ ap length conds ∙ length-map (map (line_in n.arena) ls) (condition_at language p) ∙ length-map ls (line_in n.arena)
+  -- the attributes gathered from the first `i` groups, with those of the next group, are those of the first `i + 1`
+  pub gathered_more : (i : ℕ) (old new : Attributes) → i < length groups → i < length conditioned
+      → All (LineNodesExist n.arena) (slice_range lines (group_at groups i).attributes (attributes_end groups lines i))
+      → HasStatement (group_at groups i).head n old new (slice_range lines (group_at groups i).attributes (attributes_end groups lines i))
+      (own_conditions conditioned conditions i) (conditions_at conditioned i).dependency
+      → AreGathered language n.arena (names_defined read) (groups_in_context (read_before i read)) old
+      → AreGathered language n.arena (names_defined read) (groups_in_context (read_before (i + 1) read)) new
+  gathered_more i old new l m held more g = by (group_at groups i).head refl more
+    where
+      by : (w : CodeHead) → (group_at groups i).head ≡ w
+          → HasStatement w n old new (slice_range lines (group_at groups i).attributes (attributes_end groups lines i)) (own_conditions conditioned conditions i)
+          (conditions_at conditioned i).dependency
+          → AreGathered language n.arena (names_defined read) (groups_in_context (read_before (i + 1) read)) new
+      by (codes.Config s) e x = gathered_definition i s old new l m e held g x
+      by w e x = subst (AreGathered language n.arena (names_defined read) (groups_in_context (read_before (i + 1) read))) (sym x)
+          (gathered_other i old l (λ s a. cc) g)
 
 pub gathered_none : (language : Language) (e : Exprs) (names : List (List ℕ)) (read : List Group) (a : Attributes) → AreGathered language e names [] a
     → AreGathered language e names (groups_in_context (read_before 0 read)) a
@@ -302,11 +303,3 @@ pub gathered_whole : (language : Language) (e : Exprs) (read : List Group) (i : 
 gathered_whole language e read i a n g =
     all_gathered _ e read a (subst (λ ps. AreGathered language e (names_defined read) ps a)
     (ap (λ k. groups_in_context (read_before k read)) n ∙ ap groups_in_context (all_before read)) g)
-
--- a walk has the conditions of as many groups as the listing has
-pub group_count : (language : Language) (l : Listing) (conditioned : List GroupConditions) (conditions : List ℕ) (read : List Group) → IsWalkOf language l conditioned conditions read
-    → length conditioned ≡ length l.groups.items
-unfolding RepresentsListing
-group_count language l conditioned conditions read w =
-    conditions_count _ l.names.arena l.texts.items conditions conditioned read w.shown
-    ∙ sym (count_is l.names.arena (names_defined read) l.texts.items l.lines.items l.groups.items read w.shows.groups_are)

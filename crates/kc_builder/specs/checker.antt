@@ -1,9 +1,8 @@
 pub mod Assembly
-pub mod CheckedListings
 pub mod ChoiceDefaults
 pub mod ChoiceRows
 pub mod Definitions
 pub mod Entries
 pub mod GatheredItems
+pub mod GroupParts
 pub mod Rows
-pub mod UnitList

@@ -1,22 +1,15 @@
 //! The defaults of choices.
-ghost use Rattle.std.specs.Prelude.{◌≡◌, ◌<◌, ◌++◌, ◌^◌, All, IfOk, List, OnOk, length, map, option_to_list};
-ghost use Rattle.kc_tokens.specs.declared.language.Language.{Language};
+ghost use Rattle.std.specs.Prelude.{◌≡◌, ◌++◌, All, OnOk, length, map, option_to_list};
 ghost use Rattle.kc_listing.specs.between.ListingView.{LineNodesExist};
-ghost use Rattle.kc_tree_model.specs.Blocks.{Group as ModelGroup};
-ghost use Rattle.kc_tree_model.specs.Conditions.{groups_in_context};
-ghost use Rattle.kc_tree_model.specs.Contents.{contents_of};
-ghost use Rattle.kc_checks.specs.between.FaultSearch.{HasNoFaults};
-ghost use Rattle.kc_builder.specs.checker.ChoiceDefaults.{group_default_rows, member_default_row, member_default_rows, default_value_view, AreDefaultsOf, IsWalkOf};
+ghost use Rattle.kc_builder.specs.checker.ChoiceDefaults.{group_default_rows, member_default_row, member_default_rows, default_value_view};
 
-use super::entries::count_choices;
-use kc_checks::{begins_choice, lines_of};
-use kc_conditions::{GroupConditions, conditions_of};
+use kc_checks::begins_choice;
 use kc_expr::ExprId;
-use kc_listing::{GroupHead, Line, Listing, SymbolTable};
+use kc_listing::{GroupHead, Line, SymbolTable};
 use kc_statements::Attribute;
 use kc_tree::{ItemsWithKeys, MemberDefault};
 use kc_tree_model::Sym;
-use std::alloc::{AllocError, Global};
+use std::alloc::AllocError;
 
 /// The value of a default.
 fn value_of(attribute: &Attribute) -> Option<ExprId>
@@ -81,8 +74,8 @@ fn push_defaults(
     Ok(())
 }
 
-/// Appends the defaults of a group, if it is a choice.
-fn push_group_defaults(
+/// Appends the defaults of a group under the number of its choice, if it is a choice. An `Err` means out of memory.
+pub(crate) fn push_group_defaults(
     found: &mut ItemsWithKeys<MemberDefault>,
     names: &SymbolTable,
     head: &GroupHead,
@@ -99,28 +92,4 @@ fn push_group_defaults(
         return push_defaults(found, names, choice, lines, conditions);
     }
     Ok(())
-}
-
-/// The defaults of all choices of a listing, each under the number of its choice. An `Err` means out of memory.
-pub(crate) fn member_defaults(
-    alloc: Global,
-    listing: &Listing,
-    groups: &[GroupConditions],
-    conditions: &[ExprId],
-) -> Result<ItemsWithKeys<MemberDefault>, AllocError>
-    requires walked { (language : Language) × (read : List ModelGroup) × IsWalkOf language listing.now groups.now conditions.now read }
-    requires few { length listing.now.groups.items < 2 ^ 32 }
-    ensures ok { (language : Language) (read : List ModelGroup) → IsWalkOf language listing.now groups.now conditions.now read → HasNoFaults read
-        → IfOk result (AreDefaultsOf language listing.now (contents_of read) (groups_in_context read) (length (contents_of read).choices)) }
-{
-    let mut found = ItemsWithKeys::new(alloc);
-    let mut choices = 0;
-    for i in 0..listing.groups.len() {
-        let head = &listing.groups[i].head;
-        let lines = lines_of(listing, i);
-        let own = conditions_of(groups, conditions, i);
-        push_group_defaults(&mut found, &listing.names, head, choices, lines, own)?;
-        choices = count_choices(head, choices);
-    }
-    Ok(found)
 }

@@ -7,10 +7,10 @@ mod choice_rows;
 mod definition_attributes;
 mod definitions;
 mod entries;
+mod group_parts;
 mod rows;
 mod tree_lines;
 mod tree_reader;
-mod unit_list;
 
 pub use kc_checks::wanted;
 pub use tree_lines::{TreeLines, TreeWithLines};

@@ -3,28 +3,19 @@ ghost use Rattle.std.specs.Prelude.{◌≡◌, ◌⊎◌, IfOk, IfErr};
 ghost use Rattle.kc_tree_model.specs.TreesOfFiles.{IsTreeOfFiles, IsReportedFault};
 ghost use Rattle.kc_listing.specs.between.MemoryFaults.{no_memory};
 ghost use Rattle.kc_builder.specs.between.TreeLines.{IsTreeWithLines};
-ghost use Rattle.kc_builder.specs.checker.CheckedListings.{IsChecked};
+ghost use Rattle.kc_builder.specs.checker.Assembly.{IsGathered};
 
-use super::builder::{tree_of, tree_with_lines_of};
+use super::builder::{GatheredTree, lists_of, tree_of, tree_with_lines_of};
 use super::tree_lines::TreeWithLines;
-use kc_checks::{Summary, check, out_of_memory};
-use kc_listing::{Listing, read_files};
-use kc_tokens::Language;
+use kc_checks::out_of_memory;
+use kc_listing::read_files;
 use kc_tree::Tree;
 use kc_tree_model::{Texts, TreeFault};
 use std::alloc::Global;
 
-/// What was read of a tree's files without a fault, with its summary, and the language of the files.
-#[derive(Drop)]
-struct CheckedListing {
-    language: Language,
-    listing: Listing,
-    summary: Summary,
-}
-
-/// Reads the files of a tree and makes the checks on the whole tree; the faults are those of `read_tree`.
-fn read_checked(alloc: Global, texts: &Texts, root: &str) -> Result<CheckedListing, TreeFault>
-    ensures ok { IfOk result (IsChecked texts.now root.now) }
+/// Reads the files of a tree, makes the checks on the whole tree, and collects its lists; the faults are those of `read_tree`.
+fn read_lists(alloc: Global, texts: &Texts, root: &str) -> Result<GatheredTree, TreeFault>
+    ensures ok { IfOk result (IsGathered texts.now root.now) }
     ensures fault { IfErr result (λ fault. (fault ≡ no_memory) ⊎ IsReportedFault texts.now root.now fault) }
 {
     let (listing, fault) = read_files(alloc, texts, root);
@@ -32,13 +23,7 @@ fn read_checked(alloc: Global, texts: &Texts, root: &str) -> Result<CheckedListi
         Some(fault) => return Err(fault),
         None => {}
     }
-    let language = texts.language();
-    let summary = check(alloc, language, &listing)?;
-    Ok(CheckedListing {
-        language,
-        listing,
-        summary,
-    })
+    lists_of(alloc, texts.language(), listing)
 }
 
 /// Reads the tree of Kconfig files, beginning with the file of path `root`.
@@ -55,12 +40,8 @@ pub fn read_tree(alloc: Global, texts: &Texts, root: &str) -> Result<Tree, TreeF
     ensures tree { IfOk result (λ tree. IsTreeOfFiles texts.now root.now tree.tree) }
     ensures fault { IfErr result (λ fault. (fault ≡ no_memory) ⊎ IsReportedFault texts.now root.now fault) }
 {
-    let CheckedListing {
-        language,
-        listing,
-        summary,
-    } = read_checked(alloc, texts, root)?;
-    match tree_of(alloc, language, listing, &summary) {
+    let lists = read_lists(alloc, texts, root)?;
+    match tree_of(alloc, lists) {
         Ok(tree) => Ok(tree),
         Err(_) => Err(out_of_memory()),
     }
@@ -79,12 +60,8 @@ pub fn read_tree_with_lines(
     ensures lines { IfOk result (λ r. IsTreeWithLines texts.now root.now r.tree r.lines) }
     ensures fault { IfErr result (λ fault. (fault ≡ no_memory) ⊎ IsReportedFault texts.now root.now fault) }
 {
-    let CheckedListing {
-        language,
-        listing,
-        summary,
-    } = read_checked(alloc, texts, root)?;
-    match tree_with_lines_of(alloc, language, listing, &summary) {
+    let lists = read_lists(alloc, texts, root)?;
+    match tree_with_lines_of(alloc, lists) {
         Ok(read) => Ok(read),
         Err(_) => Err(out_of_memory()),
     }

@@ -1,6 +1,6 @@
 -- The faults of a group, from the summary of its symbol.
 use Rattle.std.proofs.Common.{◌≡◌, inl, ◌&&◌, ℕ, zero, suc, ◌+◌, ◌-◌, ◌<◌, ◌≤◌, ◌==◌, Bool, true, false, cond, List, [], ◌∷◌, length, get_or, map, replicate, reverse, Option, Some, None, refl, ap, sym, subst, ◌∙◌, arith, filter}
-use Rattle.std.specs.Prelude.{slice_get, slice_index, slice_range, filter_map, flat_map, is_some, nat_lt, option_and_then, option_map, bytes_eq, All}
+use Rattle.std.specs.Prelude.{slice_get, slice_index, slice_range, filter_map, flat_map, is_some, nat_lt, option_and_then, option_map, bytes_eq, All, IfSome}
 use Rattle.std.specs.List.{list_any}
 use Rattle.std.specs.Option.{option_or}
 use Rattle.std.proofs.lemmas.Bool.{ltb-true}
@@ -17,20 +17,22 @@ use Rattle.kc_tree_model.specs.Blocks.{Group, GroupHead, of_head, file_end, defi
 use Rattle.kc_tree_model.specs.Conditions.{GroupInContext, group_in_context, groups_in_context}
 use Rattle.kc_tree_model.specs.Contents.{Contents, contents_of, choice_number, choice_of_first_definition, defines, definitions_of, is_first_definition, member_names}
 use Rattle.kc_tree_model.specs.Limits.{names_defined}
-use Rattle.kc_tree_model.specs.TreeFaults.{is_again_in_choice, is_no_member_kind, is_same_choice, may_follow_member, attribute_faults, choice_faults, definition_faults, faults_at, faults_of_group, faults_of_head, faults_of_lines, kind_of}
+use Rattle.kc_tree_model.specs.TreeFaults.{is_again_in_choice, is_no_member_kind, is_same_choice, may_follow_member, attribute_faults, choice_faults, definition_faults, faults_at, faults_of_group, faults_of_head, faults_of_lines, kind_of, tree_faults}
 use Rattle.kc_tree_model.proofs.Consistency.Lists.{Has, Differ-once, at-has, get-map, get_below, has-at, has-filter, map-get, number-get}
 use Rattle.kc_listing.specs.declared.listing.Group.{Group as CodeGroup}
 use Rattle.kc_listing.specs.declared.listing.Line.{Line as CodeLine}
 use Rattle.kc_listing.specs.declared.listing.GroupHead.{GroupHead as CodeHead}
 use Rattle.kc_listing.specs.declared.listing.GroupHead.TheVariants as codes
 use Rattle.kc_listing.specs.between.SymbolTable.{HasNames, text_of_name}
-use Rattle.kc_listing.specs.between.ListingView.{RepresentsGroups, RepresentsHead, line_in}
+use Rattle.kc_listing.specs.declared.listing.Listing.{Listing}
+use Rattle.kc_listing.specs.between.ListingView.{RepresentsGroups, RepresentsHead, RepresentsListing, line_in}
 use Rattle.kc_tree.specs.between.GroupedItems.{items_at, IsGrouped}
 use Rattle.kc_tree_model.proofs.Consistency.Units.{first_of_choice}
 use Rattle.kc_checks.specs.checker.Kinds.{choice_around, definition_kind}
 use Rattle.kc_checks.specs.checker.Marks.{AreMarked, WereMarked}
-use Rattle.kc_checks.specs.between.FaultSearch.{AreMembersByChoice, AreSmall, choices_before}
+use Rattle.kc_checks.specs.between.FaultSearch.{AreFaultless, AreMembersByChoice, AreSmall, choices_before}
 use Rattle.kc_checks.specs.between.Summaries.{summary_in, attributes_end, enclosing_choice, first_is, first_in_definitions, group_at, member_keys_at, members_at, number_at, read_before}
+use Rattle.kc_checks.specs.declared.search.Checks.{Checks}
 use Rattle.kc_checks.specs.declared.summary.SymbolSummary.{SymbolSummary}
 use Rattle.kc_checks.proofs.SymbolSummaries.{first_of_both, first_number_is}
 use Rattle.kc_checks.proofs.GroupPlaces.{all_before, are_numbers, count_is, none_before, numbers_before, place_numbered, placed_before, placed_count, shown_at}
@@ -316,6 +318,10 @@ pub at_most_choice : (b : Bool) (m n : ℕ) → b ≡ true → m ≤ n + 1 → m
 at_most_choice true m n e h = h
 at_most_choice false m n e h = cc
 
+pub at_most_count : (b : Bool) (m n i : ℕ) → m ≡ cond b (n + 1) n → n ≤ i → m ≤ i + 1
+at_most_count true m n i e h = omega arith
+at_most_count false m n i e h = omega arith
+
 -- the marks at the beginning
 zero_at : (n s : ℕ) → get_or {A = ℕ} (replicate n 0) s 0 ≡ 0
 zero_at zero s = refl
@@ -370,10 +376,18 @@ module _ (e : Exprs) (texts : List (List ℕ)) (lines : List CodeLine) (groups :
       let p : GroupInContext = group_in_context (open_blocks 0 (read_before i read)) s.group in
       t p (place_numbered read i s.group (omega arith) s.now) ∙ sym (fault_more language read i s.group s.now none)
 
-pub reported_some : (o : Option TreeFault) → is_some o ≡ true → (t : TreeFault) × (o ≡ Some t)
-reported_some None e = cc
-reported_some (Some t) e = (t, refl)
+-- a fault that is the first among the first groups is the first of all
+pub reported_first : (language : Language) (read : List Group) (i : ℕ) (o : Option TreeFault)
+    → o ≡ slice_get (flat_map (faults_of_group language (contents_of read)) (groups_in_context (read_before i read))) 0
+    → IfSome o (λ f. Some f ≡ slice_get (tree_faults language read) 0)
+unfolding tree_faults
+reported_first language read i None e = tt
+reported_first language read i (Some t) e = sym (fault_all language read i t (sym e))
 
-pub reported_none : (o : Option TreeFault) → is_some o ≡ false → o ≡ None
-reported_none None e = refl
-reported_none (Some t) e = cc
+-- where the checks have found no fault among all groups, there is none
+pub checked_all : (language : Language) (l : Listing) (i : ℕ) (c : Checks) → length l.groups.items ≤ i → i ≤ length l.groups.items
+    → AreFaultless language l i c → (read : List Group) → RepresentsListing l read → None ≡ slice_get (tree_faults language read) 0
+unfolding tree_faults RepresentsListing
+checked_all language l i c past end k read h =
+    let n = count_is l.names.arena (names_defined read) l.texts.items l.lines.items l.groups.items read h.groups_are in
+    sym (fault_none language read i (omega arith) (k.none read h))

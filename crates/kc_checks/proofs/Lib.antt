@@ -5,8 +5,8 @@ pub mod MemberLaw
 pub mod MemberMarks
 pub mod MissingPathLists
 pub mod MissingPaths
-pub mod OwnMembers
 pub mod ReadSteps
 pub mod Rounds
+pub mod SummarySteps
 pub mod SymbolSummaries
 pub mod Symbols

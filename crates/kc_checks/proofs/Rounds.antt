@@ -18,8 +18,8 @@ use Rattle.kc_listing.specs.declared.listing.GroupHead.TheVariants as codes
 use Rattle.kc_listing.specs.declared.listing.Group.{Group as CodeGroup}
 use Rattle.kc_listing.specs.declared.listing.Line.{Line as CodeLine}
 use Rattle.kc_listing.specs.between.ListingView.{RepresentsHead, RepresentsGroups}
-use Rattle.kc_checks.specs.between.Summaries.{read_before, group_at, innermost_choice, choices_opened_after, is_choice_code, enclosing_choice, open_choices}
-use Rattle.kc_checks.proofs.GroupPlaces.{AreNumbers, all_before, are_numbers, numbers_before, none_before, placed_before, placed_more, shown_at}
+use Rattle.kc_checks.specs.between.Summaries.{read_before, group_at, innermost_choice, choices_opened_after, is_choice_code, open_choices}
+use Rattle.kc_checks.proofs.GroupPlaces.{AreNumbers, all_before, none_before, placed_before, shown_at}
 
 -- the numbers of the groups that open choices, in reading order
 abbrev pub numbers_of_choices : List Group → List ℕ
@@ -58,7 +58,7 @@ pub count_more : (g : Group) (before : List Group) → opens_choice g ≡ true �
 count_more g before e = ap length (choices_more g before e) ∙ length-append (numbers_of_choices before) (g.number ∷ [])
 
 -- they are numbers of groups that were read
-number_small : (read : List Group) → AreNumbers read → (g : Group) → Has g read → g.number < length read
+pub number_small : (read : List Group) → AreNumbers read → (g : Group) → Has g read → g.number < length read
 number_small [] a g h = absurd h
 number_small (x ∷ before) a g (inl e) = let same : x.number ≡ g.number = ap (λ (y : Group). y.number) e in let n = a.0 in omega arith
 number_small (x ∷ before) a g (inr h) = let k = number_small before a.1 g h in omega arith
@@ -176,57 +176,11 @@ begins_is e names texts codes.Mainmenu g h = rw h refl
 begins_is e names texts (codes.Ends b) g h = rw h refl
 begins_is e names texts codes.FileEnd g h = rw h refl
 
--- for the first `i` groups: the choices that enclose them, those of the blocks open after them, and how many choices they open
-pub record AreRound (read : List Group) (i : ℕ) (enclosing inner : List (Option ℕ)) (choices : ℕ) : Type 0 where
-  pub around_is : enclosing ≡ map (enclosing_choice (contents_of read)) (groups_in_context (read_before i read))
-  pub open_is : reverse inner ≡ open_choices (contents_of read) (open_blocks 0 (read_before i read))
-  pub choices_are : choices ≡ length (numbers_of_choices (read_before i read))
-
-pub no_rounds : (read : List Group) → AreRound read 0 [] [] 0
-no_rounds read =
-    let e = none_before read in
-    record {
-      around_is = sym (ap (λ r. map (enclosing_choice (contents_of read)) (groups_in_context r)) e);
-      open_is = sym (ap (λ r. open_choices (contents_of read) (open_blocks 0 r)) e);
-      choices_are = sym (ap (λ r. length (numbers_of_choices r)) e);
-    }
-
-counted : (read : List Group) (i : ℕ) (m : Group) (b : Bool) (n : ℕ) → read_before (i + 1) read ≡ m ∷ read_before i read → opens_choice m ≡ b
+-- how many choices the first `i + 1` groups open
+pub counted : (read : List Group) (i : ℕ) (m : Group) (b : Bool) (n : ℕ) → read_before (i + 1) read ≡ m ∷ read_before i read → opens_choice m ≡ b
     → n ≡ length (numbers_of_choices (read_before i read)) → cond b (n + 1) n ≡ length (numbers_of_choices (read_before (i + 1) read))
 counted read i m true n now o e = ap (λ k. k + 1) e ∙ sym (ap (λ r. length (numbers_of_choices r)) now ∙ count_more m (read_before i read) o)
 counted read i m false n now o e = e ∙ sym (ap (λ r. length (numbers_of_choices r)) now ∙ ap length (choices_same m (read_before i read) o))
-
-module _ (e : Exprs) (names texts : List (List ℕ)) (lines : List CodeLine) (groups : List CodeGroup) (read : List Group)
-    (h : RepresentsGroups e names texts lines (length lines) (reverse groups) read) where
-  pub enclosing_more : (i : ℕ) (enclosing inner around2 inner2 : List (Option ℕ)) (choices choices2 : ℕ) (what : CodeHead) → i < length groups
-      → what ≡ (group_at groups i).head → AreRound read i enclosing inner choices
-      → around2 ≡ enclosing ++ innermost_choice (reverse inner) ∷ [] → reverse inner2 ≡ choices_opened_after what choices (reverse inner)
-      → choices2 ≡ cond (is_choice_code what) (choices + 1) choices → AreRound read (i + 1) around2 inner2 choices2
-  enclosing_more i enclosing inner around2 inner2 choices choices2 what l w r ae oe ce =
-      let s = shown_at e names texts lines groups read h i l in
-      let c : Contents = contents_of read in
-      let prior : List Group = read_before i read in
-      let a = are_numbers e names texts lines (length lines) (reverse groups) read h in
-      let shown : RepresentsHead e names texts what s.group.head = subst (λ v. RepresentsHead e names texts v s.group.head) (sym w) s.shown.head in
-      let begins = begins_is e names texts what s.group shown in
-      record {
-        around_is = ae
-            ∙ ap (λ x. enclosing ++ x ∷ []) (ap innermost_choice r.open_is ∙ innermost_is c (open_blocks 0 prior))
-            ∙ ap (λ xs. xs ++ enclosing_choice c (group_in_context (open_blocks 0 prior) s.group) ∷ []) r.around_is
-            ∙ sym (ap (map (enclosing_choice c)) (placed_more read i s.group s.now)
-            ∙ map-append (enclosing_choice c) (groups_in_context prior) (group_in_context (open_blocks 0 prior) s.group ∷ []));
-        open_is = oe
-            ∙ ap (choices_opened_after what choices) r.open_is
-            ∙ sym (ap (λ x. open_choices c (open_blocks 0 x)) s.now
-            ∙ opened_is c e names texts what s.group prior choices shown
-            (λ b. number_counts read i s.group a (numbers_before (length read - (i + 1)) read a) s.now (begins ∙ b) ∙ ap Some (sym r.choices_are)));
-        choices_are = ce ∙ counted read i s.group (is_choice_code what) choices s.now begins r.choices_are;
-      }
-
-pub all_round : (read : List Group) (i : ℕ) (enclosing inner : List (Option ℕ)) (choices : ℕ) → i ≡ length read → AreRound read i enclosing inner choices
-    → enclosing ≡ map (enclosing_choice (contents_of read)) (groups_in_context read)
-all_round read i enclosing inner choices e r =
-    r.around_is ∙ ap (λ x. map (enclosing_choice (contents_of read)) (groups_in_context x)) (ap (λ n. read_before n read) e ∙ all_before read)
 
 -- before the first group no choice is counted
 pub none_counted : (read : List Group) → 0 ≡ length (numbers_of_choices (read_before 0 read))

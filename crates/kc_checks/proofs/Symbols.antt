@@ -1,6 +1,6 @@
 -- The symbols of a listing, and their summaries.
-use Rattle.std.proofs.Common.{◌≡◌, inl, inr, ℕ, ◌+◌, ◌<◌, Bool, true, false, cond, ◌||◌, not, List, [], ◌∷◌, ◌++◌, length, get_or, set, replicate, map, reverse, Option, Some, None, refl, ap, sym, subst, ◌∙◌, arith, append-nil}
-use Rattle.std.specs.Prelude.{slice_get, filter_map, flat_map, slice_range, is_some, option_and_then, option_map, option_to_list}
+use Rattle.std.proofs.Common.{◌≡◌, inl, inr, ℕ, ◌+◌, ◌<◌, Bool, true, false, cond, ◌||◌, not, List, [], ◌∷◌, ◌++◌, length, get_or, replicate, map, reverse, Option, Some, None, refl, ap, sym, subst, ◌∙◌, arith, append-nil}
+use Rattle.std.specs.Prelude.{slice_get, filter_map, flat_map, is_some, option_and_then, option_map, option_to_list}
 use Rattle.std.specs.List.{cons_option}
 use Rattle.std.proofs.lemmas.Grind.{flat_map-append}
 use Rattle.std.proofs.lemmas.List.{length-map}
@@ -18,7 +18,7 @@ use Rattle.kc_tree_model.specs.Limits.{names_defined}
 use Rattle.kc_tree_model.specs.TreeFaults.{kind_of, kind_or_bool, is_selectable, is_wrong_reverse_dependency}
 use Rattle.kc_value.specs.Kinds.{is_tri_kind}
 use Rattle.kc_tree_model.proofs.Consistency.Definitions.{defined}
-use Rattle.kc_tree_model.proofs.Consistency.Lists.{Has, Differ, Differ-once, at_most_once, has-at, get_below, has-filter, has-place, map-get, place-get, once-has, filter_map-has}
+use Rattle.kc_tree_model.proofs.Consistency.Lists.{Has, Differ, at_most_once, has-at, get_below, has-filter, has-place, map-get, place-get, once-has, filter_map-has}
 use Rattle.kc_tree_model.proofs.Consistency.Places.{group-placed}
 use Rattle.kc_listing.specs.declared.listing.Group.{Group as CodeGroup}
 use Rattle.kc_listing.specs.declared.listing.Line.{Line as CodeLine}
@@ -26,10 +26,10 @@ use Rattle.kc_listing.specs.declared.listing.GroupHead.{GroupHead as CodeHead}
 use Rattle.kc_listing.specs.declared.listing.GroupHead.TheVariants as codes
 use Rattle.kc_listing.specs.between.ListingView.{RepresentsGroups, RepresentsHead, line_in}
 use Rattle.kc_checks.specs.between.Attributes.{aim_of}
-use Rattle.kc_checks.specs.between.Summaries.{summary_in, first_summary, symbol_summaries, attributes_end, enclosing_choice, choices_at, group_at, member_in, member_key, member_keys_at, members_at, read_before, type_in}
+use Rattle.kc_checks.specs.between.Summaries.{summary_in, symbol_summaries, choices_at, group_at, read_before, type_in}
 use Rattle.kc_checks.specs.declared.summary.SymbolSummary.{SymbolSummary}
-use Rattle.kc_checks.proofs.SymbolSummaries.{about_at, abouts_more, abouts_same, types_of_lines}
-use Rattle.kc_checks.proofs.GroupPlaces.{all_before, count_is, none_before, place_numbered, placed_more, shown_at}
+use Rattle.kc_checks.proofs.SymbolSummaries.{types_of_lines}
+use Rattle.kc_checks.proofs.GroupPlaces.{placed_more, shown_at}
 use Rattle.kc_checks.proofs.Rounds.{enclosing_numbered}
 
 -- a name that a group defines is one of the defined names
@@ -176,64 +176,12 @@ name_some members d x s e =
     mapped None = refl
     mapped (Some i) = refl
 
--- the symbols that the first `i` groups define
+-- the types that the attributes of a group give are those that its stored lines give
+pub types_at : (e : Exprs) (m : Group) (own : List CodeLine) → m.attributes ≡ map (line_in e) own → attribute_values type_of m ≡ filter_map (type_in e) own
+types_at e m own a = ap (filter_map (λ (l : Line). type_of l.attribute)) a ∙ types_of_lines e own
+
 module _ (e : Exprs) (texts : List (List ℕ)) (lines : List CodeLine) (groups : List CodeGroup) (read : List Group)
     (h : RepresentsGroups e (names_defined read) texts lines (length lines) (reverse groups) read) where
-  pub enclosing_at : (i : ℕ) (enclosing : List (Option ℕ)) (p : GroupInContext) → enclosing ≡ map (enclosing_choice (contents_of read)) (groups_in_context read)
-      → slice_get (groups_in_context read) i ≡ Some p → get_or enclosing i None ≡ enclosing_choice (contents_of read) p
-  enclosing_at i enclosing p a at =
-      get_or_from_slice_get enclosing i _ None (ap (λ xs. slice_get xs i) a ∙ map-get (enclosing_choice (contents_of read)) (groups_in_context read) i p at)
-
-  types_at : (m : Group) (own : List CodeLine) → m.attributes ≡ map (line_in e) own → attribute_values type_of m ≡ filter_map (type_in e) own
-  types_at m own a = ap (filter_map (λ (l : Line). type_of l.attribute)) a ∙ types_of_lines e own
-
-  pub symbols_more : (i s : ℕ) (symbols : List SymbolSummary) (enclosing : List (Option ℕ)) (old here : SymbolSummary) → i < length groups
-      → (group_at groups i).head ≡ codes.Config s → symbols ≡ symbol_summaries (contents_of read) (groups_in_context (read_before i read))
-      → enclosing ≡ map (enclosing_choice (contents_of read)) (groups_in_context read) → old ≡ get_or symbols s old
-      → here ≡ record {
-        first = Some i;
-        given = slice_get (filter_map (type_in e)
-            (slice_range lines (group_at groups i).attributes (attributes_end groups lines i))) 0;
-        choice = get_or enclosing i None;
-      }
-      → set symbols s (first_summary old here) ≡ symbol_summaries (contents_of read) (groups_in_context (read_before (i + 1) read))
-  symbols_more i s symbols enclosing old here l w a r o k =
-      let c = contents_of read in
-      let t = shown_at e (names_defined read) texts lines groups read h i l in
-      let n = count_is e (names_defined read) texts lines groups read h in
-      let what = subst (λ v. RepresentsHead e (names_defined read) texts v t.group.head) w t.shown.head in
-      let prior : List Group = read_before i read in
-      let p : GroupInContext = group_in_context (open_blocks 0 prior) t.group in
-      let at = place_numbered read i t.group (omega arith) t.now in
-      let was : old ≡ summary_in c (groups_in_context prior) what.0 = o
-      ∙ get_or_from_slice_get symbols s _ old (ap (λ xs. slice_get xs s) a
-      ∙ map-get (summary_in c (groups_in_context prior)) (names_defined read) s what.0 what.1) in
-      let own = slice_range lines (group_at groups i).attributes (attributes_end groups lines i) in
-      let is : here ≡ about_at c p =
-      k
-      ∙ ap (λ f. let x : SymbolSummary = record { first = Some f; given = slice_get (filter_map (type_in e) own) 0; choice = get_or enclosing i None } in x)
-      (sym t.shown.number_is)
-      ∙ ap (λ f. let x : SymbolSummary = record { first = Some t.group.number; given = slice_get f 0; choice = get_or enclosing i None } in x)
-      (sym (types_at t.group own t.shown.attributes))
-      ∙ ap (λ f. let x : SymbolSummary = record { first = Some t.group.number; given = slice_get (attribute_values type_of t.group) 0; choice = f } in x)
-      (enclosing_at i enclosing p r at) in
-      ap (λ x. set symbols s (first_summary x here)) was
-      ∙ ap (λ x. set symbols s (first_summary (summary_in c (groups_in_context prior) what.0) x)) is
-      ∙ ap (λ xs. set xs s (first_summary (summary_in c (groups_in_context prior) what.0) (about_at c p))) a
-      ∙ sym (ap (symbol_summaries c) (placed_more read i t.group t.now)
-      ∙ abouts_more c (groups_in_context prior) p what.0 s (Differ-once (filter_map defined_name read)) what.2 what.1)
-
-  pub symbols_kept : (i : ℕ) → i < length groups → ((s : ℕ) → (group_at groups i).head ≡ codes.Config s → ⊥)
-      → symbol_summaries (contents_of read) (groups_in_context (read_before i read)) ≡ symbol_summaries (contents_of read)
-      (groups_in_context (read_before (i + 1) read))
-  symbols_kept i l w =
-      let c = contents_of read in
-      let t = shown_at e (names_defined read) texts lines groups read h i l in
-      let prior : List Group = read_before i read in
-      let p : GroupInContext = group_in_context (open_blocks 0 prior) t.group in
-      sym (ap (symbol_summaries c) (placed_more read i t.group t.now) ∙ abouts_same c (groups_in_context prior) p
-      (nameless e (names_defined read) texts (group_at groups i).head t.group.head t.shown.head w))
-
   pub symbol_there : (i s : ℕ) → i < length groups → (group_at groups i).head ≡ codes.Config s → s < length (names_defined read)
   symbol_there i s l w =
       let t = shown_at e (names_defined read) texts lines groups read h i l in
@@ -245,13 +193,6 @@ pub none_known : (c : Contents) (names : List (List ℕ))
     → replicate (length names) (let x : SymbolSummary = record { first = None; given = None; choice = None } in x) ≡ map (summary_in c []) names
 none_known c [] = refl
 none_known c (x ∷ names) = ap (λ xs. (let y : SymbolSummary = record { first = None; given = None; choice = None } in y) ∷ xs) (none_known c names)
-
-pub no_abouts : (read : List Group) → symbol_summaries (contents_of read) [] ≡ symbol_summaries (contents_of read) (groups_in_context (read_before 0 read))
-no_abouts read = sym (ap (λ r. symbol_summaries (contents_of read) (groups_in_context r)) (none_before read))
-
-pub all_abouts : (read : List Group) (i : ℕ) → i ≡ length read
-    → symbol_summaries (contents_of read) (groups_in_context (read_before i read)) ≡ symbol_summaries (contents_of read) (groups_in_context read)
-all_abouts read i e = ap (λ r. symbol_summaries (contents_of read) (groups_in_context r)) (ap (λ n. read_before n read) e ∙ all_before read)
 
 pub as_many_abouts : (c : Contents) (ps : List GroupInContext) (symbols : List SymbolSummary) → symbols ≡ symbol_summaries c ps
     → length symbols ≡ length c.names
@@ -266,101 +207,8 @@ statement_by f read i m now =
     ap (flat_map f) (placed_more read i m now) ∙ flat_map-append f (groups_in_context (read_before i read)) (p ∷ [])
     ∙ ap (λ xs. flat_map f (groups_in_context (read_before i read)) ++ xs) (append-nil (f p))
 
--- the collected members and the numbers of their choices, as a function gives these, are those that the first `i` groups define
-pub record AreMembers (f : GroupInContext → Option ℕ) (read : List Group) (i : ℕ) (keys members : List ℕ) : Type 0 where
-  pub keys_are : keys ≡ flat_map (member_keys_at f (contents_of read)) (groups_in_context (read_before i read))
-  pub members_are : members ≡ flat_map (members_at f (contents_of read)) (groups_in_context (read_before i read))
-
-pub no_members : (f : GroupInContext → Option ℕ) (read : List Group) → AreMembers f read 0 [] []
-no_members f read =
-    let e = none_before read in
-    record {
-      keys_are = sym (ap (λ r. flat_map (member_keys_at f (contents_of read)) (groups_in_context r)) e);
-      members_are = sym (ap (λ r. flat_map (members_at f (contents_of read)) (groups_in_context r)) e);
-    }
-
-pub all_members : (f : GroupInContext → Option ℕ) (read : List Group) (i : ℕ) (keys members : List ℕ) → i ≡ length read → AreMembers f read i keys members
-    → (keys ≡ flat_map (member_keys_at f (contents_of read)) (groups_in_context read))
-    × (members ≡ flat_map (members_at f (contents_of read)) (groups_in_context read))
-all_members f read i keys members e a =
-    let all = ap (λ n. read_before n read) e ∙ all_before read in (
-      a.keys_are ∙ ap (λ r. flat_map (member_keys_at f (contents_of read)) (groups_in_context r)) all,
-      a.members_are
-          ∙ ap (λ r. flat_map (members_at f (contents_of read)) (groups_in_context r)) all,
-    )
-
 -- in a list of distinct names, the index found for the name at index `s` is `s`
 pub place_is : (names : List (List ℕ)) (name : List ℕ) (s : ℕ) → Differ names → slice_get names s ≡ Some name → index_of_name name names ≡ Some s
 place_is names name s differ at =
     let r = has-place name names (has-at name names s at) in
     r.1 ∙ ap Some (at_most_once name names r.0 s differ (place-get name names r.0 r.1) at)
-
-module _ (e : Exprs) (texts : List (List ℕ)) (lines : List CodeLine) (groups : List CodeGroup) (read : List Group)
-    (h : RepresentsGroups e (names_defined read) texts lines (length lines) (reverse groups) read) (f : GroupInContext → Option ℕ) where
-  here_more : (i : ℕ) (m : Group) (ks ms keys members : List ℕ) → read_before (i + 1) read ≡ m ∷ read_before i read
-      → member_keys_at f (contents_of read) (group_in_context (open_blocks 0 (read_before i read)) m) ≡ ks
-      → members_at f (contents_of read) (group_in_context (open_blocks 0 (read_before i read)) m) ≡ ms
-      → AreMembers f read i keys members → AreMembers f read (i + 1) (keys ++ ks) (members ++ ms)
-  here_more i m ks ms keys members now k s a =
-      let c = contents_of read in
-      record {
-        keys_are = ap (λ xs. xs ++ ks) a.keys_are ∙ ap (λ xs. flat_map (member_keys_at f c) (groups_in_context (read_before i read)) ++ xs) (sym k)
-            ∙ sym (statement_by (member_keys_at f c) read i m now);
-        members_are = ap (λ xs. xs ++ ms) a.members_are ∙ ap (λ xs. flat_map (members_at f c) (groups_in_context (read_before i read)) ++ xs) (sym s)
-            ∙ sym (statement_by (members_at f c) read i m now);
-      }
-
-  none_more : (i : ℕ) (m : Group) (keys members : List ℕ) → read_before (i + 1) read ≡ m ∷ read_before i read
-      → members_at f (contents_of read) (group_in_context (open_blocks 0 (read_before i read)) m) ≡ []
-      → AreMembers f read i keys members → AreMembers f read (i + 1) keys members
-  none_more i m keys members now s a =
-      let p : GroupInContext = group_in_context (open_blocks 0 (read_before i read)) m in
-      let r = here_more i m [] [] keys members now (ap (map (λ _. member_key f p)) s) s a in
-      record { keys_are = sym (append-nil keys) ∙ r.keys_are; members_are = sym (append-nil members) ∙ r.members_are }
-
-  unnamed : (c : Contents) (o : Option ℕ) → member_in c o None ≡ []
-  unnamed c None = refl
-  unnamed c (Some k) = refl
-
-  -- a `config` to which the function gives a choice adds its symbol to the collected members, under the number of the choice
-  pub member_more : (i s k : ℕ) (keys members : List ℕ) → i < length groups → (group_at groups i).head ≡ codes.Config s
-      → ((p : GroupInContext) → slice_get (groups_in_context read) i ≡ Some p → f p ≡ Some k)
-      → AreMembers f read i keys members → AreMembers f read (i + 1) (keys ++ k ∷ []) (members ++ s ∷ [])
-  member_more i s k keys members l w given m =
-      let c = contents_of read in
-      let t = shown_at e (names_defined read) texts lines groups read h i l in
-      let n = count_is e (names_defined read) texts lines groups read h in
-      let what = subst (λ v. RepresentsHead e (names_defined read) texts v t.group.head) w t.shown.head in
-      let p : GroupInContext = group_in_context (open_blocks 0 (read_before i read)) t.group in
-      let at = place_numbered read i t.group (omega arith) t.now in
-      let chosen : f p ≡ Some k = given p at in
-      let named : defined_name p.group ≡ Some what.0 = ap (from_head name_of_head) what.2 in
-      let is : members_at f c p ≡ s ∷ [] =
-      ap (λ o. member_in c o (defined_name p.group)) chosen ∙ ap (member_in c (Some k)) named
-      ∙ ap option_to_list (place_is (names_defined read) what.0 s (Differ-once (filter_map defined_name read)) what.1) in
-      let key : member_keys_at f c p ≡ k ∷ [] = ap (map (λ _. member_key f p)) is ∙ ap (λ o. elim o as (λ _. ℕ) [ None ↦ 0 | Some j ↦ j ] ∷ []) chosen in
-      here_more i t.group (k ∷ []) (s ∷ []) keys members t.now key is m
-
-  pub outside_more : (i : ℕ) (keys members : List ℕ) → i < length groups
-      → ((p : GroupInContext) → slice_get (groups_in_context read) i ≡ Some p → f p ≡ None) → AreMembers f read i keys members
-      → AreMembers f read (i + 1) keys members
-  outside_more i keys members l given m =
-      let c = contents_of read in
-      let t = shown_at e (names_defined read) texts lines groups read h i l in
-      let n = count_is e (names_defined read) texts lines groups read h in
-      let p : GroupInContext = group_in_context (open_blocks 0 (read_before i read)) t.group in
-      let at = place_numbered read i t.group (omega arith) t.now in
-      none_more i t.group keys members t.now (ap (λ o. member_in c o (defined_name p.group)) (given p at)) m
-
-  pub nameless_more : (i : ℕ) (keys members : List ℕ) → i < length groups → ((s : ℕ) → (group_at groups i).head ≡ codes.Config s → ⊥)
-      → AreMembers f read i keys members → AreMembers f read (i + 1) keys members
-  nameless_more i keys members l w m =
-      let c = contents_of read in
-      let t = shown_at e (names_defined read) texts lines groups read h i l in
-      let p : GroupInContext = group_in_context (open_blocks 0 (read_before i read)) t.group in
-      none_more i t.group keys members t.now (ap (member_in c (f p))
-      (nameless e (names_defined read) texts (group_at groups i).head t.group.head t.shown.head w) ∙ unnamed c (f p)) m
-
-pub members_same : (f : GroupInContext → Option ℕ) (read : List Group) (i : ℕ) (keys members keys2 members2 : List ℕ) → keys2 ≡ keys → members2 ≡ members → AreMembers f read i keys members
-    → AreMembers f read i keys2 members2
-members_same f read i keys members keys2 members2 k m a = record { keys_are = k ∙ a.keys_are; members_are = m ∙ a.members_are }

@@ -18,5 +18,5 @@ pub use attribute::{is_optional, is_prompt};
 pub use enclosing_choices::begins_choice;
 pub use group_lines::{end_of, lines_of, part};
 pub use missing_files::{out_of_memory, wanted};
-pub use search::check;
-pub use summary::{Summary, SymbolSummary, own_members};
+pub use search::Checks;
+pub use summary::{Summary, SymbolSummary};

@@ -1,5 +1,5 @@
 //! The first fault of the checks on a listing that was read without a fault.
-ghost use Rattle.std.specs.Prelude.{◌≡◌, ◌⊎◌, ◌<◌, ◌+◌, ◌^◌, ◌&&◌, ℕ, List, IfErr, IfOk, None, Some, bytes_eq, length, slice_get, if◌then◌else◌};
+ghost use Rattle.std.specs.Prelude.{◌≡◌, ◌<◌, ◌+◌, ◌^◌, ◌&&◌, ℕ, List, IfOk, IfSome, None, Some, bytes_eq, length, slice_get, if◌then◌else◌};
 ghost use Rattle.kc_expr.specs.Expr.{modules as modules_name};
 ghost use Rattle.kc_tokens.specs.declared.language.Language.{Language as AnyLanguage};
 ghost use Rattle.std.specs.List.{list_all};
@@ -9,10 +9,9 @@ ghost use Rattle.kc_tree_model.specs.Contents.{contents_of, member_names};
 ghost use Rattle.kc_tree_model.specs.Limits.{names_defined};
 ghost use Rattle.kc_tree_model.specs.TreeFaults.{faults_of_group, is_no_member_kind, is_same_choice, tree_faults};
 ghost use Rattle.kc_listing.specs.between.ListingView.{RepresentsListing};
-ghost use Rattle.kc_listing.specs.between.MemoryFaults.{no_memory};
 ghost use Rattle.kc_listing.specs.declared.listing.GroupHead.TheVariants as codes;
 ghost use Rattle.kc_checks.specs.checker.Marks.{AreMarked};
-ghost use Rattle.kc_checks.specs.between.FaultSearch.{AreSmall, CountsChoices, HasMembers};
+ghost use Rattle.kc_checks.specs.between.FaultSearch.{AreFaultless, AreSmall, CountsChoices, HasMembers};
 ghost use Rattle.kc_checks.specs.checker.Kinds.{choice_around, is_added_line, may_follow_code};
 ghost use Rattle.kc_checks.specs.between.Summaries.{group_at, is_choice_code, IsRepresented, IsSummed};
 
@@ -22,8 +21,7 @@ use super::enclosing_choices::begins_choice;
 use super::fault_kinds::definition_fault;
 use super::group_lines::lines_of;
 use super::marks::mark_members;
-use super::missing_files::out_of_memory;
-use super::summary::{Summary, is_first, members_of};
+use super::summary::{Summary, is_first};
 use kc_listing::{GroupHead, Line, Listing};
 use kc_tokens::Language;
 use kc_tree::{ItemsByNumber, is_no_member_kind};
@@ -174,53 +172,71 @@ fn group_fault(
     }
 }
 
-/// The first fault of the checks on all statements of a listing, which has this summary, in reading order, or `None`. An `Err`
-/// means out of memory.
-fn first_fault(
-    alloc: Global,
-    language: Language,
-    listing: &Listing,
-    summary: &Summary,
-) -> Result<Option<TreeFault>, AllocError>
-    requires shown { IsRepresented listing.now }
-    requires summary { IsSummed listing.now summary.now }
-    requires few { length listing.now.groups.items < 2 ^ 32 }
-    ensures fault { (read : List ModelGroup) → RepresentsListing listing.now read → IfOk result (λ f. f ≡ slice_get (tree_faults language read) 0) }
+/// The number of choices up to and including a statement; `choices` counts those before it.
+fn count_choices(head: &GroupHead, choices: u32) -> u32
+    requires few { choices + 1 < 2 ^ 32 }
+    ensures value { result ≡ (if is_choice_code head.now then choices + 1 else choices) }
 {
-    let collected = members_of(alloc, listing, &summary.enclosing)?;
-    let members = collected.grouped(alloc, summary.choices)?;
-    let mut marks = vec![in alloc; 0; listing.names.symbols.len()]?;
-    let mut choices = 0;
-    for i in 0..listing.groups.len() {
-        let fault = group_fault(listing, language, summary, &members, &mut marks, choices, i);
-        if fault.is_some() {
-            return Ok(fault);
-        }
-        if begins_choice(&listing.groups[i].head) {
-            choices += 1;
-        }
+    if begins_choice(head) {
+        choices + 1
+    } else {
+        choices
     }
-    Ok(None)
 }
 
-/// The summary of a listing whose statements pass the checks on the whole tree.
-///
-/// # Errors
-///
-/// The first fault of these checks, in reading order; if memory runs out, `OutOfMemory` with no file.
-pub fn check(alloc: Global, language: Language, listing: &Listing) -> Result<Summary, TreeFault>
-    requires shown { IsRepresented listing.now }
-    ensures summary { IfOk result (IsSummed listing.now) }
-    ensures few { IfOk result (λ s. length listing.now.groups.items < 2 ^ 32) }
-    ensures faultless { (read : List ModelGroup) → RepresentsListing listing.now read → IfOk result (λ s. None ≡ slice_get (tree_faults language read) 0) }
-    ensures fault { (read : List ModelGroup) → RepresentsListing listing.now read → IfErr result (λ f. (f ≡ no_memory) ⊎ (Some f ≡ slice_get (tree_faults language read) 0)) }
-{
-    let Ok(summary) = Summary::new(alloc, listing) else {
-        return Err(out_of_memory());
-    };
-    match first_fault(alloc, language, listing, &summary) {
-        Ok(None) => Ok(summary),
-        Ok(Some(fault)) => Err(fault),
-        Err(_) => Err(out_of_memory()),
+/// The checks on the groups of a listing, one after another: the members of each choice, the marks of those of the choices so far,
+/// and how many choices these groups open.
+#[derive(Drop)]
+pub struct Checks {
+    pub members: ItemsByNumber<Sym>,
+    pub marks: Vec<u32>,
+    pub choices: u32,
+}
+
+impl Checks {
+    /// The checks before the first group of a listing, which has this summary. An `Err` means out of memory.
+    pub fn new(alloc: Global, listing: &Listing, summary: &Summary) -> Result<Checks, AllocError>
+        requires shown { IsRepresented listing.now }
+        requires summary { IsSummed listing.now summary.now }
+        requires few { length listing.now.groups.items < 2 ^ 32 }
+        ensures { (language : AnyLanguage) → IfOk result (AreFaultless language listing.now 0) }
+    {
+        let members = summary.members.grouped(alloc, summary.choices as usize)?;
+        let marks = vec![in alloc; 0; listing.names.symbols.len()]?;
+        Ok(Checks {
+            members,
+            marks,
+            choices: 0,
+        })
+    }
+
+    /// The first fault of the next group, whose number is this one, or `None`, after checks without a fault on those before it.
+    pub fn next_fault(
+        &mut self,
+        listing: &Listing,
+        language: Language,
+        summary: &Summary,
+        i: usize,
+    ) -> Option<TreeFault>
+        requires shown { IsRepresented listing.now }
+        requires summary { IsSummed listing.now summary.now }
+        requires few { length listing.now.groups.items < 2 ^ 32 }
+        requires here { i < length listing.now.groups.items }
+        requires before { AreFaultless language listing.now i self.old }
+        ensures choices { self.new.choices ≡ (if is_choice_code (group_at listing.now.groups.items i).head then self.old.choices + 1 else self.old.choices) }
+        ensures after { result ≡ None → AreFaultless language listing.now (i + 1) self.new }
+        ensures fault { (read : List ModelGroup) → RepresentsListing listing.now read → IfSome result (λ f. Some f ≡ slice_get (tree_faults language read) 0) }
+    {
+        let found = group_fault(
+            listing,
+            language,
+            summary,
+            &self.members,
+            &mut self.marks,
+            self.choices,
+            i,
+        );
+        self.choices = count_choices(&listing.groups[i].head, self.choices);
+        found
     }
 }

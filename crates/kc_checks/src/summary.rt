@@ -1,19 +1,19 @@
 //! Summaries of symbols and choices, before conditions are joined.
-ghost use Rattle.std.specs.Prelude.{◌≡◌, ◌<◌, ◌^◌, List, IfOk, is_some, length, map, filter_map, flat_map, slice_get, None, if◌then◌else◌};
+ghost use Rattle.std.specs.Prelude.{◌≡◌, ◌<◌, ◌+◌, ◌^◌, ◌++◌, [], List, IfOk, OnOk, Some, None, is_none, is_some, length, filter_map, option_to_list, slice_get, if◌then◌else◌};
 ghost use Rattle.kc_expr.specs.between.Arena.{Exprs};
 ghost use Rattle.kc_tree_model.specs.Blocks.{Group as ModelGroup};
-ghost use Rattle.kc_tree_model.specs.Conditions.{groups_in_context};
-ghost use Rattle.kc_tree_model.specs.Contents.{contents_of};
 ghost use Rattle.kc_tree_model.specs.TreeFaults.{kind_or_bool};
+ghost use Rattle.kc_tree_model.specs.declared.ids.Unit.TheVariants.{Symbol as of_symbol};
 ghost use Rattle.kc_listing.specs.between.ListingView.{RepresentsListing};
-ghost use Rattle.kc_checks.specs.between.Summaries.{first_is, first_summary, symbol_summaries, enclosing_choice, member_keys_at, members_at, type_in, AreOwnMembers, IsRepresented, IsSummary, IsSummed};
+ghost use Rattle.kc_checks.specs.between.Summaries.{first_is, first_summary, type_in, IsRepresented, IsSummary};
+ghost use Rattle.kc_checks.specs.checker.SummarySteps.{HasDefined, HasMember, IsSummedTo};
 
 use super::attribute::type_given;
-use super::enclosing_choices::choices_enclosing;
+use super::enclosing_choices::{innermost, push_or_pop};
 use super::group_lines::lines_of;
 use kc_listing::{GroupHead, Line, Listing};
 use kc_tree::ItemsWithKeys;
-use kc_tree_model::Sym;
+use kc_tree_model::{Sym, Unit};
 use kc_value::Kind;
 use std::alloc::{AllocError, Global};
 
@@ -52,12 +52,17 @@ impl SymbolSummary {
     }
 }
 
-/// A summary of a listing: the summary of each symbol, the number of the enclosing choice of each group, and the number of choices.
+/// A summary of a listing: the summary of each symbol, the number of the enclosing choice of each group, the number of choices, the
+/// members of choices, each under the number of its choice, by all definitions (`members`) and by first ones alone (`own_members`),
+/// and the units, each where it begins: a choice, or a symbol that is first defined outside choices.
 #[derive(Drop)]
 pub struct Summary {
     pub symbols: Vec<SymbolSummary>,
     pub enclosing: Vec<Option<u32>>,
-    pub choices: usize,
+    pub choices: u32,
+    pub members: ItemsWithKeys<Sym>,
+    pub own_members: ItemsWithKeys<Sym>,
+    pub units: Vec<Unit>,
 }
 
 /// The first type that attribute lines give, or `None`.
@@ -72,62 +77,6 @@ fn first_type(lines: &[Line]) -> Option<Kind>
     None
 }
 
-/// The summary of each symbol. An `Err` is out of memory.
-fn symbols_of(
-    alloc: Global,
-    listing: &Listing,
-    enclosing: &[Option<u32>],
-) -> Result<Vec<SymbolSummary>, AllocError>
-    requires few { length listing.now.groups.items < 2 ^ 32 }
-    requires enclosing { (read : List ModelGroup) → RepresentsListing listing.now read → enclosing.now ≡ map (enclosing_choice (contents_of read)) (groups_in_context read) }
-    requires shown { IsRepresented listing.now }
-    ensures ok { (read : List ModelGroup) → RepresentsListing listing.now read → IfOk result (λ s. s.items ≡ symbol_summaries (contents_of read) (groups_in_context read)) }
-{
-    let nothing = SymbolSummary {
-        first: None,
-        given: None,
-        choice: None,
-    };
-    let mut symbols = vec![in alloc; nothing; listing.names.symbols.len()]?;
-    for i in 0..listing.groups.len() {
-        if let GroupHead::Config(s) = listing.groups[i].head {
-            let given = first_type(lines_of(listing, i));
-            let here = SymbolSummary {
-                first: Some(i as u32),
-                given,
-                choice: enclosing[i],
-            };
-            let about = symbols[s as usize];
-            symbols[s as usize] = about.or(here);
-        }
-    }
-    Ok(symbols)
-}
-
-/// The members of choices in order of definition, each under the number of its choice. An `Err` means out of memory.
-pub(crate) fn members_of(
-    alloc: Global,
-    listing: &Listing,
-    enclosing: &[Option<u32>],
-) -> Result<ItemsWithKeys<Sym>, AllocError>
-    requires few { length listing.now.groups.items < 2 ^ 32 }
-    requires enclosing { (read : List ModelGroup) → RepresentsListing listing.now read → enclosing.now ≡ map (enclosing_choice (contents_of read)) (groups_in_context read) }
-    requires shown { IsRepresented listing.now }
-    ensures keys { (read : List ModelGroup) → RepresentsListing listing.now read → IfOk result (λ m. m.keys.items ≡ flat_map (member_keys_at (enclosing_choice (contents_of read)) (contents_of read)) (groups_in_context read)) }
-    ensures members { (read : List ModelGroup) → RepresentsListing listing.now read → IfOk result (λ m. m.items.items ≡ flat_map (members_at (enclosing_choice (contents_of read)) (contents_of read)) (groups_in_context read)) }
-{
-    let mut members = ItemsWithKeys::new(alloc);
-    for i in 0..listing.groups.len() {
-        if let GroupHead::Config(s) = listing.groups[i].head {
-            let choice = enclosing[i];
-            if let Some(choice) = choice {
-                members.push(choice, Sym::at(s))?;
-            }
-        }
-    }
-    Ok(members)
-}
-
 /// Whether the group of a number is the first definition of a symbol, by the number of that.
 pub(crate) fn is_first(first: Option<u32>, i: usize) -> bool
     ensures { result ≡ first_is first i }
@@ -138,41 +87,117 @@ pub(crate) fn is_first(first: Option<u32>, i: usize) -> bool
     }
 }
 
-/// A choice if a test holds, else none.
-fn choice_if(is_own: bool, choice: Option<u32>) -> Option<u32>
-    ensures { result ≡ (if is_own then choice else None) }
+/// Appends a symbol under the number of a choice, if there is a choice.
+fn push_member(
+    members: &mut ItemsWithKeys<Sym>,
+    choice: Option<u32>,
+    symbol: Sym,
+) -> Result<(), AllocError>
+    ensures { OnOk result (HasMember choice symbol members.old members.new) }
 {
-    if is_own { choice } else { None }
+    match choice {
+        Some(choice) => members.push(choice, symbol),
+        None => Ok(()),
+    }
 }
 
-/// The members of choices, each once, in order of first definition, each under the number of its choice. An `Err` means out of
-/// memory.
-pub fn own_members(
-    alloc: Global,
-    listing: &Listing,
-    summary: &Summary,
-) -> Result<ItemsWithKeys<Sym>, AllocError>
-    requires few { length listing.now.groups.items < 2 ^ 32 }
-    requires summary { IsSummed listing.now summary.now }
-    requires shown { IsRepresented listing.now }
-    ensures ok { (read : List ModelGroup) → RepresentsListing listing.now read → IfOk result (AreOwnMembers (contents_of read)) }
+/// Appends a symbol where it is defined first: to the members of the choice that the definition is in, or else to the units.
+fn push_first(
+    own_members: &mut ItemsWithKeys<Sym>,
+    units: &mut Vec<Unit>,
+    choice: Option<u32>,
+    symbol: Sym,
+) -> Result<(), AllocError>
+    ensures members { OnOk result (HasMember choice symbol own_members.old own_members.new) }
+    ensures units { OnOk result (units.new.items ≡ units.old.items ++ option_to_list (if is_none choice then Some (of_symbol symbol) else None)) }
 {
-    let mut members = ItemsWithKeys::new(alloc);
-    for i in 0..listing.groups.len() {
-        if let GroupHead::Config(s) = listing.groups[i].head {
-            let is_own = is_first(summary.symbols[s as usize].first, i);
-            let choice = choice_if(is_own, summary.enclosing[i]);
-            if let Some(choice) = choice {
-                members.push(choice, Sym::at(s))?;
-            }
+    match choice {
+        Some(choice) => own_members.push(choice, symbol),
+        None => {
+            units.push(Unit::Symbol(symbol))?;
+            Ok(())
         }
     }
-    Ok(members)
 }
 
 impl Summary {
+    /// The summary of no group, with room for those of a listing. An `Err` means out of memory.
+    fn empty(alloc: Global, listing: &Listing) -> Result<Summary, AllocError>
+        ensures { IfOk result (IsSummedTo listing.now 0 []) }
+    {
+        let nothing = SymbolSummary {
+            first: None,
+            given: None,
+            choice: None,
+        };
+        let symbols = vec![in alloc; nothing; listing.names.symbols.len()]?;
+        let enclosing = Vec::with_capacity(alloc, listing.groups.len())?;
+        let units = Vec::with_capacity(alloc, listing.groups.len())?;
+        Ok(Summary {
+            symbols,
+            enclosing,
+            choices: 0,
+            members: ItemsWithKeys::new(alloc),
+            own_members: ItemsWithKeys::new(alloc),
+            units,
+        })
+    }
+
+    /// Adds a definition of a symbol, by the summary that it alone gives. An `Err` means out of memory.
+    fn define(&mut self, s: u32, here: SymbolSummary) -> Result<(), AllocError>
+        requires there { s < length self.old.symbols.items }
+        ensures ok { OnOk result (HasDefined s here self.old self.new) }
+    {
+        let about = self.symbols[s as usize];
+        self.symbols[s as usize] = about.or(here);
+        let symbol = Sym::at(s);
+        push_member(&mut self.members, here.choice, symbol)?;
+        if about.first.is_some() {
+            return Ok(());
+        }
+        push_first(&mut self.own_members, &mut self.units, here.choice, symbol)
+    }
+
+    /// Adds the group of this number, where `inside` has the number of the choice that each open block is or is in, innermost last.
+    /// An `Err` means out of memory.
+    fn add_group(
+        &mut self,
+        listing: &Listing,
+        inside: &mut Vec<Option<u32>>,
+        i: usize,
+    ) -> Result<(), AllocError>
+        requires shown { IsRepresented listing.now }
+        requires few { length listing.now.groups.items < 2 ^ 32 }
+        requires here { i < length listing.now.groups.items }
+        requires summed { IsSummedTo listing.now i inside.old.items self.old }
+        ensures summed { OnOk result (IsSummedTo listing.now (i + 1) inside.new.items self.new) }
+    {
+        let head = &listing.groups[i].head;
+        let choice = innermost(inside);
+        self.enclosing.push(choice)?;
+        push_or_pop(inside, head, self.choices)?;
+        match *head {
+            GroupHead::Config(s) => {
+                let given = first_type(lines_of(listing, i));
+                let here = SymbolSummary {
+                    first: Some(i as u32),
+                    given,
+                    choice,
+                };
+                self.define(s, here)?;
+                Ok(())
+            }
+            GroupHead::Choice => {
+                self.units.push(Unit::Choice(self.choices))?;
+                self.choices += 1;
+                Ok(())
+            }
+            _ => Ok(()),
+        }
+    }
+
     /// The summary of a listing. An `Err` means out of memory, or 2^32 statements or more.
-    pub(crate) fn new(alloc: Global, listing: &Listing) -> Result<Summary, AllocError>
+    pub fn new(alloc: Global, listing: &Listing) -> Result<Summary, AllocError>
         requires shown { IsRepresented listing.now }
         ensures summary { (read : List ModelGroup) → RepresentsListing listing.now read → IfOk result (IsSummary read) }
         ensures few { IfOk result (λ s. length listing.now.groups.items < 2 ^ 32) }
@@ -180,11 +205,11 @@ impl Summary {
         if listing.groups.len() > u32::MAX as usize {
             return Err(AllocError);
         }
-        let (enclosing, choices) = choices_enclosing(alloc, listing)?;
-        Ok(Summary {
-            symbols: symbols_of(alloc, listing, &enclosing)?,
-            enclosing,
-            choices: choices as usize,
-        })
+        let mut summary = Summary::empty(alloc, listing)?;
+        let mut inside = Vec::new(alloc);
+        for i in 0..listing.groups.len() {
+            summary.add_group(listing, &mut inside, i)?;
+        }
+        Ok(summary)
     }
 }

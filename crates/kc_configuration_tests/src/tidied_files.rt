@@ -3,6 +3,7 @@ use super::test_trees::settled;
 use kc_dotconfig::Format;
 use kc_rules::Profile;
 use kmin_fakes::{Bounded, MemoryDisk, twice};
+use kmin_records::OutputForm;
 use kmin_report::PlainMessages;
 use kmin_tidy::{TidyOptions, tidy_files};
 use std::test::Fail;
@@ -35,24 +36,28 @@ const NOTHING: TidyOptions = TidyOptions {
     write: false,
     drop: false,
     strict: false,
+    output_form: OutputForm::Plain,
 };
 
 const WRITE: TidyOptions = TidyOptions {
     write: true,
     drop: false,
     strict: false,
+    output_form: OutputForm::Plain,
 };
 
 const DROP: TidyOptions = TidyOptions {
     write: true,
     drop: true,
     strict: false,
+    output_form: OutputForm::Plain,
 };
 
 const STRICT: TidyOptions = TidyOptions {
     write: false,
     drop: false,
     strict: true,
+    output_form: OutputForm::Plain,
 };
 
 /// A disk with seven changes: the files, and a link. A write takes at most four bytes.

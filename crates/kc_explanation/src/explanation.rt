@@ -34,7 +34,7 @@ pub(crate) fn push_case(out: &mut Vec<u8>, case: Case) -> Result<(), AllocError>
 }
 
 /// The name of a symbol; empty where the tree has no such symbol.
-pub(crate) fn name_of<'a>(under: &Valuation<'a>, s: Sym) -> &'a str
+pub fn name_of<'a>(under: &Valuation<'a>, s: Sym) -> &'a str
     ensures { result.now ≡ name_of_symbol (valuation_tree under.now) s }
 {
     if s.number() < under.rules.tree.symbol_count() {
@@ -166,7 +166,7 @@ fn is_hidden(hindrance: Option<Hindrance>) -> bool
 }
 
 /// Whether a hindrance is a missing visibility, for want of a prompt of this symbol.
-pub(crate) fn is_without_prompt(hindrance: Option<Hindrance>, symbol: &Symbol<'_>) -> bool
+pub fn is_without_prompt(hindrance: Option<Hindrance>, symbol: &Symbol<'_>) -> bool
     ensures { (exprs : Exprs) → result ≡ is_without_prompt hindrance (symbol_view exprs symbol.now) }
 {
     is_hidden(hindrance) && symbol.prompts.len() == 0

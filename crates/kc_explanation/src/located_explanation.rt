@@ -107,7 +107,7 @@ fn push_located_forcing_line(
 }
 
 /// The place with a number, if there is one.
-fn place_at(places: &[Position], number: usize) -> Option<Position>
+pub fn place_at(places: &[Position], number: usize) -> Option<Position>
     ensures { option_map position_view result ≡ slice_get (map position_view places.now) number }
 {
     match places.get(number) {

@@ -17,7 +17,7 @@ use kc_value::Text;
 use std::alloc::{AllocError, Global};
 
 /// The path of a file of the tree by its number; empty where there is none.
-fn path_of(paths: &[Text], file: u32) -> &str
+pub fn path_of(paths: &[Text], file: u32) -> &str
     ensures { result.now ≡ slice_index_or paths.now file [] }
 {
     match paths.get(file as usize) {

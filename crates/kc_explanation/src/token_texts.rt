@@ -109,7 +109,7 @@ fn push_value_of_word(
 }
 
 /// The letter of a constant.
-pub(crate) fn letter_of(value: Tri) -> &'static str
+pub fn letter_of(value: Tri) -> &'static str
     ensures { result.now ≡ letter value }
 {
     match value {

@@ -24,7 +24,7 @@ use Rattle.kc_rules_model.specs.declared.values.UserValue.{UserValue}
 use Rattle.kmin_report.specs.declared.run_error.RunError.{RunError}
 use Rattle.kmin_answers.specs.declared.verb_texts.AnswerText.{AnswerText}
 use Rattle.kmin_inputs.specs.FileContents.{Surroundings}
-use Rattle.kmin_trees.specs.JobTexts.{TreeTexts, AreTextsOfJob}
+use Rattle.kmin_expansions.specs.JobTexts.{TreeTexts, AreTextsOfJob}
 use Rattle.kmin_report.specs.Reports.{ErrorLine, notice_lines, choice_notice_lines, last_lines, output_line}
 use Rattle.kc_dotconfig_model.specs.declared.choice_line.ChoiceLine.{ChoiceLine}
 use Rattle.kc_dotconfig_model.specs.OtherChoices.{choice_lines_from, placed_from, other_choices_of, other_choices}
@@ -263,7 +263,7 @@ module _ (content_of : List ℕ → FileContent) (settings : Settings) (left rig
       )
 
       pub answers_comparison : (text : List ℕ) (status : ℕ)
-          → text ≡ flat_map (difference_line settings.format.strings (tree_in left)) (differences (tree_in left) left.values right.values)
+          → text ≡ flat_map (difference_line settings.output_form settings.format.strings (tree_in left)) (differences (tree_in left) left.values right.values)
           → status ≡ status_of_list true (differences (tree_in left) left.values right.values)
           → (notices : List ErrorLine) × ((texts : Files) → AreAccepted texts settings.tree tree → Answer content_of settings texts (compare a b) text status notices)
           × TakesLines taken failed notices after failed_after
@@ -355,7 +355,7 @@ module _ (content_of : List ℕ → FileContent) (settings : Settings) (before a
     (s : IsSolved before.config × IsSolved after.config)
     (l : AreBothRead content_of settings.format settings.strict (tree_of_settled settled) a b before after taken failed middle failed_middle) where
   pub comparison_answers : (r : Result AnswerText RunError)
-      → IfOk r (λ answer. answer.text.items ≡ flat_map (difference_line settings.format.strings (tree_in before.config)) (differences (tree_in before.config) before.config.values after.config.values))
+      → IfOk r (λ answer. answer.text.items ≡ flat_map (difference_line settings.output_form settings.format.strings (tree_in before.config)) (differences (tree_in before.config) before.config.values after.config.values))
       → IfOk r (λ answer. answer.status ≡ status_of_list true (differences (tree_in before.config) before.config.values after.config.values))
       → IfOk r (λ answer. AreBothNoticed settings.strict a b before after middle failed_middle taken_after failed_after)
       → IfOk r (λ answer. (notices : List ErrorLine) × ((texts : Files) → AreAccepted texts settings.tree (tree_of_settled settled)

@@ -1,5 +1,5 @@
 -- Runs that end with the status of a failure had one.
-use Rattle.std.proofs.Common.{◌≡◌, ℕ, Bool, ◌⊎◌, inl, inr, List, Option, sym, ◌∙◌, arith}
+use Rattle.std.proofs.Common.{◌≡◌, ℕ, Bool, List, Option, sym, ◌∙◌, arith}
 use Rattle.kc_tree_model.specs.Trees.{Tree}
 use Rattle.kc_rules_model.specs.declared.values.UnitValue.{UnitValue}
 use Rattle.kc_dotconfig_model.specs.Formats.{FileFormat}
@@ -9,7 +9,6 @@ use Rattle.kc_dotconfig_model.specs.declared.fault.LoadKind.TheVariants.{Malform
 use Rattle.kc_dotconfig.specs.ReadResults.{ReportsFault}
 use Rattle.kmin_report.specs.StandardError.{SpelledBytes}
 use Rattle.kc_files.specs.TreeContents.{HasRisen}
-use Rattle.kmin_report.specs.Reports.{ErrorLine}
 use Rattle.kmin_answers.specs.declared.configurations.ReadFiles.{ReadFiles}
 use Rattle.kmin_answers.specs.between.Comparisons.{StopsAnswering, StopsComparing, at_the_choices, answering_output, at_left, at_right, comparing_output}
 use Rattle.kmin_answers.specs.between.LoadStops.{StopsLoad, StopsNoticing, load_status, refused, for_memory}

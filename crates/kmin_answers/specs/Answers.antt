@@ -23,6 +23,9 @@ use Rattle.kc_files.specs.TreeContents.{FileContent}
 use Rattle.kmin_options.specs.Jobs.{Settings, Task, over, compare}
 use Rattle.kmin_options.specs.declared.job.Verb.{Verb}
 use Rattle.kmin_options.specs.declared.job.Verb.TheVariants.{Min, Full, Missed, Check}
+use Rattle.kmin_records.specs.declared.output_form.OutputForm.{OutputForm}
+use Rattle.kmin_records.specs.declared.output_form.OutputForm.TheVariants.{Plain, Json}
+use Rattle.kmin_records.specs.Records.{compare_record}
 use Rattle.kmin_report.specs.KnownBytes.{AreKnownBytes}
 use Rattle.kmin_report.specs.Reports.{ErrorLine, name_at, notice_lines, choice_notice_lines}
 use Rattle.kmin_trees.specs.AcceptedTrees.{AreAccepted}
@@ -48,10 +51,15 @@ pub record Resolve (content_of : List ℕ → FileContent) (settings : Settings)
 abbrev pub name_line : List ℕ → Tree → ℕ → List ℕ
 name_line front tree s = front ++ (name_at tree s ++ 10 ∷ [])
 
--- the line of `compare` for a symbol whose values differ: `NAME: LEFT -> RIGHT`, with values spelled as in a configuration file
-abbrev pub difference_line : Strings → Tree → Difference → List ℕ
-difference_line strings tree d = name_at tree d.symbol ++ (codes ": " ++ (spelled strings d.left.kind d.left.text
-    ++ (codes " -> " ++ (spelled strings d.right.kind d.right.text ++ 10 ∷ []))))
+-- the line of `compare` in a form, for a symbol of this name with these two values: `NAME: LEFT -> RIGHT`, or a record
+abbrev pub compared_line : OutputForm → (name left right : List ℕ) → List ℕ
+compared_line Plain name left right = name ++ (codes ": " ++ (left ++ (codes " -> " ++ (right ++ 10 ∷ []))))
+compared_line Json name left right = compare_record name left right
+
+-- the line of `compare` in a form for a symbol whose values differ, with values spelled as in a configuration file
+abbrev pub difference_line : OutputForm → Strings → Tree → Difference → List ℕ
+difference_line form strings tree d =
+    compared_line form (name_at tree d.symbol) (spelled strings d.left.kind d.left.text) (spelled strings d.right.kind d.right.text)
 
 -- A text is the output of a verb over a tree, an assignment and its values: for `min` the canonical file of the values.
 abbrev pub IsTextOfVerb : Settings → Tree → List (Option UserValue) → List UnitValue → Verb → (text : List ℕ) → Type 0
@@ -74,7 +82,7 @@ pub data Answer (content_of : List ℕ → FileContent) (settings : Settings) (t
   of_comparison : (tree : Tree) (left right : List ℕ) (left_meanings right_meanings : List (List LineMeaning)) (v w : List UnitValue)
       → task ≡ compare left right → AreAccepted texts settings.tree tree
       → Resolve content_of settings tree (left ∷ []) left_meanings v → Resolve content_of settings tree (right ∷ []) right_meanings w
-      → text ≡ flat_map (difference_line settings.format.strings tree) (differences tree v w)
+      → text ≡ flat_map (difference_line settings.output_form settings.format.strings tree) (differences tree v w)
       → status ≡ status_of_list true (differences tree v w)
       → AllowsNotices settings.strict (other_choices tree v left_meanings) → AllowsNotices settings.strict (other_choices tree w right_meanings)
       → notices ≡ (notice_lines tree (left ∷ []) left_meanings ++ notice_lines tree (right ∷ []) right_meanings)

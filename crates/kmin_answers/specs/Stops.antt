@@ -13,7 +13,7 @@ use Rattle.kmin_options.specs.Jobs.{Settings, Task, over, compare, paths_of}
 use Rattle.kmin_inputs.specs.FileContents.{Surroundings}
 use Rattle.kmin_report.specs.KnownBytes.{AreKnownBytes}
 use Rattle.kmin_disk.specs.Contents.{OpensAs}
-use Rattle.kmin_trees.specs.JobTexts.{TreeTexts, AreTextsOfJob}
+use Rattle.kmin_expansions.specs.JobTexts.{TreeTexts, AreTextsOfJob}
 use Rattle.kc_rules_model.specs.declared.values.UnitValue.{UnitValue}
 use Rattle.kc_dotconfig_model.specs.OtherChoices.{other_choices}
 use Rattle.kmin_report.specs.Reports.{ErrorLine, file_notices, notice_lines, choice_notice_lines, fault_line, output_line}

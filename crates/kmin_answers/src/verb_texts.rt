@@ -17,6 +17,7 @@ use kc_dotconfig::{Format, Strings};
 use kc_minimal::{compare, full_text, minimal_text};
 use kc_tree::Sym;
 use kmin_options::Verb;
+use kmin_records::OutputForm;
 use std::alloc::{AllocError, Global};
 
 /// The output of a command, and its exit status.
@@ -95,22 +96,24 @@ pub fn list_status(exit_code: bool, symbols: &[Sym]) -> u8
     0
 }
 
-/// The output of `compare`: the differences of two configurations of one tree, in one profile; and the status, 1 if
+/// The output of `compare` in a form: the differences of two configurations of one tree, in one profile; and the status, 1 if
 /// there are any.
 pub fn compared(
     alloc: Global,
     left: &Config<'_>,
     right: &Config<'_>,
+    form: OutputForm,
     strings: Strings,
 ) -> Result<AnswerText, AllocError>
     requires tree { tree_in left.now ≡ tree_in right.now }
     requires profile { profile_of left.now.system ≡ profile_of right.now.system }
-    ensures text { IfOk result (λ answer. answer.text.items ≡ flat_map (difference_line strings (tree_in left.now)) (differences (tree_in left.now) left.now.values right.now.values)) }
+    ensures text { IfOk result (λ answer. answer.text.items ≡ flat_map (difference_line form strings (tree_in left.now)) (differences (tree_in left.now) left.now.values right.now.values)) }
     ensures status { IfOk result (λ answer. answer.status ≡ status_of_list true (differences (tree_in left.now) left.now.values right.now.values)) }
 {
     let found = compare(alloc, left, right)?;
     let text = difference_lines(
         alloc,
+        form,
         strings,
         left.settled(),
         left.values(),

@@ -57,6 +57,10 @@ answers = flag (codes "expand") ∷ repeated (codes "answers") ∷ repeated (cod
 abbrev pub message_form : Choices → Rule
 message_form choices = one_of (option (codes "messages") (codes "plain")) choices.messages
 
+-- the option for the form of what is listed
+abbrev pub output_form : Choices → Rule
+output_form choices = one_of (option (codes "format") (codes "plain")) choices.outputs
+
 -- the options that all commands over configuration files share
 abbrev pub shared : Choices → List Rule
 shared choices = place ++ (one_of (valued (codes "language")) choices.languages ∷ option (codes "prefix") (codes "CONFIG_")
@@ -91,7 +95,7 @@ abbrev pub full : Choices → Shape
 full choices = command (codes "full") (shared choices ++ output ∷ any_number (codes "FILE") ∷ [])
 
 abbrev pub listing : (name : Text) → Choices → Shape
-listing name choices = command name (shared choices ++ any_number (codes "FILE") ∷ flag (codes "exit-code") ∷ flag (codes "long") ∷ [])
+listing name choices = command name (shared choices ++ any_number (codes "FILE") ∷ flag (codes "exit-code") ∷ flag (codes "long") ∷ output_form choices ∷ [])
 
 abbrev pub missed : Choices → Shape
 missed choices = added (listing (codes "missed") choices) (flag (codes "by-cause"))
@@ -101,14 +105,14 @@ abbrev pub explain_flags : List Rule
 explain_flags = flag (codes "every") ∷ flag (codes "deep") ∷ flag (codes "all") ∷ flag (codes "exit-code") ∷ []
 
 abbrev pub explain : Choices → Shape
-explain choices = command (codes "explain") (shared choices ++ (explain_flags ++ linked (one_word (codes "NAME")) ∷ any_number (codes "FILE") ∷ []))
+explain choices = command (codes "explain") (shared choices ++ (explain_flags ++ output_form choices ∷ linked (one_word (codes "NAME")) ∷ any_number (codes "FILE") ∷ []))
 
 abbrev pub compare : Choices → Shape
-compare choices = command (codes "compare") (shared choices ++ required (codes "LEFT") ∷ required (codes "RIGHT") ∷ [])
+compare choices = command (codes "compare") (shared choices ++ output_form choices ∷ required (codes "LEFT") ∷ required (codes "RIGHT") ∷ [])
 
 abbrev pub tidy : Choices → Shape
 tidy choices = command (codes "tidy") (shared choices
-    ++ (tidy_flags ++ valued (codes "from") ∷ linked nul ∷ linked (any_number (codes "FILE")) ∷ []))
+    ++ (tidy_flags ++ output_form choices ∷ valued (codes "from") ∷ linked nul ∷ linked (any_number (codes "FILE")) ∷ []))
 
 abbrev pub wants : Choices → Shape
 wants choices = command (codes "wants") (place ++ (answers ++ message_form choices ∷ flag (codes "unused") ∷ []))
@@ -136,6 +140,7 @@ pub record AreChoices (choices : Choices) : Type 0 where
   pub forms : texts_in choices.forms ≡ codes "escaped" ∷ codes "raw" ∷ []
   pub profiles : texts_in choices.profiles ≡ codes "present" ∷ codes "classic" ∷ []
   pub messages : texts_in choices.messages ≡ codes "plain" ∷ codes "long" ∷ codes "json" ∷ []
+  pub outputs : texts_in choices.outputs ≡ codes "plain" ∷ codes "json" ∷ []
 
 -- the program with its commands is declared so
 abbrev pub IsProgram : App → Type 0

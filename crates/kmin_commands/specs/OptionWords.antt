@@ -16,7 +16,7 @@ commands = codes "min" ∷ codes "full" ∷ codes "missed" ∷ codes "check" ∷
 -- the words that name an option with a value
 abbrev pub valued : List Text
 valued = codes "--root" ∷ codes "--tree" ∷ codes "--language" ∷ codes "--prefix" ∷ codes "--strings" ∷ codes "--imply" ∷ codes "--answers"
-    ∷ codes "--define" ∷ codes "--env" ∷ codes "--output" ∷ codes "-o" ∷ codes "--from" ∷ codes "--messages" ∷ []
+    ∷ codes "--define" ∷ codes "--env" ∷ codes "--output" ∷ codes "-o" ∷ codes "--from" ∷ codes "--messages" ∷ codes "--format" ∷ []
 
 -- the words that name an option without a value
 abbrev pub flags : List Text

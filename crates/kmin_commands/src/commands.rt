@@ -138,6 +138,17 @@ static MESSAGES: OptionHelp = OptionHelp {
     help: help_texts::MESSAGES,
 };
 
+/// The option for the form of what is listed, one of `OUTPUT_FORMS`.
+static FORMAT: OptionHelp = OptionHelp {
+    name: "format",
+    value: "FORM",
+    default: "plain",
+    help: help_texts::FORMAT,
+};
+
+/// The values of `--format`.
+static OUTPUT_FORMS: [&str; 2] = ["plain", "json"];
+
 /// The values of `--messages`.
 static MESSAGE_FORMS: [&str; 3] = ["plain", "long", "json"];
 
@@ -161,6 +172,8 @@ pub struct Choices<'a> {
     pub profiles: &'a [&'a str],
     /// Those of `--messages`.
     pub messages: &'a [&'a str],
+    /// Those of `--format`.
+    pub outputs: &'a [&'a str],
 }
 
 /// The program and all its commands, as `clap` needs them.
@@ -174,6 +187,7 @@ pub fn program<'a>(alloc: Global) -> Result<Command<'a>, AllocError>
         forms: &FORMS,
         profiles: &PROFILES,
         messages: &MESSAGE_FORMS,
+        outputs: &OUTPUT_FORMS,
     };
     let program = with_writing(alloc, named(alloc)?, &choices)?;
     let program = with_listing(alloc, program, &choices)?;
@@ -316,7 +330,8 @@ fn listing<'a>(
     let command = with_options(alloc, help, choices)?;
     let command = command.arg(any_number(alloc, "FILE", help_texts::FILES))?;
     let command = command.arg(flag(alloc, "exit-code", help_texts::EXIT_CODE))?;
-    command.arg(flag(alloc, "long", long))
+    let command = command.arg(flag(alloc, "long", long))?;
+    command.arg(output_form(alloc, choices))
 }
 
 /// An argument of any number of words.
@@ -334,6 +349,7 @@ fn explain<'a>(alloc: Global, choices: &Choices<'a>) -> Result<Command<'a>, Allo
     ensures { IfOk result (IsDeclared (declared.explain choices.now)) }
 {
     let command = with_explain_flags(alloc, with_options(alloc, &EXPLAIN, choices)?)?;
+    let command = command.arg(output_form(alloc, choices))?;
     let command = command.arg(named_symbols(alloc)?)?;
     command.arg(any_number(alloc, "FILE", help_texts::FILES))
 }
@@ -361,6 +377,7 @@ fn compare<'a>(alloc: Global, choices: &Choices<'a>) -> Result<Command<'a>, Allo
     ensures { IfOk result (IsDeclared (declared.compare choices.now)) }
 {
     let command = with_options(alloc, &COMPARE, choices)?;
+    let command = command.arg(output_form(alloc, choices))?;
     let command = command.arg(required(alloc, "LEFT", help_texts::LEFT))?;
     command.arg(required(alloc, "RIGHT", help_texts::RIGHT))
 }
@@ -370,6 +387,7 @@ fn tidy<'a>(alloc: Global, choices: &Choices<'a>) -> Result<Command<'a>, AllocEr
     ensures { IfOk result (IsDeclared (declared.tidy choices.now)) }
 {
     let command = with_tidy_flags(alloc, with_options(alloc, &TIDY, choices)?)?;
+    let command = command.arg(output_form(alloc, choices))?;
     let from = valued(alloc, "from", "LIST", help_texts::FROM);
     let command = command.arg(from)?;
     let command = command.arg(nul(alloc)?)?;
@@ -543,6 +561,17 @@ fn message_form<'a>(alloc: Global, choices: &Choices<'a>) -> Arg<'a>
         option(alloc, &MESSAGES),
         help_texts::MESSAGES_LONG,
         choices.messages,
+    )
+}
+
+/// The option for the form of what is listed.
+fn output_form<'a>(alloc: Global, choices: &Choices<'a>) -> Arg<'a>
+    ensures { IsReadBy (declared.output_form choices.now) result }
+{
+    one_of(
+        option(alloc, &FORMAT),
+        help_texts::FORMAT_LONG,
+        choices.outputs,
     )
 }
 

@@ -277,6 +277,13 @@ json   an object with the members kind, severity, file, line, text and names
 TEXT, of at most 200 bytes, has words of the line alone, and of a file that isn't below
 --root or the working folder only a symbol's name. Refused words (2) are plain";
 
+pub(crate) const FORMAT: &str = "Form of what is listed";
+
+pub(crate) const FORMAT_LONG: &str = "\
+How standard output is spelled:
+plain  lines for people
+json   a record for each, one JSON object a line, as share/doc/kmin/RULES.md has it";
+
 pub(crate) const FILES: &str =
     "Configuration files, each overriding those before it; without one\nnothing is assigned; /dev/stdin is standard input";
 

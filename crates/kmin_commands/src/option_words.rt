@@ -12,7 +12,7 @@ static COMMANDS: [&str; 8] = [
 ];
 
 /// The words that name an option with a value.
-static VALUED: [&str; 13] = [
+static VALUED: [&str; 14] = [
     "--root",
     "--tree",
     "--language",
@@ -26,6 +26,7 @@ static VALUED: [&str; 13] = [
     "-o",
     "--from",
     "--messages",
+    "--format",
 ];
 
 /// The words that name an option without a value.

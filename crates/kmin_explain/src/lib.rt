@@ -18,4 +18,4 @@ pub use explanations::{explanation_of, explanation_of_all, is_one_hindered};
 pub use names::{named_symbols, unknown_name};
 pub use nearest_names::nearest_name;
 pub use sources::Sources;
-pub use symbol_reasons::{lines_of, reason_places};
+pub use symbol_reasons::{lines_of, listed_reasons, reason_places};

@@ -43,8 +43,8 @@ fn all_numbers(alloc: Global, count: usize) -> Result<Vec<usize>, AllocError>
     Ok(found)
 }
 
-/// The reasons of symbol `s`, of which with `all` every select and imply is listed.
-pub(crate) fn listed_reasons(
+/// The reasons of symbol `s`, of which with `all` every select and imply is listed. An `Err` means out of memory.
+pub fn listed_reasons(
     alloc: Global,
     by: &Sources<'_>,
     all: bool,

@@ -23,7 +23,7 @@ use Rattle.kmin_options.specs.Jobs.{explain_job_view, settings_view}
 use Rattle.kmin_options.specs.declared.job.ExplainJob.{ExplainJob}
 use Rattle.kmin_report.specs.StandardError.{SpelledBytes}
 use Rattle.kmin_trees.specs.AcceptedTrees.{AreAccepted}
-use Rattle.kmin_trees.specs.JobTexts.{TreeTexts}
+use Rattle.kmin_expansions.specs.JobTexts.{TreeTexts}
 use Rattle.kmin_trees.specs.LinedTrees.{IsLinedTree}
 use Rattle.kmin_trees.specs.declared.lined_trees.LinedTree.{LinedTree}
 use Rattle.kmin_answers.specs.Answers.{Resolve}

@@ -9,19 +9,20 @@ use Rattle.kc_tree_model.specs.Trees.{Tree}
 use Rattle.kc_dotconfig_model.specs.ConfigLines.{LineMeaning}
 use Rattle.kc_config.specs.ConfigStates.{tree_in}
 use Rattle.kmin_explain.specs.Deep.{AreDeep}
-use Rattle.kmin_explain.specs.Explanations.{SourcesModel, explained_in, is_one_hindered}
+use Rattle.kmin_explain.specs.Explanations.{SourcesModel, is_one_hindered}
 use Rattle.kmin_explain.specs.between.Sources.{AreSourcesOf, config_of, sources_model}
 use Rattle.kmin_explain.specs.declared.sources.Sources.{Sources}
 use Rattle.kmin_options.specs.Jobs.{explain_job_view, Question, question_view, explain}
 use Rattle.kmin_options.specs.declared.job.ExplainFlags.{ExplainFlags}
 use Rattle.kmin_options.specs.declared.job.ExplainJob.{ExplainJob}
+use Rattle.kmin_records.specs.declared.output_form.OutputForm.{OutputForm}
 use Rattle.kmin_report.specs.StandardError.{SpelledBytes, TakesLines}
 use Rattle.kmin_trees.specs.declared.lined_trees.LinedTree.{LinedTree}
 use Rattle.kmin_answers.specs.Statuses.{status_of_list}
 use Rattle.kmin_answers.specs.between.Comparisons.{AreNoticed}
 use Rattle.kmin_answers.specs.declared.verb_texts.AnswerText.{AnswerText}
 use Rattle.kmin_answers.proofs.JobOutputs.{lines_kept}
-use Rattle.kmin_explain_command.specs.Explains.{AreExplainedFor, IsExplained, symbols_in, unknown_for}
+use Rattle.kmin_explain_command.specs.Explains.{AreExplainedFor, explained_text, IsExplained, symbols_in, unknown_for}
 use Rattle.kmin_explain_command.specs.between.Texts.{AreOfSources, StopsAfterFiles, IsAnswerFor, IsAnswerOf, IsTextOf, paths_of_job, sources_of, status_by}
 use Rattle.kmin_explain_command.specs.between.Texts as after_files
 use Rattle.kmin_explain_command.specs.between.UnknownNames.{StopsAtName}
@@ -70,16 +71,16 @@ pub found_none : (found : Option (Bor (List ℕ))) (first : Option (List ℕ)) �
 found_none found first is e = sym e ∙ (let s : found ≡ None = is in rw s refl)
 
 -- the text and the status for named symbols are the answer of `explain` for them
-pub named_is : (flags : ExplainFlags) (names : Option (List ℕ)) (g : SourcesModel) (named other text : List ℕ) (status : ℕ) → named ≡ other
-    → IsTextOf flags g named text → status ≡ status_by flags g named → IsAnswerFor (explain flags names) g other text status
-named_is flags names g named other text status e t s =
-    subst (λ (n : List ℕ). IsAnswerFor (explain flags names) g n text status) e (record { text_is = t; status_is = s })
+pub named_is : (form : OutputForm) (flags : ExplainFlags) (names : Option (List ℕ)) (g : SourcesModel) (named other text : List ℕ) (status : ℕ) → named ≡ other
+    → IsTextOf form flags g named text → status ≡ status_by flags g named → IsAnswerFor form (explain flags names) g other text status
+named_is form flags names g named other text status e t s =
+    subst (λ (n : List ℕ). IsAnswerFor form (explain flags names) g n text status) e (record { text_is = t; status_is = s })
 
 -- the answer for the question of a job is that of the job
 pub answer_of_question : (job : ExplainJob) (question : Question) (g : SourcesModel) (text : List ℕ) (status : ℕ) → question_view job.question ≡ question
-    → IsAnswerFor question g (symbols_in (explain_job_view job) g.tree) text status → IsAnswerOf (explain_job_view job) g text status
+    → IsAnswerFor job.settings.output_form question g (symbols_in (explain_job_view job) g.tree) text status → IsAnswerOf (explain_job_view job) g text status
 answer_of_question job question g text status is a =
-    subst (λ (q : Question). IsAnswerFor q g (symbols_in (explain_job_view job) g.tree) text status) (sym is) a
+    subst (λ (q : Question). IsAnswerFor job.settings.output_form q g (symbols_in (explain_job_view job) g.tree) text status) (sym is) a
 
 -- the status of a list is 0 or 1
 pub list_status_small : {A : Type 0} (exit_code : Bool) (listed : List A) → status_of_list exit_code listed ≤ 1
@@ -107,21 +108,21 @@ pub no_status : (flags : ExplainFlags) (g : SourcesModel) (named : List ℕ) →
 no_status flags g named e = rw e refl
 
 -- and so of a result that has both
-pub both_answered : (flags : ExplainFlags) (names : Option (List ℕ)) (by : Sources) (r : Result AnswerText AllocError) (named other : List ℕ) → named ≡ other
+pub both_answered : (form : OutputForm) (flags : ExplainFlags) (names : Option (List ℕ)) (by : Sources) (r : Result AnswerText AllocError) (named other : List ℕ) → named ≡ other
     → IfOk r (λ answer. (read : List Group) (meanings : List (List LineMeaning)) → AreSourcesOf by read meanings
-    → IsTextOf flags (sources_model by read meanings) named answer.text.items)
+    → IsTextOf form flags (sources_model by read meanings) named answer.text.items)
     → IfOk r (λ answer. (read : List Group) (meanings : List (List LineMeaning)) → AreSourcesOf by read meanings
     → answer.status ≡ status_by flags (sources_model by read meanings) named)
     → IfOk r (λ answer. (read : List Group) (meanings : List (List LineMeaning)) → AreSourcesOf by read meanings
-    → IsAnswerFor (explain flags names) (sources_model by read meanings) other answer.text.items answer.status)
-both_answered flags names by (Err e) named other is t s = tt
-both_answered flags names by (Ok answer) named other is t s = λ read meanings are.
-    named_is flags names (sources_model by read meanings) named other answer.text.items answer.status is (t read meanings are) (s read meanings are)
+    → IsAnswerFor form (explain flags names) (sources_model by read meanings) other answer.text.items answer.status)
+both_answered form flags names by (Err e) named other is t s = tt
+both_answered form flags names by (Ok answer) named other is t s = λ read meanings are.
+    named_is form flags names (sources_model by read meanings) named other answer.text.items answer.status is (t read meanings are) (s read meanings are)
 
 -- a result that has the answer for the question of a job has that of the job
 pub question_answered : (job : ExplainJob) (question : Question) (by : Sources) (r : Result AnswerText AllocError) → question_view job.question ≡ question
     → IfOk r (λ answer. (read : List Group) (meanings : List (List LineMeaning)) → AreSourcesOf by read meanings
-    → IsAnswerFor question (sources_model by read meanings) (symbols_in (explain_job_view job) (tree_in (config_of by))) answer.text.items answer.status)
+    → IsAnswerFor job.settings.output_form question (sources_model by read meanings) (symbols_in (explain_job_view job) (tree_in (config_of by))) answer.text.items answer.status)
     → IfOk r (λ answer. (read : List Group) (meanings : List (List LineMeaning)) → AreSourcesOf by read meanings
     → IsAnswerOf (explain_job_view job) (sources_model by read meanings) answer.text.items answer.status)
 question_answered job question by (Err e) is a = tt
@@ -129,14 +130,14 @@ question_answered job question by (Ok answer) is a = λ read meanings are.
     answer_of_question job question (sources_model by read meanings) answer.text.items answer.status is (a read meanings are)
 
 -- the text for some symbols is that for the named ones, by the flags
-module _ (flags : ExplainFlags) (by : Sources) (named symbols : List ℕ) where
+module _ (form : OutputForm) (flags : ExplainFlags) (by : Sources) (named symbols : List ℕ) where
   pub text_by : (r : Result (Vec ℕ Global) AllocError)
       → ((read : List Group) (meanings : List (List LineMeaning))
       → AreExplainedFor flags.deep (sources_model by read meanings) named symbols)
       → ((read : List Group) (meanings : List (List LineMeaning)) → AreSourcesOf by read meanings
-      → IfOk r (λ text. text.items ≡ explained_in (sources_model by read meanings) flags.all symbols))
+      → IfOk r (λ text. text.items ≡ explained_text form (sources_model by read meanings) flags.all symbols))
       → IfOk r (λ text. (read : List Group) (meanings : List (List LineMeaning)) → AreSourcesOf by read meanings
-      → IsTextOf flags (sources_model by read meanings) named text.items)
+      → IsTextOf form flags (sources_model by read meanings) named text.items)
   text_by (Err e) k h = tt
   text_by (Ok text) k h = λ read meanings are. (symbols, k read meanings, h read meanings are)
 

@@ -15,12 +15,16 @@ use Rattle.kmin_explain.specs.Deep.{AreDeep}
 use Rattle.kmin_missed.specs.MissedLines.{missed_of, missed_lines}
 use Rattle.kmin_missed.specs.MissedCauses.{missed_causes}
 use Rattle.kmin_missed.specs.UnmetLines.{unmet_of, unmet_lines}
+use Rattle.kmin_explain_records.specs.SymbolRecords.{records_in}
+use Rattle.kmin_explain_records.specs.ListedMissed.{listed_missed}
+use Rattle.kmin_records.specs.declared.output_form.OutputForm.{OutputForm}
+use Rattle.kmin_records.specs.declared.output_form.OutputForm.TheVariants.{Plain, Json}
 use Rattle.kmin_options.specs.declared.job.ExplainFlags.{ExplainFlags}
 use Rattle.kmin_options.specs.declared.job.MissedForm.{MissedForm}
 use Rattle.kmin_options.specs.declared.job.MissedForm.TheVariants.{Lines, Causes}
 use Rattle.kmin_options.specs.Jobs.{ExplainJob, Question, explain, missed, check}
 use Rattle.kmin_trees.specs.AcceptedTrees.{AreAccepted}
-use Rattle.kmin_trees.specs.JobTexts.{TreeTexts}
+use Rattle.kmin_expansions.specs.JobTexts.{TreeTexts}
 use Rattle.kmin_trees.specs.LinedTrees.{names_by_number}
 use Rattle.kmin_report.specs.Reports.{ErrorLine, notice_lines, choice_notice_lines}
 use Rattle.kmin_answers.specs.Answers.{Resolve}
@@ -65,16 +69,27 @@ abbrev pub AreExplainedFor : (deep : Bool) → SourcesModel → (named : List �
 AreExplainedFor true g named symbols = AreDeep g named symbols
 AreExplainedFor false g named symbols = symbols ≡ named
 
--- the text of `missed` in a form
-abbrev pub missed_text : MissedForm → SourcesModel → List ℕ
-missed_text Lines g = missed_lines g
-missed_text Causes g = missed_causes g
+-- the text of `missed`: line by line or by cause, or a record for each symbol that it lists
+abbrev pub missed_text : OutputForm → MissedForm → SourcesModel → List ℕ
+missed_text Plain Lines g = missed_lines g
+missed_text Plain Causes g = missed_causes g
+missed_text Json long_form g = records_in g false (listed_missed g)
+
+-- the text of `check`: the lines of symbols that are selected against their dependencies, or a record for each
+abbrev pub unmet_text : OutputForm → SourcesModel → List ℕ
+unmet_text Plain g = unmet_lines g
+unmet_text Json g = records_in g false (unmet_of g)
+
+-- the text of `explain` in a form for some symbols
+abbrev pub explained_text : OutputForm → SourcesModel → (all : Bool) → (symbols : List ℕ) → List ℕ
+explained_text Plain g all symbols = explained_in g all symbols
+explained_text Json g all symbols = records_in g all symbols
 
 -- this is the text for a question, of `explain` for these named symbols
-abbrev pub IsTextFor : Question → SourcesModel → (named : List ℕ) → (text : List ℕ) → Type 0
-IsTextFor (explain flags names) g named text = (symbols : List ℕ) × AreExplainedFor flags.deep g named symbols × (text ≡ explained_in g flags.all symbols)
-IsTextFor (missed form exit_code) g named text = text ≡ missed_text form g
-IsTextFor (check exit_code) g named text = text ≡ unmet_lines g
+abbrev pub IsTextFor : OutputForm → Question → SourcesModel → (named : List ℕ) → (text : List ℕ) → Type 0
+IsTextFor form (explain flags names) g named text = (symbols : List ℕ) × AreExplainedFor flags.deep g named symbols × (text ≡ explained_text form g flags.all symbols)
+IsTextFor form (missed long_form exit_code) g named text = text ≡ missed_text form long_form g
+IsTextFor form (check exit_code) g named text = text ≡ unmet_text form g
 
 -- the status: with `--exit-code` 1 where a line for one of the named symbols isn't taken, where a symbol is missed, or where one is
 -- selected against its dependencies, else 0
@@ -86,7 +101,7 @@ status_for (check exit_code) g named = status_of_list exit_code (unmet_of g)
 -- the text and the status of a command that gives reasons, by what symbols are explained by: each name means a symbol
 pub record IsExplained (job : ExplainJob) (g : SourcesModel) (text : List ℕ) (status : ℕ) : Type 0 where
   pub known : unknown_for job g.tree ≡ None
-  pub text_is : IsTextFor job.question g (symbols_in job g.tree) text
+  pub text_is : IsTextFor job.settings.output_form job.question g (symbols_in job g.tree) text
   pub status_is : status ≡ status_for job.question g (symbols_in job g.tree)
 
 -- `explain` has this output, this status and these lines of notices

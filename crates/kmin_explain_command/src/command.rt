@@ -11,7 +11,7 @@ ghost use Rattle.kmin_report.specs.Reports.{ErrorLine, last_lines};
 ghost use Rattle.kc_files.specs.TreeContents.{HasRisen};
 ghost use Rattle.kmin_report.specs.StandardError.{TakesLines};
 ghost use Rattle.kmin_report.specs.between.RunErrors.{status_of};
-ghost use Rattle.kmin_trees.specs.JobTexts.{TreeTexts, AreTextsOfJob};
+ghost use Rattle.kmin_expansions.specs.JobTexts.{TreeTexts, AreTextsOfJob};
 
 use crate::lined_files::read_lined;
 use crate::texts::explained_files;

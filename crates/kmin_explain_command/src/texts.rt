@@ -9,7 +9,8 @@ ghost use Rattle.kc_symbol_lines.specs.between.Indexes.{IsReadTree};
 ghost use Rattle.kmin_answers.specs.between.Comparisons.{AreNoticed};
 ghost use Rattle.kmin_explain.specs.between.Sources.{AreReadSources, AreSourcesOf, config_of, sources_model};
 ghost use Rattle.kc_dotconfig_model.specs.MissedAssignments.{missed as missed_symbols};
-ghost use Rattle.kmin_explain_command.specs.Explains.{IsExplained, missed_text, symbols_in};
+ghost use Rattle.kc_rules_model.specs.Reports.{unmet as unmet_symbols};
+ghost use Rattle.kmin_explain_command.specs.Explains.{IsExplained, explained_text, missed_text, symbols_in, unmet_text};
 ghost use Rattle.kmin_explain_command.specs.between.Texts.{AreOfSources, IsAnswerFor, IsAnswerOf, StopsAfterFiles, IsTextOf, paths_of_job, sources_of, status_by};
 ghost use Rattle.kmin_options.specs.Jobs.{explain_job_view, explain, missed, check};
 ghost use Rattle.kmin_report.specs.between.RunErrors.{status_of};
@@ -22,8 +23,10 @@ use kc_tree::{Sym, Tree};
 use kc_value::Seed;
 use kmin_answers::{AnswerText, list_status, notice_choices};
 use kmin_explain::{Sources, deep_symbols, explanation_of, is_one_hindered, named_symbols};
+use kmin_explain_records::{records_of, records_of_missed};
 use kmin_missed::{lines_of_missed, lines_of_unmet, missed_by_cause};
 use kmin_options::{ExplainFlags, ExplainJob, MissedForm, Question};
+use kmin_records::OutputForm;
 use kmin_report::{Messages, RunError};
 use kmin_trees::LinedTree;
 use std::alloc::{AllocError, Global};
@@ -90,8 +93,10 @@ fn answer_by(
 {
     match job.question {
         Question::Explain { flags, .. } => explained_answer(alloc, job, flags, by),
-        Question::Missed { form, exit_code } => missed_answer(alloc, form, exit_code, by, seed),
-        Question::Check { exit_code } => unmet_answer(alloc, exit_code, by),
+        Question::Missed { form, exit_code } => missed_answer(
+            alloc, job, form, exit_code, by, seed,
+        ),
+        Question::Check { exit_code } => unmet_answer(alloc, job, exit_code, by),
     }
 }
 
@@ -104,15 +109,16 @@ fn explained_answer(
 ) -> Result<AnswerText, AllocError>
     requires read { AreReadSources by.now }
     ensures status { IfOk result (λ answer. answer.status ≤ 1) }
-    ensures answer { (names : Option (List ℕ)) → IfOk result (λ answer. (read : List Group) (meanings : List (List LineMeaning)) → AreSourcesOf by.now read meanings → IsAnswerFor (explain flags names) (sources_model by.now read meanings) (symbols_in (explain_job_view job.now) (tree_in (config_of by.now))) answer.text.items answer.status) }
+    ensures answer { (names : Option (List ℕ)) → IfOk result (λ answer. (read : List Group) (meanings : List (List LineMeaning)) → AreSourcesOf by.now read meanings → IsAnswerFor job.now.settings.output_form (explain flags names) (sources_model by.now read meanings) (symbols_in (explain_job_view job.now) (tree_in (config_of by.now))) answer.text.items answer.status) }
 {
     let symbols = symbols_for(alloc, job, by.config.settled().tree())?;
-    named_answer(alloc, flags, by, &symbols)
+    named_answer(alloc, job.settings.output_form, flags, by, &symbols)
 }
 
 /// The output of `missed` in a form, and its status.
 fn missed_answer(
     alloc: Global,
+    job: &ExplainJob<'_>,
     form: MissedForm,
     exit_code: bool,
     by: &Sources<'_>,
@@ -120,16 +126,36 @@ fn missed_answer(
 ) -> Result<AnswerText, AllocError>
     requires read { AreReadSources by.now }
     ensures status { IfOk result (λ answer. answer.status ≤ 1) }
-    ensures answer { (named : List ℕ) → IfOk result (λ answer. (read : List Group) (meanings : List (List LineMeaning)) → AreSourcesOf by.now read meanings → IsAnswerFor (missed form exit_code) (sources_model by.now read meanings) named answer.text.items answer.status) }
+    ensures answer { (named : List ℕ) → IfOk result (λ answer. (read : List Group) (meanings : List (List LineMeaning)) → AreSourcesOf by.now read meanings → IsAnswerFor job.now.settings.output_form (missed form exit_code) (sources_model by.now read meanings) named answer.text.items answer.status) }
 {
     let symbols = by.config.missed()?;
-    let text = missed_text(alloc, form, by, seed, &symbols)?;
+    let output_form = job.settings.output_form;
+    let text = missed_text(alloc, output_form, form, by, seed, &symbols)?;
     let status = list_status(exit_code, &symbols);
     Ok(AnswerText { text, status })
 }
 
-/// The text of `missed` in a form, for the symbols that don't have the values that files assign.
+/// The text of `missed`, for the symbols that don't have the values that files assign: in a form, or their records.
 fn missed_text(
+    alloc: Global,
+    output_form: OutputForm,
+    form: MissedForm,
+    by: &Sources<'_>,
+    seed: Seed,
+    symbols: &[Sym],
+) -> Result<Vec<u8>, AllocError>
+    requires read { AreReadSources by.now }
+    requires missed { symbols.now ≡ missed_symbols (tree_in (config_of by.now)) (config_of by.now).users (config_of by.now).values }
+    ensures { (read : List Group) (meanings : List (List LineMeaning)) → AreSourcesOf by.now read meanings → IfOk result (λ text. text.items ≡ missed_text output_form form (sources_model by.now read meanings)) }
+{
+    match output_form {
+        OutputForm::Plain => plain_missed_text(alloc, form, by, seed, symbols),
+        OutputForm::Json => records_of_missed(alloc, by, symbols),
+    }
+}
+
+/// The text of `missed` in a form, for the symbols that don't have the values that files assign.
+fn plain_missed_text(
     alloc: Global,
     form: MissedForm,
     by: &Sources<'_>,
@@ -138,7 +164,7 @@ fn missed_text(
 ) -> Result<Vec<u8>, AllocError>
     requires read { AreReadSources by.now }
     requires missed { symbols.now ≡ missed_symbols (tree_in (config_of by.now)) (config_of by.now).users (config_of by.now).values }
-    ensures { (read : List Group) (meanings : List (List LineMeaning)) → AreSourcesOf by.now read meanings → IfOk result (λ text. text.items ≡ missed_text form (sources_model by.now read meanings)) }
+    ensures { (read : List Group) (meanings : List (List LineMeaning)) → AreSourcesOf by.now read meanings → IfOk result (λ text. text.items ≡ missed_text OutputForm.Plain form (sources_model by.now read meanings)) }
 {
     match form {
         MissedForm::Lines => lines_of_missed(alloc, by, symbols),
@@ -147,15 +173,38 @@ fn missed_text(
 }
 
 /// The output of `check` with reasons, and its status.
-fn unmet_answer(alloc: Global, exit_code: bool, by: &Sources<'_>) -> Result<AnswerText, AllocError>
+fn unmet_answer(
+    alloc: Global,
+    job: &ExplainJob<'_>,
+    exit_code: bool,
+    by: &Sources<'_>,
+) -> Result<AnswerText, AllocError>
     requires read { AreReadSources by.now }
     ensures status { IfOk result (λ answer. answer.status ≤ 1) }
-    ensures answer { (named : List ℕ) → IfOk result (λ answer. (read : List Group) (meanings : List (List LineMeaning)) → AreSourcesOf by.now read meanings → IsAnswerFor (check exit_code) (sources_model by.now read meanings) named answer.text.items answer.status) }
+    ensures answer { (named : List ℕ) → IfOk result (λ answer. (read : List Group) (meanings : List (List LineMeaning)) → AreSourcesOf by.now read meanings → IsAnswerFor job.now.settings.output_form (check exit_code) (sources_model by.now read meanings) named answer.text.items answer.status) }
 {
     let symbols = by.config.settled().unmet(alloc, by.config.values())?;
-    let text = lines_of_unmet(alloc, by, &symbols)?;
+    let output_form = job.settings.output_form;
+    let text = unmet_text(alloc, output_form, by, &symbols)?;
     let status = list_status(exit_code, &symbols);
     Ok(AnswerText { text, status })
+}
+
+/// The text of `check` with reasons, for the symbols that are selected against their dependencies: lines, or their records.
+fn unmet_text(
+    alloc: Global,
+    output_form: OutputForm,
+    by: &Sources<'_>,
+    symbols: &[Sym],
+) -> Result<Vec<u8>, AllocError>
+    requires read { AreReadSources by.now }
+    requires unmet { symbols.now ≡ unmet_symbols (tree_in (config_of by.now)) (config_of by.now).values }
+    ensures { (read : List Group) (meanings : List (List LineMeaning)) → AreSourcesOf by.now read meanings → IfOk result (λ text. text.items ≡ unmet_text output_form (sources_model by.now read meanings)) }
+{
+    match output_form {
+        OutputForm::Plain => lines_of_unmet(alloc, by, symbols),
+        OutputForm::Json => records_of(alloc, by, false, symbols),
+    }
 }
 
 /// The symbols that a job names, or all with `--every`.
@@ -183,17 +232,18 @@ fn every_symbol(alloc: Global, count: u32) -> Result<Vec<Sym>, AllocError>
 /// The output for symbols, and its status.
 fn named_answer(
     alloc: Global,
+    form: OutputForm,
     flags: ExplainFlags,
     by: &Sources<'_>,
     symbols: &[Sym],
 ) -> Result<AnswerText, AllocError>
     requires read { AreReadSources by.now }
     requires there { All (λ s. s < length (tree_in (config_of by.now)).symbols) symbols.now }
-    ensures text { IfOk result (λ answer. (read : List Group) (meanings : List (List LineMeaning)) → AreSourcesOf by.now read meanings → IsTextOf flags (sources_model by.now read meanings) symbols.now answer.text.items) }
+    ensures text { IfOk result (λ answer. (read : List Group) (meanings : List (List LineMeaning)) → AreSourcesOf by.now read meanings → IsTextOf form flags (sources_model by.now read meanings) symbols.now answer.text.items) }
     ensures status { IfOk result (λ answer. (read : List Group) (meanings : List (List LineMeaning)) → AreSourcesOf by.now read meanings → answer.status ≡ status_by flags (sources_model by.now read meanings) symbols.now) }
     ensures small { IfOk result (λ answer. answer.status ≤ 1) }
 {
-    let text = named_text(alloc, flags, by, symbols)?;
+    let text = named_text(alloc, form, flags, by, symbols)?;
     let status = status_for(alloc, flags, by, symbols)?;
     Ok(AnswerText { text, status })
 }
@@ -201,19 +251,38 @@ fn named_answer(
 /// The text for symbols, and with `--deep` for those to go on with.
 fn named_text(
     alloc: Global,
+    form: OutputForm,
     flags: ExplainFlags,
     by: &Sources<'_>,
     symbols: &[Sym],
 ) -> Result<Vec<u8>, AllocError>
     requires read { AreReadSources by.now }
     requires there { All (λ s. s < length (tree_in (config_of by.now)).symbols) symbols.now }
-    ensures { IfOk result (λ text. (read : List Group) (meanings : List (List LineMeaning)) → AreSourcesOf by.now read meanings → IsTextOf flags (sources_model by.now read meanings) symbols.now text.items) }
+    ensures { IfOk result (λ text. (read : List Group) (meanings : List (List LineMeaning)) → AreSourcesOf by.now read meanings → IsTextOf form flags (sources_model by.now read meanings) symbols.now text.items) }
 {
     if flags.deep {
         let deep = deep_symbols(alloc, by, symbols)?;
-        return explanation_of(alloc, by, flags.all, &deep);
+        return explained_text(alloc, form, by, flags.all, &deep);
     }
-    explanation_of(alloc, by, flags.all, symbols)
+    explained_text(alloc, form, by, flags.all, symbols)
+}
+
+/// The text in a form for symbols, with each select and imply where `all` is set.
+fn explained_text(
+    alloc: Global,
+    form: OutputForm,
+    by: &Sources<'_>,
+    all: bool,
+    symbols: &[Sym],
+) -> Result<Vec<u8>, AllocError>
+    requires read { AreReadSources by.now }
+    requires there { All (λ s. s < length (tree_in (config_of by.now)).symbols) symbols.now }
+    ensures { (read : List Group) (meanings : List (List LineMeaning)) → AreSourcesOf by.now read meanings → IfOk result (λ text. text.items ≡ explained_text form (sources_model by.now read meanings) all symbols.now) }
+{
+    match form {
+        OutputForm::Plain => explanation_of(alloc, by, all, symbols),
+        OutputForm::Json => records_of(alloc, by, all, symbols),
+    }
 }
 
 /// The status for symbols: 1 with `--exit-code` where a line for one isn't taken, else 0.

@@ -21,3 +21,11 @@ rose_from_none a b e h = omega (arith, h (omega arith))
 pub closed_rises : (own own_after before opened closed : ℕ) → own ≡ 0 → HasRisen own own_after → before ≤ opened → (0 < own_after → HasRisen opened closed)
     → opened ≤ closed → HasRisen before closed
 closed_rises own own_after before opened closed e own_rose le rose up = rises_later before opened closed le up (rose (rose_from_none own own_after e own_rose))
+
+-- a count is at most itself
+pub at_most_itself : (a : ℕ) → a ≤ a
+at_most_itself a = omega arith
+
+-- a count that never fell in two steps
+pub rises_twice : (a b c : ℕ) → a ≤ b → b ≤ c → a ≤ c
+rises_twice a b c up rose = omega arith

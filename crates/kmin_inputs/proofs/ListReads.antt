@@ -1,8 +1,8 @@
 -- Files that are read whole, by what is known of them.
-use Rattle.std.proofs.Common.{◌≡◌, ℕ, ◌+◌, ◌≤◌, inl, inr, true, false, List, [], ◌∷◌, ◌++◌, Option, Some, None, refl, sym, ap, ◌∙◌, subst, arith, codes, option_map}
+use Rattle.std.proofs.Common.{◌≡◌, Bool, Result, Ok, Err, OnOk, ℕ, ◌+◌, ◌≤◌, inl, inr, true, false, List, [], ◌∷◌, ◌++◌, Option, Some, None, refl, sym, ap, ◌∙◌, subst, arith, codes, option_map}
 use Rattle.std.specs.Prelude.{bytes_eq}
 use Rattle.std.proofs.lemmas.List.Sums.{sum_by-append}
-use Rattle.std.proofs.lemmas.Bool.{cases_Bool}
+use Rattle.std.proofs.lemmas.Bool.{cases_Bool, false≢true}
 use Rattle.kc_files.specs.TreeContents.{FileContent}
 use Rattle.kmin_disk.specs.Contents.{OpensAs}
 use Rattle.kmin_report.specs.StandardError.{SpelledBytes, TakesLines}
@@ -29,6 +29,15 @@ opens_input content_of left path e = rw e (input_opens left)
 pub opens_file : (content_of : List ℕ → FileContent) (left reader : Option (List ℕ)) (path : List ℕ) → bytes_eq path (codes "-") ≡ false
     → OpensAs (content_of path) (Some reader) → OpensAs (list_content content_of left path) (Some reader)
 opens_file content_of left reader path e o = rw e o
+
+-- a test doesn't come out both ways
+pub not_both : {P : Type 0} (test : Bool) → test ≡ true → test ≡ false → P
+not_both test is other = absurd (false≢true (sym other ∙ is))
+
+-- what holds at all events holds where a call succeeded
+pub on_ok : {T E : Type 0} (r : Result T E) (P : Type 0) → P → OnOk r P
+on_ok (Ok x) P h = h
+on_ok (Err e) P h = tt
 
 -- files that were read, and then more of them, were read as one list of files
 pub read_append : (content_of : List ℕ → FileContent) (left : Option (List ℕ)) (xs ys fs gs : List (List ℕ)) → AreFilesRead content_of left xs fs

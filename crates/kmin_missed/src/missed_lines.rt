@@ -175,8 +175,8 @@ fn push_missed_rows(
     )
 }
 
-/// The marks of the symbols in a list, of a tree that has so many symbols.
-fn marked(alloc: Global, count: u32, symbols: &[Sym]) -> Result<SymbolsOnce, AllocError>
+/// The marks of the symbols in a list, of a tree that has so many symbols. An `Err` means out of memory.
+pub fn marked(alloc: Global, count: u32, symbols: &[Sym]) -> Result<SymbolsOnce, AllocError>
     requires there { All (λ s. s < count) symbols.now }
     ensures marks { IfOk result (λ marks. (s : ℕ) → s < count → slice_index_or marks.is_found.items s false ≡ list_any (λ m. m == s) symbols.now) }
     ensures many { IfOk result (λ marks. length marks.is_found.items ≡ count) }
@@ -187,7 +187,7 @@ fn marked(alloc: Global, count: u32, symbols: &[Sym]) -> Result<SymbolsOnce, All
 }
 
 /// Whether the symbol with a number is marked.
-fn is_marked(marks: &SymbolsOnce, s: u32) -> bool
+pub fn is_marked(marks: &SymbolsOnce, s: u32) -> bool
     requires there { s < length marks.now.is_found.items }
     ensures { result ≡ slice_index_or marks.now.is_found.items s false }
 {

@@ -6,6 +6,7 @@ use Rattle.kc_rules_model.specs.declared.profile.Profile.{Profile}
 use Rattle.kc_dotconfig_model.specs.Formats.{FileFormat}
 use Rattle.kc_dotconfig_model.specs.between.Formats.{file_format}
 use Rattle.kmin_messages.specs.declared.message.Form.{Form}
+use Rattle.kmin_records.specs.declared.output_form.OutputForm.{OutputForm}
 use Rattle.kmin_options.specs.declared.job.Verb.{Verb}
 use Rattle.kmin_options.specs.declared.job.Definition.{Definition as DeclaredDefinition}
 use Rattle.kmin_options.specs.declared.job.Expansion.{Expansion as DeclaredExpansion}
@@ -35,7 +36,8 @@ pub record Expansion : Type 0 where
   pub environment : List (List ℕ)
 
 -- the options of a command over configuration files: `tree` is the path of the first Kconfig file, relative to the folder
--- `root`; without `expansion` no macro is expanded, and without `messages` the lines of standard error are plain
+-- `root`; without `expansion` no macro is expanded, and without `messages` the lines of standard error are plain; `output_form` is that of what
+-- is listed on standard output
 pub record Settings : Type 0 where
   pub root : List ℕ
   pub tree : List ℕ
@@ -45,6 +47,7 @@ pub record Settings : Type 0 where
   pub strict : Bool
   pub expansion : Option Expansion
   pub messages : Option Form
+  pub output_form : OutputForm
 
 -- the list of `tidy --from LIST`: its path, and whether each path in it ends with the byte 0 in place of a newline
 pub record PathList : Type 0 where
@@ -109,6 +112,7 @@ settings_view s = record {
   strict = s.strict;
   expansion = option_map expansion_view s.expansion;
   messages = s.messages;
+  output_form = s.output_form;
 }
 
 -- a `PathList` of the code, as contracts see it

@@ -3,6 +3,7 @@ use kc_dotconfig_model::Format;
 use kc_rules_model::Profile;
 use kc_tokens::Language;
 use kmin_messages::Form;
+use kmin_records::OutputForm;
 
 /// The commands that write a text about one configuration.
 #[derive(Clone, Copy, Debug, PartialEq, Eq)]
@@ -60,6 +61,8 @@ pub struct Settings<'a> {
     pub expansion: Option<Expansion<'a>>,
     /// The form of messages; `None` for plain ones.
     pub messages: Option<Form>,
+    /// The form of what is listed on standard output; plain for a command that writes a configuration file.
+    pub output_form: OutputForm,
 }
 
 /// A command with its configuration files.

@@ -8,7 +8,7 @@ use Rattle.kmin_report.specs.declared.run_error.RunError.{RunError}
 use Rattle.kmin_inputs.specs.FileContents.{Surroundings}
 use Rattle.kmin_report.specs.Reports.{ErrorLine, last_lines, output_line}
 use Rattle.kmin_report.specs.StandardError.{SpelledBytes, TakesLines}
-use Rattle.kmin_trees.specs.WantedQuestions.{AreAsked, StopsWanting, at_write, question_line, questions_text}
+use Rattle.kmin_expansions.specs.WantedQuestions.{AreAsked, StopsWanting, at_write, question_line, questions_text}
 use Rattle.kmin_report.specs.between.RunErrors.{status_of}
 use Rattle.kmin_report.proofs.WriterLemmas.{lines_append}
 

@@ -23,8 +23,8 @@ use Rattle.kmin_words.specs.Parses.{AreParsedBeside, AreReadAs}
 use Rattle.kmin_words.specs.WordOrder.{command_first}
 use Rattle.kmin_words.specs.declared.command_line.ParsedWords.{ParsedWords}
 use Rattle.kmin_inputs.specs.FileContents.{Surroundings}
-use Rattle.kmin_trees.specs.JobTexts.{TreeTexts, AreTextsOfJob}
-use Rattle.kmin_trees.specs.WantedQuestions.{AreAsked, AsksInPart, StopsWanting, questions_text}
+use Rattle.kmin_expansions.specs.JobTexts.{TreeTexts, AreTextsOfJob}
+use Rattle.kmin_expansions.specs.WantedQuestions.{AreAsked, AsksInPart, StopsWanting, questions_text}
 use Rattle.kmin_answers.specs.Answers.{Answer}
 use Rattle.kmin_explain_command.specs.Explains.{Explains}
 use Rattle.kmin_explain_command.specs.Stops.{ExplainsInPart, StopsExplaining}

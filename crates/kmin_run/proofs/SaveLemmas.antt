@@ -4,7 +4,7 @@ use Rattle.kmin_disk.specs.declared.fault.UpdateFault.{UpdateFault}
 use Rattle.kmin_disk.specs.Disks.{Disk}
 use Rattle.kmin_options.specs.Jobs.{Settings, Task}
 use Rattle.kmin_inputs.specs.FileContents.{Surroundings}
-use Rattle.kmin_trees.specs.JobTexts.{TreeTexts, AreTextsOfJob}
+use Rattle.kmin_expansions.specs.JobTexts.{TreeTexts, AreTextsOfJob}
 use Rattle.kmin_answers.specs.Answers.{Answer}
 use Rattle.kmin_report.specs.Reports.{ErrorLine, last_lines}
 use Rattle.kmin_report.specs.StandardError.{SpelledBytes, TakesLines}

@@ -13,7 +13,7 @@ use Rattle.kmin_report.specs.StandardError.{SpelledBytes, TakesLine, TakesLines}
 use Rattle.kmin_inputs.specs.FileContents.{Surroundings}
 use Rattle.kmin_report.specs.Reports.{ErrorLine, last_lines}
 use Rattle.kmin_trees.specs.AcceptedTrees.{AreAccepted}
-use Rattle.kmin_trees.specs.JobTexts.{TreeTexts, AreTextsOfJob}
+use Rattle.kmin_expansions.specs.JobTexts.{TreeTexts, AreTextsOfJob}
 use Rattle.kmin_trees.specs.Stops.{StopsAtTree}
 use Rattle.kmin_run.specs.TidyRuns.{AreListBytes, AreNamed, AreMalformed, StopsAtList, malformed, PathsEnd, at_tree, over_files, GoesOver, TidyEnds, at_list, over_paths, Outputs, is_ended_by_nul, listed_paths, options_of, run_settings}
 use Rattle.kmin_inputs.specs.ListFiles.{malformed_line}
@@ -84,7 +84,7 @@ module _ (s : Settings) (old new : Disk) (paths : List (List ℕ)) (reports : Li
 
 -- the settings of a run of `tidy_files` over a settled tree are those of the command `tidy` over that tree
 pub settings_are : (settled : Settled) (format : Format) (settings : jobs.Settings) (flags : TidyFlags) (options : TidyOptions)
-    → profile_of settled ≡ settings.profile → file_format format ≡ settings.format → options ≡ options_of settings.strict flags
+    → profile_of settled ≡ settings.profile → file_format format ≡ settings.format → options ≡ options_of settings flags
     → settings_of settled format options ≡ run_settings settings flags (tree_of_settled settled)
 settings_are settled format settings flags options p q o =
     ap (λ p. record { format = file_format format; profile = p; tree = tree_of_settled settled; options = options }) p
@@ -107,7 +107,7 @@ module _ (taken middle taken_after : SpelledBytes) (failed failed_middle failed_
   -- a run of `tidy` whose tree was accepted, and whose files `tidy_files` went over, ends as `PathsEnd` defines
   pub went_over : (known : Surroundings) (counted counted_after : ℕ) (settings : jobs.Settings) (flags : TidyFlags) (settled : Settled) (format : Format) (options : TidyOptions)
       (paths : List (List ℕ)) (old new : Outputs)
-      → profile_of settled ≡ settings.profile → file_format format ≡ settings.format → options ≡ options_of settings.strict flags
+      → profile_of settled ≡ settings.profile → file_format format ≡ settings.format → options ≡ options_of settings flags
       → (t : TreeTexts) × AreTextsOfJob known settings t × AreAccepted t.texts settings.tree (tree_of_settled settled)
       × TakesLines taken failed t.lines middle failed_middle
       → (reports : List ErrorLine) × Ends (settings_of settled format options) old.disk new.disk paths old.taken new.taken old.failures new.failures

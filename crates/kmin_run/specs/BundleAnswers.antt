@@ -10,6 +10,7 @@ use Rattle.kc_dotconfig_model.specs.Formats.{plain_format}
 use Rattle.kc_dotconfig_model.specs.declared.fault.LoadKind.{LoadKind}
 use Rattle.kc_dotconfig_model.specs.declared.fault.LoadKind.TheVariants.{Read, TooLarge}
 use Rattle.kc_files.specs.TreeContents.{FileContent}
+use Rattle.kmin_records.specs.declared.output_form.OutputForm.TheVariants.{Plain}
 use Rattle.kmin_options.specs.Jobs.{Settings, Task, over}
 use Rattle.kmin_options.specs.declared.job.Verb.TheVariants.{Full}
 use Rattle.kmin_report.specs.Reports.{ErrorLine, fault_line, output_line}
@@ -21,7 +22,17 @@ use Rattle.kmin_answers.specs.Stops.{StopsAmongFiles}
 
 -- the options of a run on a bundle: a tree in the strict language that begins at `Kconfig`, without the expansion of macros
 abbrev pub bundle_settings : Settings
-bundle_settings = record { root = []; tree = codes "Kconfig"; language = Strict; format = plain_format; profile = Present; strict = false; expansion = None; messages = None }
+bundle_settings = record {
+  root = [];
+  tree = codes "Kconfig";
+  language = Strict;
+  format = plain_format;
+  profile = Present;
+  strict = false;
+  expansion = None;
+  messages = None;
+  output_form = Plain;
+}
 
 -- the command of a run on a bundle: the full file of the one configuration file `config`
 abbrev pub bundle_task : Task

@@ -3,7 +3,7 @@ use Rattle.std.specs.Prelude.{ℕ, ◌<◌, List, Option, length, take}
 use Rattle.std.specs.Io.KnownBytes.{Appends}
 use Rattle.kmin_options.specs.Jobs.{Settings, Task}
 use Rattle.kmin_inputs.specs.FileContents.{Surroundings}
-use Rattle.kmin_trees.specs.JobTexts.{TreeTexts, AreTextsOfJob}
+use Rattle.kmin_expansions.specs.JobTexts.{TreeTexts, AreTextsOfJob}
 use Rattle.kmin_answers.specs.Answers.{Answer}
 use Rattle.kmin_report.specs.Reports.{ErrorLine}
 

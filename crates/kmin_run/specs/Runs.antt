@@ -15,9 +15,9 @@ use Rattle.kmin_words.specs.Parses.{AreReadAs}
 use Rattle.kmin_words.specs.declared.command_line.ParsedWords.{ParsedWords}
 use Rattle.kmin_words.specs.declared.command_line.ParsedWords.TheVariants.{Job, Save, Questions as TheQuestions, Explain, Tidy, Help, Refused}
 use Rattle.kmin_inputs.specs.FileContents.{Surroundings}
-use Rattle.kmin_trees.specs.JobTexts.{TreeTexts, AreTextsOfJob}
+use Rattle.kmin_expansions.specs.JobTexts.{TreeTexts, AreTextsOfJob}
 use Rattle.kmin_inputs.specs.WordFiles.{Represent, StopsAtWords, is_input_read_for}
-use Rattle.kmin_trees.specs.WantedQuestions.{AreAsked, AsksInPart, StopsWanting, questions_text}
+use Rattle.kmin_expansions.specs.WantedQuestions.{AreAsked, AsksInPart, StopsWanting, questions_text}
 use Rattle.kmin_answers.specs.Answers.{Answer}
 use Rattle.kmin_explain_command.specs.Explains.{Explains}
 use Rattle.kmin_explain_command.specs.Stops.{ExplainsInPart, StopsExplaining}

@@ -13,7 +13,7 @@ use Rattle.kmin_disk.specs.declared.fault.UpdateFault.TheVariants.{Unread, Repla
 use Rattle.kmin_report.specs.Reports.{ErrorLine, not_regular_line, write_line, left_line, last_lines}
 use Rattle.kmin_options.specs.Jobs.{Settings, Task}
 use Rattle.kmin_inputs.specs.FileContents.{Surroundings}
-use Rattle.kmin_trees.specs.JobTexts.{TreeTexts, AreTextsOfJob}
+use Rattle.kmin_expansions.specs.JobTexts.{TreeTexts, AreTextsOfJob}
 use Rattle.kmin_answers.specs.Answers.{Answer}
 use Rattle.kmin_answers.specs.Stops.{StopsBefore}
 

@@ -16,7 +16,7 @@ use Rattle.kmin_options.specs.declared.job.TidyFlags.{TidyFlags}
 use Rattle.kmin_options.specs.Jobs.{Settings, PathList, TidyJob}
 use Rattle.kmin_inputs.specs.FileContents.{Surroundings}
 use Rattle.kmin_inputs.specs.ListFiles.{IsListRead, StopsReadingList, list_content, malformed_line}
-use Rattle.kmin_trees.specs.JobTexts.{TreeTexts, AreTextsOfJob}
+use Rattle.kmin_expansions.specs.JobTexts.{TreeTexts, AreTextsOfJob}
 use Rattle.kmin_trees.specs.AcceptedTrees.{AreAccepted}
 use Rattle.kmin_report.specs.Reports.{ErrorLine, last_lines}
 use Rattle.kmin_trees.specs.Stops.{StopsAtTree}
@@ -54,12 +54,12 @@ pub data StopsAtList (content_of : List ℕ → FileContent) (left : Option (Lis
   for_memory : status ≡ 6 → lines ≡ [] → StopsAtList content_of left list status lines
 
 -- the options of `tidy_files`, from those of the command `tidy`
-abbrev pub options_of : (strict : Bool) → TidyFlags → TidyOptions
-options_of strict flags = record { write = flags.write; drop = flags.drop; strict = strict }
+abbrev pub options_of : Settings → TidyFlags → TidyOptions
+options_of settings flags = record { write = flags.write; drop = flags.drop; strict = settings.strict; output_form = settings.output_form }
 
 -- the settings of a run of `tidy_files`, from the options of the command `tidy` and its tree
 abbrev pub run_settings : Settings → TidyFlags → Tree → RunSettings
-run_settings settings flags tree = record { format = settings.format; profile = settings.profile; tree = tree; options = options_of settings.strict flags }
+run_settings settings flags tree = record { format = settings.format; profile = settings.profile; tree = tree; options = options_of settings flags }
 
 -- all that a run changes: the disk, and standard output with the bytes that it took and the count of its failed writes
 pub record Outputs : Type 0 where

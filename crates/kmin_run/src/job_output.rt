@@ -12,7 +12,7 @@ ghost use Rattle.kmin_options.specs.Jobs.{Settings as GivenSettings, settings_vi
 ghost use Rattle.kmin_answers.specs.Answers.{Answer, IsTextOfVerb, difference_line};
 ghost use Rattle.kmin_answers.specs.Statuses.{status_of_list, status_of_verb};
 ghost use Rattle.kmin_trees.specs.AcceptedTrees.{AreAccepted};
-ghost use Rattle.kmin_trees.specs.JobTexts.{TreeTexts, AreTextsOfJob};
+ghost use Rattle.kmin_expansions.specs.JobTexts.{TreeTexts, AreTextsOfJob};
 ghost use Rattle.kmin_run.specs.PartialAnswers.{AnswersInPart};
 ghost use Rattle.kmin_report.specs.Reports.{ErrorLine, last_lines};
 ghost use Rattle.kmin_report.specs.StandardError.{TakesLines};
@@ -231,7 +231,7 @@ fn noticed_comparison<E: Messages>(
     err: &mut E,
 ) -> Result<AnswerText, RunError>
     requires { before.now.config.system ≡ after.now.config.system }
-    ensures text { IfOk result (λ answer. answer.text.items ≡ flat_map (difference_line settings.now.format.strings (tree_in before.now.config)) (differences (tree_in before.now.config) before.now.config.values after.now.config.values)) }
+    ensures text { IfOk result (λ answer. answer.text.items ≡ flat_map (difference_line settings.now.output_form settings.now.format.strings (tree_in before.now.config)) (differences (tree_in before.now.config) before.now.config.values after.now.config.values)) }
     ensures status { IfOk result (λ answer. answer.status ≡ status_of_list true (differences (tree_in before.now.config) before.now.config.values after.now.config.values)) }
     ensures noticed { IfOk result (λ answer. AreBothNoticed settings.now.strict left.now right.now before.now after.now (E.taken err.old) (E.failures err.old) (E.taken err.new) (E.failures err.new)) }
     ensures stopped { IfErr result (λ stop. StopsComparing settings.now.strict left.now right.now before.now after.now (status_of stop) (E.taken err.old) (E.failures err.old) (E.taken err.new) (E.failures err.new)) }
@@ -242,6 +242,7 @@ fn noticed_comparison<E: Messages>(
         alloc,
         &before.config,
         &after.config,
+        settings.output_form,
         settings.format.strings,
     )?)
 }

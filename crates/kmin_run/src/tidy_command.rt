@@ -16,7 +16,7 @@ use kc_value::{Sink, Source};
 use kmin_disk::WriteDisk;
 use kmin_inputs::{Files, read_list};
 use kmin_lines::{ListFault, listed_paths};
-use kmin_options::{PathList, TidyFlags, TidyJob};
+use kmin_options::{PathList, Settings, TidyFlags, TidyJob};
 use kmin_report::{Messages, Report, RunError, exit_status};
 use kmin_tidy::{TidyOptions, tidy_files};
 use kmin_trees::job_tree;
@@ -119,7 +119,7 @@ fn tidy_paths<F: Files, D: WriteDisk, O: Sink, E: Messages>(
 {
     match job_tree(alloc, &tidy_job.settings, files, err) {
         Ok(settled) => {
-            let options = options_of(tidy_job.settings.strict, tidy_job.flags);
+            let options = options_of(&tidy_job.settings, tidy_job.flags);
             let format = &tidy_job.settings.format;
             let status = tidy_files(alloc, &settled, format, options, paths, disk, out, err);
             drop(settled);
@@ -130,14 +130,15 @@ fn tidy_paths<F: Files, D: WriteDisk, O: Sink, E: Messages>(
 }
 
 /// The options of `tidy_files` by those of the command.
-fn options_of(strict: bool, flags: TidyFlags) -> TidyOptions
-    ensures { result ≡ options_of strict flags }
+fn options_of(settings: &Settings<'_>, flags: TidyFlags) -> TidyOptions
+    ensures { result ≡ options_of (settings_view settings.now) flags }
 {
     let TidyFlags { write, drop } = flags;
     TidyOptions {
         write,
         drop,
-        strict,
+        strict: settings.strict,
+        output_form: settings.output_form,
     }
 }
 

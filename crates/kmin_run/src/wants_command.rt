@@ -8,16 +8,16 @@ ghost use Rattle.kmin_options.specs.Jobs.{questions_view};
 ghost use Rattle.kmin_report.specs.Reports.{ErrorLine, last_lines};
 ghost use Rattle.kmin_report.specs.StandardError.{TakesLines};
 ghost use Rattle.kc_files.specs.TreeContents.{HasRisen};
-ghost use Rattle.kmin_trees.specs.WantedQuestions.{AreAsked, AsksInPart, StopsWanting, question_line, questions_text};
+ghost use Rattle.kmin_expansions.specs.WantedQuestions.{AreAsked, AsksInPart, StopsWanting, question_line, questions_text};
 ghost use Rattle.kmin_answers.specs.Statuses.{status_of_list};
 ghost use Rattle.kmin_report.specs.between.RunErrors.{status_of};
 
 use kc_value::Sink;
 use kmin_answers::AnswerText;
+use kmin_expansions::{Wanted, wanted_of};
 use kmin_inputs::Files;
 use kmin_options::Questions;
 use kmin_report::{Messages, Report, RunError, exit_status, write_answer};
-use kmin_trees::{Wanted, wanted_of};
 use std::alloc::{AllocError, Global};
 
 /// Lists the open questions of a tree's macros, a line each, in the order in which the expansion asks them; with `--unused`, where

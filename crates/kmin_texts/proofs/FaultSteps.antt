@@ -1,8 +1,7 @@
 -- The details of faults, by their lines.
-use Rattle.std.proofs.Common.{◌≡◌, ◌⊎◌, inl, inr, ℕ, Bool, true, false, ◌||◌, ◌==◌, cond, List, [], ◌∷◌, ◌++◌, Option, Some, None, Result, Ok, Err, codes, refl, sym, ap, subst, ◌∙◌}
+use Rattle.std.proofs.Common.{◌≡◌, inl, inr, ℕ, Bool, true, false, ◌||◌, ◌==◌, cond, List, [], ◌∷◌, ◌++◌, Option, Some, None, Result, Ok, Err, IfOk, refl, sym, ap, subst}
 use Rattle.std.specs.List.{flat_map}
 use Rattle.std.specs.Str.Lossy.{utf8_lossy}
-use Rattle.std.proofs.Math.Bool.{or-true}
 use Rattle.kc_tokens.specs.declared.language.Language.{Language}
 use Rattle.kc_tree_model.specs.Blocks.{Position}
 use Rattle.kc_tree_model.specs.TreeFiles.{Files, path_at}
@@ -12,12 +11,13 @@ use Rattle.kmin_report.specs.StandardError.{Detail}
 use Rattle.kmin_faults.specs.SourcedPaths.{is_open}
 use Rattle.kmin_faults.specs.declared.passed_limits.Limit.TheVariants.{TreeBytes}
 use Rattle.kmin_texts.specs.KnownLines.{KnownFile, MayBeReason, MayBeUnread}
-use Rattle.kmin_texts.specs.LineDetails.{has_macro, is_given, is_of_macro_fault, is_of_missing, is_one_of, never, of_limit, of_line, of_path, of_place, on_expanded_line, path_details, reasons, sourced, sourced_on, unread, words}
+use Rattle.kmin_texts.specs.LineDetails.{has_macro, is_given, is_of_macro_fault, is_of_missing, is_one_of, never, no_detail, of_limit, of_line, of_path, of_place, on_expanded_line, path_details, reasons, sourced, sourced_on, unread, words}
 use Rattle.kmin_texts.specs.NumberedLines.{line_at, utf8_line}
 use Rattle.kmin_details.specs.Texts.{first_place_text, missing_text, unreadable_text}
 use Rattle.kmin_details.specs.declared.places.Unreadable.{Unreadable}
 use Rattle.kmin_details.specs.declared.places.Unreadable.TheVariants.{NotThere, NoPermission, Folder, FailedRead}
-use Rattle.kmin_texts.specs.between.KeptDetails.{HasMacroAt, MayBe}
+use Rattle.kmin_texts.specs.declared.kept_details.KeptDetail.{KeptDetail}
+use Rattle.kmin_texts.specs.between.KeptDetails.{HasMacroAt, MayBe, kept_detail, hidden_kept}
 use Rattle.kmin_texts.proofs.OwnDetails.{first_one, later_one}
 
 -- words of a line
@@ -109,6 +109,14 @@ pub may_hide_reason : (known : KnownFile) (path : List ℕ) (why : Unreadable) �
     → MayBe (is_one_of (path_details known path)) (words (unreadable_text why))
 may_hide_reason known path why h = inr (hidden_reason known path why h)
 
+-- a copy of a path, with the reason that was found for it
+module _ (known : KnownFile) (path copy : List ℕ) (found : Option Unreadable) (why : Unreadable) (is : found ≡ Some why) (may : MayBeReason known found) where
+  pub shown_copy : copy ≡ path → is_one_of (path_details known path) (words (missing_text copy why)) ≡ true
+  shown_copy same = rw same (shown_reason known path why (rw is at may))
+
+  pub hidden_copy : MayBe (is_one_of (path_details known path)) (words (unreadable_text why))
+  hidden_copy = may_hide_reason known path why (rw is at may)
+
 -- a path alone, of a file that may be one that can be read
 pub alone : (known : KnownFile) (path : List ℕ) → MayBeReason known None → is_one_of (path_details known path) (words (utf8_lossy path)) ≡ true
 alone None path h = first_one (words (utf8_lossy path)) (for_reasons path (reasons None))
@@ -144,3 +152,14 @@ pub of_expanded : (language : Language) (known_of : List ℕ → KnownFile) (fau
     → is_given (known_of fault.at.file) (λ bytes. on_expanded_line (line_at bytes fault.at.line)) never d ≡ true → is_of_macro_fault language known_of fault TooMany d ≡ true
 of_expanded language known_of fault d z h =
     subst (λ b. cond b (is_one_of (of_limit (Some TreeBytes)) d) (is_given (known_of fault.at.file) (λ bytes. on_expanded_line (line_at bytes fault.at.line)) never d) ≡ true) (sym z) h
+
+-- a path alone, where no reason was found for it
+pub alone_shown : {E : Type 0} (known : KnownFile) (path : List ℕ) (found : Option Unreadable) (r : Result KeptDetail E) → found ≡ None → MayBeReason known found
+    → IfOk r (λ detail. kept_detail detail ≡ words (utf8_lossy path)) → IfOk r (λ detail. is_one_of (path_details known path) (kept_detail detail) ≡ true)
+alone_shown known path found (Ok detail) is may same = rw same (alone known path (rw is at may))
+alone_shown known path found (Err e) is may same = tt
+
+pub alone_hidden : {E : Type 0} (known : KnownFile) (path : List ℕ) (r : Result KeptDetail E) → IfOk r (λ detail. hidden_kept detail ≡ no_detail)
+    → IfOk r (λ detail. MayBe (is_one_of (path_details known path)) (hidden_kept detail))
+alone_hidden known path (Ok detail) same = inl same
+alone_hidden known path (Err e) same = tt

@@ -37,7 +37,7 @@ use Rattle.kc_minimal_model.specs.FileValues.{Loads}
 use Rattle.kmin_tidy.specs.MinimalFiles.{MayBeRead, IsReadAt, HasNotices, of_choices, choice_notices, HasMinimalFile, Minimises}
 use Rattle.kmin_tidy.specs.Refusals as refusals
 use Rattle.kmin_report.specs.Reports.{fault_line, not_regular_line}
-use Rattle.kmin_tidy.specs.Reports.{notice_lines, difference_line}
+use Rattle.kmin_tidy.specs.Reports.{notice_lines, file_line}
 use Rattle.kmin_tidy.specs.Steps.{Step, refused, noticed, minimal, shown, replaced, unwritten, unsynced, call_failed, names_taken, not_regular}
 use Rattle.kmin_tidy.specs.checker.Readings.{IsFragmentOf, IsFaulty, places_noted}
 use Rattle.kmin_tidy.specs.checker.FileReports.{IsRefusedAs, IsFailedBy, IsStoppedBy}
@@ -46,6 +46,7 @@ use Rattle.kmin_tidy.specs.checker.FileResults.{IsRewritten, IsWritten, StopsWri
 use Rattle.kmin_tidy.specs.checker.ReportLines.{report_lines, problem_lines}
 use Rattle.kmin_tidy.specs.declared.outcome.FileOutcome.TheVariants.{Refused, Failed}
 use Rattle.kmin_tidy.specs.declared.options.TidyOptions.{TidyOptions}
+use Rattle.kmin_records.specs.declared.output_form.OutputForm.{OutputForm}
 use Rattle.kmin_tidy.specs.declared.report.Problem.{Problem}
 use Rattle.kmin_tidy.specs.declared.report.Problem.TheVariants.{Fault, Write, NotRegular as ProblemNotRegular}
 use Rattle.kmin_tidy.specs.declared.report.FileReport.{FileReport}
@@ -100,7 +101,7 @@ module _ (s : Settings) (a : Disk) (path : List ℕ) (report : FileReport) where
 
   -- the step of an accepted file that isn't refused, from the result of comparing it with its minimal file and replacing it
   pub rewritten_step : (b : Disk) (bytes least line : List ℕ) (noted : List Notice) (end : FileEnd)
-      → Minimises s a.state path bytes least (map notice_pair noted) → IsRewritten s.options.write a b path bytes least line end
+      → Minimises s a.state path bytes least (map notice_pair noted) → IsRewritten s.options.output_form s.options.write a b path bytes least line end
       → report.notices.items ≡ noted → report.problem ≡ end.problem → report.outcome ≡ end.outcome
       → Step s a b path line (report_lines s.tree path report) report.outcome
   rewritten_step b bytes least line noted end m (results.same e k l q o) n p r =
@@ -199,14 +200,14 @@ stopped_by a b path least FolderNotSynced stop l f h = absurd h
 stopped_by a b path least OutOfMemory stop l f h = subst (StopsWrite a b path) (sym h) l
 
 -- the result of an attempt to replace a file by a minimal file of other bytes is one that `IsRewritten` allows
-pub rewritten_by : (a b : Disk) (path bytes least : List ℕ) (end : FileEnd) → least ≢ bytes → IsWritten a b path least end
-    → IsRewritten true a b path bytes least (cond end.is_replaced (difference_line path bytes least) []) end
-rewritten_by a b path bytes least end ne (results.in_place r f p o k) =
-    results.replaced ne refl r f (ap (λ b. cond b (difference_line path bytes least) []) k) p o
-rewritten_by a b path bytes least end ne (results.not_in_place u p o k) =
-    results.unwritten ne refl u (ap (λ b. cond b (difference_line path bytes least) []) k) p o
-rewritten_by a b path bytes least end ne (results.not_synced u p o k) =
-    results.unsynced ne refl u (ap (λ b. cond b (difference_line path bytes least) []) k) p o
+pub rewritten_by : (form : OutputForm) (a b : Disk) (path bytes least : List ℕ) (end : FileEnd) → least ≢ bytes → IsWritten a b path least end
+    → IsRewritten form true a b path bytes least (cond end.is_replaced (file_line form path bytes least) []) end
+rewritten_by form a b path bytes least end ne (results.in_place r f p o k) =
+    results.replaced ne refl r f (ap (λ b. cond b (file_line form path bytes least) []) k) p o
+rewritten_by form a b path bytes least end ne (results.not_in_place u p o k) =
+    results.unwritten ne refl u (ap (λ b. cond b (file_line form path bytes least) []) k) p o
+rewritten_by form a b path bytes least end ne (results.not_synced u p o k) =
+    results.unsynced ne refl u (ap (λ b. cond b (file_line form path bytes least) []) k) p o
 
 -- a text whose last line is taken back unless `is_kept` is the text before, with that line if `is_kept`
 pub listed_by : (before line after : List ℕ) (start : ℕ) (is_kept : Bool) → start ≡ length before

@@ -4,6 +4,9 @@ use Rattle.std.specs.Fmt.{decimal}
 use Rattle.kc_tree_model.specs.Trees.{Tree}
 use Rattle.kmin_report.specs.Reports.{ErrorLine, tree_notice_line}
 use Rattle.kmin_lines.specs.Lines.{count_lines_not_in, have_same_lines}
+use Rattle.kmin_records.specs.declared.output_form.OutputForm.{OutputForm}
+use Rattle.kmin_records.specs.declared.output_form.OutputForm.TheVariants.{Plain, Json}
+use Rattle.kmin_records.specs.Records.{tidy_record}
 use Rattle.kmin_tidy.specs.Options.{Notices}
 
 -- how the lines of a file differ from those of its minimal file, as text: `K out, L in` for K lines that only the file has and L
@@ -23,6 +26,11 @@ difference bytes least = if have_same_lines bytes least
 -- the line of standard output for a file that isn't its own minimal file: `FILE: K out, L in`, `FILE: line ends` or `FILE: order`
 abbrev pub difference_line : (path bytes least : List ℕ) → List ℕ
 difference_line path bytes least = path ++ (codes ": " ++ (difference bytes least ++ codes "\n"))
+
+-- the line of standard output, in a form, for a file that isn't its own minimal file
+abbrev pub file_line : OutputForm → (path bytes least : List ℕ) → List ℕ
+file_line Plain path bytes least = difference_line path bytes least
+file_line Json path bytes least = tidy_record path bytes least
 
 -- the lines of standard error for the notices of a configuration file over a tree, in order
 abbrev pub notice_lines : Tree → (path : List ℕ) → Notices → List ErrorLine

@@ -8,7 +8,7 @@ use Rattle.kmin_disk.specs.declared.kind.FileKind.TheVariants.{NotRegular}
 use Rattle.kmin_tidy.specs.Options.{Settings, Notices, refuses_notices}
 use Rattle.kmin_tidy.specs.MinimalFiles.{IsReadAt, HasNotices, Minimises, IsNotMinimal}
 use Rattle.kmin_tidy.specs.Refusals.{IsRefused}
-use Rattle.kmin_tidy.specs.Reports.{difference_line, notice_lines}
+use Rattle.kmin_tidy.specs.Reports.{file_line, notice_lines}
 use Rattle.kmin_report.specs.Reports.{ErrorLine, write_line}
 use Rattle.kmin_tidy.specs.declared.outcome.FileOutcome.{FileOutcome}
 use Rattle.kmin_tidy.specs.declared.outcome.FileOutcome.TheVariants.{Minimal, NotMinimal, Refused, Failed}
@@ -42,12 +42,12 @@ pub data Step (s : Settings) (old new : Disk) (path line : List ℕ) (reports : 
       → reports ≡ notice_lines s.tree path notices → outcome ≡ Minimal → Step s old new path line reports outcome
   -- the file isn't minimal, and files aren't replaced
   shown : (bytes least : List ℕ) (notices : Notices) → IsNotMinimal s old.state path bytes least notices
-      → s.options.write ≡ false → new ≡ old → line ≡ difference_line path bytes least
+      → s.options.write ≡ false → new ≡ old → line ≡ file_line s.options.output_form path bytes least
       → reports ≡ notice_lines s.tree path notices → outcome ≡ NotMinimal → Step s old new path line reports outcome
   -- the file is replaced by its minimal file
   replaced : (bytes least : List ℕ) (notices : Notices) → IsNotMinimal s old.state path bytes least notices
       → s.options.write ≡ true → Replaces old.state new.state path least → new.failures ≡ old.failures
-      → line ≡ difference_line path bytes least
+      → line ≡ file_line s.options.output_form path bytes least
       → reports ≡ notice_lines s.tree path notices → outcome ≡ Minimal → Step s old new path line reports outcome
   -- the file couldn't be replaced, and has no line
   unwritten : (bytes least : List ℕ) (notices : Notices) → IsNotMinimal s old.state path bytes least notices
@@ -56,6 +56,6 @@ pub data Step (s : Settings) (old new : Disk) (path line : List ℕ) (reports : 
       → Step s old new path line reports outcome
   -- the file is replaced by its minimal file, and its folder couldn't be synced
   unsynced : (bytes least : List ℕ) (notices : Notices) → IsNotMinimal s old.state path bytes least notices
-      → s.options.write ≡ true → IsUnsynced old new path least → line ≡ difference_line path bytes least
+      → s.options.write ≡ true → IsUnsynced old new path least → line ≡ file_line s.options.output_form path bytes least
       → reports ≡ notice_lines s.tree path notices ++ write_line path ∷ [] → outcome ≡ Failed
       → Step s old new path line reports outcome

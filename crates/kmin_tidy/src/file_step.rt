@@ -18,7 +18,7 @@ ghost use Rattle.kmin_tidy.specs.checker.FileResults.{IsRewritten, IsWritten, St
 ghost use Rattle.kmin_tidy.specs.checker.FileReports.{IsRefusedAs, IsFailedBy, IsStoppedBy};
 
 use crate::accepted_file::{AcceptedFile, read_file};
-use crate::differences::push_difference_line;
+use crate::file_lines::push_file_line;
 use crate::options::TidyOptions;
 use crate::outcome::FileOutcome;
 use crate::report::{FileReport, Problem};
@@ -200,7 +200,7 @@ fn tidy_allowed<D: WriteDisk>(
 ) -> Result<FileEnd, Stop>
     ensures rewritten { IfOk result (λ end. (line : List ℕ) × (text.new.items ≡ text.old.items ++ line) × (least : List ℕ)
         × IsCanonicalText (file_format format.now) (profile_of config.now.system) (tree_in config.now) config.now.values least
-        × IsRewritten options.write (D.disk disk.old) (D.disk disk.new) path.now bytes.now least line end) }
+        × IsRewritten options.output_form options.write (D.disk disk.old) (D.disk disk.new) path.now bytes.now least line end) }
     ensures stopped { IfErr result (λ stop. ((stop ≡ Stop.Memory) × (D.disk disk.new ≡ D.disk disk.old)) ⊎ ((least : List ℕ)
         × IsCanonicalText (file_format format.now) (profile_of config.now.system) (tree_in config.now) config.now.values least
         × StopsRewrite options.write (D.disk disk.old) (D.disk disk.new) path.now bytes.now least stop)) }
@@ -272,7 +272,7 @@ fn rewrite<D: WriteDisk>(
     text: &mut Vec<u8>,
 ) -> Result<FileEnd, Stop>
     ensures rewritten { IfOk result (λ end. (line : List ℕ) × (text.new.items ≡ text.old.items ++ line)
-        × IsRewritten options.write (D.disk disk.old) (D.disk disk.new) path.now bytes.now least.now line end) }
+        × IsRewritten options.output_form options.write (D.disk disk.old) (D.disk disk.new) path.now bytes.now least.now line end) }
     ensures stopped { IfErr result (StopsRewrite options.write (D.disk disk.old) (D.disk disk.new) path.now bytes.now least.now) }
 {
     if least == bytes {
@@ -283,7 +283,15 @@ fn rewrite<D: WriteDisk>(
         });
     }
     let start = text.len();
-    push_difference_line(alloc, disk.seed(), path, bytes, least, text)?;
+    push_file_line(
+        alloc,
+        disk.seed(),
+        options.output_form,
+        path,
+        bytes,
+        least,
+        text,
+    )?;
     if options.write {
         write_listed(alloc, path, least, disk, text, start)
     } else {

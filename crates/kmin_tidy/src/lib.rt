@@ -3,6 +3,7 @@
 
 mod accepted_file;
 mod differences;
+mod file_lines;
 mod file_step;
 mod laws;
 mod options;

@@ -1,6 +1,8 @@
 //! The options of a run.
 ghost use Rattle.std.specs.Prelude.{◌≡◌};
 
+use kmin_records::OutputForm;
+
 /// The options of [`tidy_files`](crate::tidy_files).
 #[derive(Clone, Copy, Debug, PartialEq, Eq)]
 pub struct TidyOptions {
@@ -10,6 +12,8 @@ pub struct TidyOptions {
     pub drop: bool,
     /// Whether a file with a notice is refused, whatever the other options.
     pub strict: bool,
+    /// The form of the lines of standard output.
+    pub output_form: OutputForm,
 }
 
 impl TidyOptions {

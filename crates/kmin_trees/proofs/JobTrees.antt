@@ -8,21 +8,21 @@ use Rattle.kc_macros_model.specs.ReadingStates.{ExpandedFile}
 use Rattle.kc_expansion.specs.Expansions.{IsExpansion}
 use Rattle.kmin_options.specs.Jobs.{Expansion, Settings}
 use Rattle.kmin_report.specs.declared.run_error.RunError.{RunError}
-use Rattle.kmin_trees.specs.declared.expanded_trees.ExpandedTexts.{ExpandedTexts}
+use Rattle.kmin_expansions.specs.declared.expanded_trees.ExpandedTexts.{ExpandedTexts}
 use Rattle.kmin_inputs.specs.FileContents.{Surroundings, AreTextsBelow}
 use Rattle.kmin_inputs.specs.JobAnswers.{AreJobAnswers}
-use Rattle.kmin_trees.specs.JobTexts.{TreeTexts, AreExpandedTexts, AreTextsOfJob, as_they_are, expanded, expanded_texts}
+use Rattle.kmin_expansions.specs.JobTexts.{TreeTexts, AreExpandedTexts, AreTextsOfJob, as_they_are, expanded, expanded_texts}
 use Rattle.kmin_report.specs.FileNames.{named_texts}
-use Rattle.kmin_trees.specs.TreeFolders.{contents_below}
+use Rattle.kmin_expansions.specs.TreeFolders.{contents_below}
 use Rattle.kmin_report.specs.Reports.{ErrorLine, macro_notice_line}
 use Rattle.kmin_report.specs.StandardError.{SpelledBytes, TakesLines}
 use Rattle.kmin_trees.specs.Stops.{StopsInExpansion, StopsAtTree}
 use Rattle.kmin_trees.specs.Stops as stops
 use Rattle.kmin_trees.specs.MissingFiles.{MissesOnlyMissing}
-use Rattle.kmin_trees.specs.between.ExpansionStops.{StopsExpanding}
+use Rattle.kmin_expansions.specs.between.ExpansionStops.{StopsExpanding}
 use Rattle.kmin_trees.specs.between.ExpandedStops.{StopsAtExpanded}
 use Rattle.kmin_trees.specs.between.ExpandedStops as expanded_stops
-use Rattle.kmin_trees.specs.between.ExpansionStops as expanding
+use Rattle.kmin_expansions.specs.between.ExpansionStops as expanding
 use Rattle.kmin_report.specs.between.RunErrors.{status_of}
 use Rattle.kmin_trees.specs.between.TreeStops.{StopsAtTexts}
 use Rattle.kmin_trees.specs.between.TreeStops as tree_stops

@@ -1,12 +1,8 @@
 pub mod TreeResults
 pub mod TextGrowth
 pub mod MissingFiles
-pub mod TreeFolders
-pub mod ExpandedTexts
 pub mod UnfailedStops
 pub mod FileNameLemmas
-pub mod ListedQuestions
 pub mod JobTrees
 pub mod PathLists
 pub mod KnownTrees
-pub mod KnownExpansions

@@ -5,8 +5,8 @@ use Rattle.kc_macros_model.specs.AnswerFiles.{RecordedAnswers}
 use Rattle.kc_files.specs.TreeContents.{TreeContents}
 use Rattle.kmin_report.specs.Reports.{ErrorLine}
 use Rattle.kmin_trees.specs.between.TreeStops.{StopsAtTexts, at_texts, for_memory}
-use Rattle.kmin_trees.specs.between.ExpansionStops.{StopsExpanding}
-use Rattle.kmin_trees.specs.between.ExpansionStops as expanding
+use Rattle.kmin_expansions.specs.between.ExpansionStops.{StopsExpanding}
+use Rattle.kmin_expansions.specs.between.ExpansionStops as expanding
 
 -- texts that end a run don't end it with the status of a failure
 pub texts_unfailed : (texts names : Files) (first : List ℕ) (status : ℕ) (lines : List ErrorLine) → StopsAtTexts texts names first status lines

@@ -1,10 +1,6 @@
 pub mod AcceptedTrees
-pub mod TreeFolders
-pub mod JobTexts
 pub mod LinedTrees
 pub mod Stops
 pub mod MissingFiles
 pub mod KnownTrees
-pub mod KnownExpansions
-pub mod WantedQuestions
 pub mod between

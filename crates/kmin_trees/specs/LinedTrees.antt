@@ -5,7 +5,7 @@ use Rattle.kc_tree_model.specs.TreeFiles.{Files}
 use Rattle.kc_builder.specs.between.TreeLines.{IsTreeWithLines}
 use Rattle.kc_rules.specs.between.SettledViews.{tree_of_settled, tree_model_of}
 use Rattle.kmin_trees.specs.AcceptedTrees.{AreAccepted}
-use Rattle.kmin_trees.specs.JobTexts.{TreeTexts}
+use Rattle.kmin_expansions.specs.JobTexts.{TreeTexts}
 use Rattle.kmin_trees.specs.declared.lined_trees.LinedTree.{LinedTree}
 
 -- a name of a file as a text; the empty one if it isn't UTF-8

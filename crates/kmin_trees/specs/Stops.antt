@@ -13,9 +13,9 @@ use Rattle.kc_expansion.specs.Expansions.{IsCountedExpansion}
 use Rattle.kmin_options.specs.Jobs.{Expansion, Settings}
 use Rattle.kmin_inputs.specs.FileContents.{Surroundings}
 use Rattle.kmin_inputs.specs.JobAnswers.{AreJobAnswers}
-use Rattle.kmin_trees.specs.JobTexts.{TreeTexts, AreTextsOfJob}
+use Rattle.kmin_expansions.specs.JobTexts.{TreeTexts, AreTextsOfJob}
 use Rattle.kmin_trees.specs.MissingFiles.{MissesOnlyMissing}
-use Rattle.kmin_trees.specs.TreeFolders.{contents_below}
+use Rattle.kmin_expansions.specs.TreeFolders.{contents_below}
 use Rattle.kmin_inputs.specs.AnswerStops.{StopsAmongAnswers}
 use Rattle.kmin_report.specs.Reports.{ErrorLine, tree_fault_line, tree_cycle_line, macro_fault_line, macro_notice_line}
 

@@ -6,7 +6,7 @@ ghost use Rattle.kmin_report.specs.Reports.{ErrorLine};
 ghost use Rattle.kc_files.specs.TreeContents.{HasRisen};
 ghost use Rattle.kmin_report.specs.StandardError.{TakesLines};
 ghost use Rattle.kmin_report.specs.between.RunErrors.{status_of};
-ghost use Rattle.kmin_trees.specs.JobTexts.{TreeTexts, AreTextsOfJob};
+ghost use Rattle.kmin_expansions.specs.JobTexts.{TreeTexts, AreTextsOfJob};
 ghost use Rattle.kmin_trees.specs.LinedTrees.{IsLinedTree, name_text, names_by_number};
 ghost use Rattle.kmin_trees.specs.Stops.{StopsAtTree};
 ghost use Rattle.kmin_trees.specs.between.FileNames.{names_of, text_at};

@@ -24,6 +24,7 @@ use kmin_options::{
     ExplainJob, Job, OutputJob, Questions, Refusal, Settings, Task, TidyJob, Verb, check_inputs,
     expansion_if_given, expansion_of, is_given, name_prefix_of, value_of, values_of,
 };
+use kmin_records::OutputForm;
 use std::alloc::{AllocError, Global};
 
 /// The words after the program's name, parsed.
@@ -121,7 +122,7 @@ fn named_job<'a>(
     }
 }
 
-/// A command over one configuration that is written or listed, or with `--long` or `--by-cause` explained; or the message for a value
+/// A command over one configuration that is written or listed, or whose symbols are listed with reasons; or the message for a value
 /// that isn't allowed.
 fn parsed_listing<'a>(
     alloc: Global,
@@ -130,7 +131,7 @@ fn parsed_listing<'a>(
 ) -> Result<ParsedWords<'a>, AllocError>
     ensures { IfOk result (parsed.IsListing name.now (found_of matches.now)) }
 {
-    if asks_for_reasons(matches) {
+    if asks_for_reasons(name, matches) {
         parsed_reasons(alloc, name, matches)
     } else {
         parsed_job(alloc, name, matches)
@@ -288,6 +289,7 @@ pub(crate) fn settings_of<'a>(
         strict: is_given(matches, "strict"),
         expansion,
         messages: form_of(value_of(matches, "messages")),
+        output_form: output_form_of(value_of(matches, "format")),
     })
 }
 
@@ -334,6 +336,16 @@ fn form_of(value: &str) -> Option<Form>
         "long" => Some(Form::Long),
         "json" => Some(Form::Json),
         _ => None,
+    }
+}
+
+/// The form of what is listed that a value of `--format` names.
+fn output_form_of(value: &str) -> OutputForm
+    ensures { result ≡ parsed.output_form_of value.now }
+{
+    match value {
+        "json" => OutputForm::Json,
+        _ => OutputForm::Plain,
     }
 }
 

@@ -7,14 +7,22 @@ ghost use Rattle.kmin_words.specs.between.WordValues as parsed;
 
 use crate::command_line::settings_of;
 use clap::ArgMatches;
-use kmin_options::{ExplainJob, MissedForm, Question, Refusal, is_given, values_of};
+use kmin_options::{ExplainJob, MissedForm, Question, Refusal, is_given, value_of, values_of};
 use std::alloc::Global;
 
-/// Whether a command is asked for reasons: `--long` or `--by-cause` is given, which no command has but `missed` and `check`.
-pub(crate) fn asks_for_reasons(matches: &ArgMatches<'_>) -> bool
-    ensures { result ≡ parsed.asks_for_reasons (found_of matches.now) }
+/// Whether the command with this name is asked for reasons: `--long` or `--by-cause` is given, or records are asked of it, which have
+/// them. No other command comes here with one of these but `compare`, whose records have none.
+pub(crate) fn asks_for_reasons(name: &str, matches: &ArgMatches<'_>) -> bool
+    ensures { result ≡ parsed.asks_for_reasons name.now (found_of matches.now) }
 {
-    is_given(matches, "long") || is_given(matches, "by-cause")
+    is_given(matches, "long") || is_given(matches, "by-cause") || asks_for_records(name, matches)
+}
+
+/// Whether the command with this name, another one than `compare`, is asked for records.
+fn asks_for_records(name: &str, matches: &ArgMatches<'_>) -> bool
+    ensures { result ≡ parsed.asks_for_records name.now (found_of matches.now) }
+{
+    name != "compare" && value_of(matches, "format") == "json"
 }
 
 /// What the command with this name, `missed` or `check`, asks of reasons.

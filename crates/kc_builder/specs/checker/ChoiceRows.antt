@@ -1,28 +1,17 @@
 -- The rows of choices.
-use Rattle.std.specs.Prelude.{◌≡◌, ℕ, ◌<◌, Bool, List, [], ◌∷◌, length, reverse, slice_get, Some, option_map}
+use Rattle.std.specs.Prelude.{◌≡◌, ℕ, ◌<◌, Bool, List, [], ◌∷◌, length, slice_get, Some, option_map, if◌then◌else◌}
 use Rattle.std.specs.List.{list_any}
 use Rattle.kc_tokens.specs.declared.language.Language.{Language}
 use Rattle.kc_expr.specs.between.Arena.{Exprs, node_expr}
-use Rattle.kc_tree_model.specs.Blocks.{Group, opens_choice}
+use Rattle.kc_tree_model.specs.Blocks.{opens_choice}
 use Rattle.kc_tree_model.specs.Conditions.{GroupInContext, context_of, prompts_of}
 use Rattle.kc_tree_model.specs.Contents.{is_optional_group}
 use Rattle.kc_listing.specs.declared.listing.Group.{Group as CodeGroup}
 use Rattle.kc_listing.specs.declared.listing.Line.{Line as CodeLine}
-use Rattle.kc_listing.specs.declared.listing.Listing.{Listing}
-use Rattle.kc_listing.specs.between.ListingView.{RepresentsListing}
 use Rattle.kc_checks.specs.between.Attributes.{is_optional_code}
+use Rattle.kc_checks.specs.between.Summaries.{is_choice_code}
 use Rattle.kc_conditions.specs.between.Firsts.{first_prompt}
-use Rattle.kc_conditions.specs.between.Walks.{RepresentsAllConditions}
 use Rattle.kc_tree.specs.declared.parts.ChoiceRow.{ChoiceRow}
-use Rattle.kc_conditions.specs.declared.group_walk.GroupConditions.{GroupConditions}
-
--- a listing represents some statements, and `groups` and `conditions` the conditions of these and of their attributes
-pub record IsGoneThrough (l : Listing) (groups : List GroupConditions) (conditions : List ℕ) : Type 0 where
-  pub language : Language
-  pub exprs : Exprs
-  pub read : List Group
-  pub shows : RepresentsListing l read
-  pub walked : RepresentsAllConditions language exprs l.texts.items conditions (length conditions) (reverse groups) read
 
 -- whether the attribute of a line is `optional`
 abbrev pub is_optional_line : CodeLine → Bool
@@ -31,6 +20,10 @@ is_optional_line l = is_optional_code l.attribute
 -- the stored row of the choice that a group opens, from the group's attribute lines and their conditions
 abbrev pub choice_row : CodeGroup → List CodeLine → List ℕ → ChoiceRow
 choice_row g ls cs = record { file = g.file; line = g.line; prompt = first_prompt ls cs; optional = list_any is_optional_line ls }
+
+-- the stored rows of the choices that a group opens: one if it is a `choice`, else none
+abbrev pub group_rows : CodeGroup → List CodeLine → List ℕ → List ChoiceRow
+group_rows g ls cs = if is_choice_code g.head then choice_row g ls cs ∷ [] else []
 
 -- whether a group opens a choice
 abbrev pub opens : GroupInContext → Bool

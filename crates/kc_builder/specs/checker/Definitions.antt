@@ -4,6 +4,8 @@ use Rattle.kc_tokens.specs.declared.language.Language.{Language}
 use Rattle.kc_expr.specs.between.Arena.{Exprs, node_expr}
 use Rattle.kc_tree_model.specs.Conditions.{GroupInContext, context_of, dependency_of}
 use Rattle.kc_tree_model.specs.Contents.{Contents, definitions_of, symbol_of}
+use Rattle.kc_listing.specs.declared.listing.GroupHead.{GroupHead as CodeHead}
+use Rattle.kc_listing.specs.declared.listing.GroupHead.TheVariants as codes
 use Rattle.kc_listing.specs.declared.listing.Line.{Line as CodeLine}
 use Rattle.kc_listing.specs.declared.listing.SymbolTable.{SymbolTable}
 use Rattle.kc_tree.specs.between.Views.{default_view, range_view, reverse_dependency_view, DefaultFits, RangeFits, HasOperands, ReverseDependencyFits}
@@ -22,6 +24,11 @@ pub record HasDefinition (names : SymbolTable) (s : ℕ) (old new : Attributes) 
   pub impliers : HasAppended (target_key names Imply) (gathered_reverse_dependency names Imply s) old.impliers new.impliers lines conditions
   pub direct_keys : new.direct.keys.items ≡ old.direct.keys.items ++ s ∷ []
   pub direct_items : new.direct.items.items ≡ old.direct.items.items ++ dependency ∷ []
+
+-- `new` is `old` with what a statement gives symbols appended: what a definition gives, and nothing for another statement
+abbrev pub HasStatement : CodeHead → SymbolTable → (old new : Attributes) → List CodeLine → List ℕ → ℕ → Type 0
+HasStatement (codes.Config s) names old new ls cs d = HasDefinition names s old new ls cs d
+HasStatement w names old new ls cs d = new ≡ old
 
 -- the collected attributes, each under a symbol's number, represent those of all symbols, and their numbers are in range
 pub record AreAttributes (language : Language) (e : Exprs) (c : Contents) (a : Attributes) : Type 0 where

@@ -1,7 +1,6 @@
 -- The stored rows of the entries that groups make.
-use Rattle.std.specs.Prelude.{ℕ, ◌+◌, List, [], ◌∷◌, ◌++◌, Option, Some, None, option_map, option_to_list}
+use Rattle.std.specs.Prelude.{ℕ, Option, Some, None, option_map}
 use Rattle.kc_tree_model.specs.declared.keyword.Block.TheVariants as blocks
-use Rattle.kc_listing.specs.declared.listing.Group.{Group}
 use Rattle.kc_listing.specs.declared.listing.GroupHead.{GroupHead}
 use Rattle.kc_listing.specs.declared.listing.GroupHead.TheVariants as codes
 use Rattle.kc_tree.specs.declared.parts.EntryRow.{EntryRow}
@@ -20,14 +19,3 @@ entry_row (codes.Menu t) c n = Some (MenuBegins t c.dependency c.visible)
 entry_row (codes.Comment t) c n = Some (Comment t c.dependency)
 entry_row (codes.Ends blocks.Menu) c n = menu_end_row c
 entry_row w c n = None
-
--- the number of choices up to and including a statement, from the number of choices before it
-abbrev pub choices_after : GroupHead → ℕ → ℕ
-choices_after codes.Choice n = n + 1
-choices_after w n = n
-
--- the rows of the entries that groups make, in order; the number counts the choices before the first of these groups
-abbrev pub entries_from : ℕ → List Group → List GroupConditions → List EntryRow
-entries_from n [] cs = []
-entries_from n (g ∷ gs) [] = []
-entries_from n (g ∷ gs) (c ∷ cs) = option_to_list (entry_row g.head c n) ++ entries_from (choices_after g.head n) gs cs

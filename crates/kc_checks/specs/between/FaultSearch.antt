@@ -8,6 +8,7 @@ use Rattle.kc_tree_model.specs.TreeFaults.{faults_of_group, tree_faults}
 use Rattle.kc_listing.specs.declared.listing.Listing.{Listing}
 use Rattle.kc_listing.specs.between.ListingView.{RepresentsListing}
 use Rattle.kc_tree.specs.between.GroupedItems.{IsGrouped}
+use Rattle.kc_checks.specs.declared.search.Checks.{Checks}
 use Rattle.kc_checks.specs.between.Summaries.{read_before, enclosing_choice, member_keys_at, members_at}
 
 -- the number of choices that begin before the group of this number
@@ -35,6 +36,15 @@ AreSmall marks most = (s : ℕ) → slice_index marks s ≤ most
 -- no group of a listing before the one of this number has a fault in a language
 abbrev pub HaveNoFault : Language → Listing → ℕ → Type 0
 HaveNoFault language l i = (read : List Group) → RepresentsListing l read → slice_get (flat_map (faults_of_group language (contents_of read)) (groups_in_context (read_before i read))) 0 ≡ None
+
+-- the checks have found no fault in a language among the groups of a listing before the one of this number
+pub record AreFaultless (language : Language) (l : Listing) (i : ℕ) (c : Checks) : Type 0 where
+  pub few : c.choices ≤ i
+  pub members : HasMembers l c.members.starts.items c.members.items.items
+  pub many : length c.marks.items ≡ length l.names.symbols.items
+  pub small : AreSmall c.marks.items c.choices
+  pub counted : CountsChoices l i c.choices
+  pub none : HaveNoFault language l i
 
 -- the statements read have no fault in at least one language
 abbrev pub HasNoFaults : List Group → Type 0

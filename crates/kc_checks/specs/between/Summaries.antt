@@ -1,14 +1,16 @@
 -- Summaries of symbols and choices, before conditions are joined.
-use Rattle.std.specs.Prelude.{◌≡◌, ℕ, Bool, true, false, ◌-◌, ◌+◌, ◌==◌, List, [], ◌∷◌, drop, length, map, filter, flat_map, slice_get, slice_index_or, slice_range, Option, Some, None, option_and_then, option_to_list, nat_lt, if◌then◌else◌}
+use Rattle.std.specs.Prelude.{◌≡◌, ℕ, Bool, true, false, ◌&&◌, ◌-◌, ◌+◌, ◌==◌, List, [], ◌∷◌, drop, length, map, filter, filter_map, flat_map, slice_get, slice_index_or, slice_range, Option, Some, None, is_none, option_and_then, option_map, option_to_list, nat_lt, if◌then◌else◌}
 use Rattle.std.specs.Option.{option_or}
 use Rattle.kc_value.specs.declared.value.Kind.{Kind}
 use Rattle.kc_expr.specs.between.Arena.{Exprs}
 use Rattle.kc_expr.specs.Lookup.{index_of_name}
 use Rattle.kc_statements.specs.between.StatementViews.{attribute_in}
 use Rattle.kc_tree_model.specs.Statements.{type_of}
-use Rattle.kc_tree_model.specs.Blocks.{Group, defined_name}
+use Rattle.kc_tree_model.specs.Blocks.{Group, defined_name, opens_choice}
 use Rattle.kc_tree_model.specs.Conditions.{GroupInContext, groups_in_context, choice_among, attribute_values}
-use Rattle.kc_tree_model.specs.Contents.{Contents, begins_symbol, contents_of, choice_number, defines}
+use Rattle.kc_tree_model.specs.Contents.{Contents, begins_symbol, contents_of, choice_number, defines, is_first_definition}
+use Rattle.kc_tree_model.specs.declared.ids.Unit.{Unit as TreeUnit}
+use Rattle.kc_tree_model.specs.declared.ids.Unit.TheVariants.{Symbol as of_symbol, Choice as of_choice}
 use Rattle.kc_listing.specs.declared.listing.Group.{Group as CodeGroup}
 use Rattle.kc_listing.specs.declared.listing.Line.{Line as CodeLine}
 use Rattle.kc_listing.specs.declared.listing.Listing.{Listing}
@@ -132,20 +134,33 @@ member_key choice_at p = elim (choice_at p) [ None ↦ 0 | Some k ↦ k ]
 abbrev pub member_keys_at : (GroupInContext → Option ℕ) → Contents → GroupInContext → List ℕ
 member_keys_at choice_at c p = map (λ _. member_key choice_at p) (members_at choice_at c p)
 
--- the collected items are the symbols whose first definitions are in choices, each under the choice's number
-pub record AreOwnMembers (c : Contents) (m : ItemsWithKeys ℕ) : Type 0 where
-  pub member_keys : m.keys.items ≡ flat_map (member_keys_at (own_choice c) c) c.places
-  pub members : m.items.items ≡ flat_map (members_at (own_choice c) c) c.places
+-- the collected items are the symbols that some groups define where a function gives a choice, each under the choice's number
+pub record AreMembers (choice_at : GroupInContext → Option ℕ) (c : Contents) (places : List GroupInContext) (m : ItemsWithKeys ℕ) : Type 0 where
+  pub member_keys : m.keys.items ≡ flat_map (member_keys_at choice_at c) places
+  pub members : m.items.items ≡ flat_map (members_at choice_at c) places
 
--- a summary has the symbol summaries, enclosing choices and number of choices of the statements read
-pub record IsSummaryOf (c : Contents) (s : Summary) : Type 0 where
-  pub symbols : s.symbols.items ≡ map (summary_in c c.places) c.names
-  pub enclosing : s.enclosing.items ≡ map (enclosing_choice c) c.places
-  pub choices : s.choices ≡ length c.choices
+-- the choice that a group opens, as a unit; `None` if the group opens none
+abbrev pub choice_begun : Contents → GroupInContext → Option TreeUnit
+choice_begun c p = if opens_choice p.group then option_map of_choice (choice_number c p.group.number) else None
 
--- a summary has the symbol summaries, enclosing choices and number of choices of these groups
+-- the unit that begins with a group: the choice that the group opens, or the symbol that it defines, if that is the symbol's first
+-- definition and outside choices
+abbrev pub own_unit : Contents → GroupInContext → Option TreeUnit
+own_unit c p = elim (defined_name p.group) [ None ↦ choice_begun c p | Some name ↦ if is_first_definition c name p && is_none (enclosing_choice c p) then option_map of_symbol (index_of_name name c.names) else None ]
+
+-- a summary of some of the groups read: the symbols' summaries, the enclosing choices, how many choices these groups open, the
+-- members of choices by all these groups and by first definitions alone, and the units that begin with them
+pub record IsSummaryOf (c : Contents) (places : List GroupInContext) (s : Summary) : Type 0 where
+  pub symbols : s.symbols.items ≡ map (summary_in c places) c.names
+  pub enclosing : s.enclosing.items ≡ map (enclosing_choice c) places
+  pub choices : s.choices ≡ length (map (λ (p : GroupInContext). p.group.number) (filter (λ (p : GroupInContext). opens_choice p.group) places))
+  pub members : AreMembers (enclosing_choice c) c places s.members
+  pub own_members : AreMembers (own_choice c) c places s.own_members
+  pub units : s.units.items ≡ filter_map (own_unit c) places
+
+-- a summary is that of all these groups
 unfoldable pub IsSummary : List Group → Summary → Type 0
-IsSummary read s = IsSummaryOf (contents_of read) s
+IsSummary read s = IsSummaryOf (contents_of read) (groups_in_context read) s
 
 -- whether an optional group number is present and equals a number
 abbrev pub first_is : Option ℕ → ℕ → Bool

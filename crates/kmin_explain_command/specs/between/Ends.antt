@@ -5,7 +5,7 @@ use Rattle.kc_rules.specs.between.SettledViews.{tree_of_settled}
 use Rattle.kmin_options.specs.Jobs.{ExplainJob}
 use Rattle.kmin_report.specs.Reports.{ErrorLine, refused_line}
 use Rattle.kmin_report.specs.StandardError.{SpelledBytes, TakesLines}
-use Rattle.kmin_trees.specs.JobTexts.{TreeTexts}
+use Rattle.kmin_expansions.specs.JobTexts.{TreeTexts}
 use Rattle.kmin_trees.specs.LinedTrees.{IsLinedTree}
 use Rattle.kmin_trees.specs.declared.lined_trees.LinedTree.{LinedTree}
 use Rattle.kmin_answers.specs.between.LoadStops.{StopsOverTree}

@@ -10,17 +10,18 @@ use Rattle.kc_config.specs.ConfigStates.{Configured, tree_in}
 use Rattle.kc_builder.specs.between.TreeLines.{HasLines}
 use Rattle.kc_builder.specs.declared.tree_lines.TreeLines.{TreeLines}
 use Rattle.kc_config_reasons.specs.between.FileLines.{KeepsLines}
-use Rattle.kmin_explain.specs.Explanations.{SourcesModel, explained_in, is_one_hindered}
+use Rattle.kmin_explain.specs.Explanations.{SourcesModel, is_one_hindered}
 use Rattle.kmin_options.specs.Jobs.{explain_job_view, ExplainJob as GivenJob, Question}
 use Rattle.kmin_options.specs.declared.job.ExplainFlags.{ExplainFlags}
 use Rattle.kmin_options.specs.declared.job.ExplainJob.{ExplainJob}
+use Rattle.kmin_records.specs.declared.output_form.OutputForm.{OutputForm}
 use Rattle.kmin_report.specs.Reports.{refused_line}
 use Rattle.kmin_report.specs.StandardError.{SpelledBytes, TakesLines}
 use Rattle.kmin_trees.specs.declared.lined_trees.LinedTree.{LinedTree}
 use Rattle.kmin_answers.specs.between.Comparisons.{AreNoticed}
 use Rattle.kmin_answers.specs.between.LoadStops.{StopsNoticing}
 use Rattle.kmin_answers.specs.between.LoadResults.{lists_of}
-use Rattle.kmin_explain_command.specs.Explains.{AreExplainedFor, IsTextFor, IsUnknown, status_for, symbols_in}
+use Rattle.kmin_explain_command.specs.Explains.{AreExplainedFor, explained_text, IsTextFor, IsUnknown, status_for, symbols_in}
 use Rattle.kmin_explain_command.specs.Stops.{unknown_text}
 use Rattle.kmin_explain_command.specs.declared.lined_files.LinedFiles.{LinedFiles}
 
@@ -49,22 +50,22 @@ pub record AreOfSources (tree : LinedTree) (found : LinedFiles) (read : List Gro
   pub has : HasLines (tree_model_of found.read.config.system).exprs tree.lines read
   pub kept : AllZip (KeepsLines (tree_in found.read.config)) meanings found.lines.items
 
--- this is the text for some named symbols, with these flags
-abbrev pub IsTextOf : ExplainFlags → SourcesModel → (named : List ℕ) → (text : List ℕ) → Type 0
-IsTextOf flags g named text = (symbols : List ℕ) × AreExplainedFor flags.deep g named symbols × (text ≡ explained_in g flags.all symbols)
+-- this is the text in a form for some named symbols, with these flags
+abbrev pub IsTextOf : OutputForm → ExplainFlags → SourcesModel → (named : List ℕ) → (text : List ℕ) → Type 0
+IsTextOf form flags g named text = (symbols : List ℕ) × AreExplainedFor flags.deep g named symbols × (text ≡ explained_text form g flags.all symbols)
 
 -- and this is the status
 abbrev pub status_by : ExplainFlags → SourcesModel → (named : List ℕ) → ℕ
 status_by flags g named = if flags.exit_code && is_one_hindered g named then 1 else 0
 
 -- the text and the status for a question, of `explain` for these named symbols
-pub record IsAnswerFor (question : Question) (g : SourcesModel) (named : List ℕ) (text : List ℕ) (status : ℕ) : Type 0 where
-  pub text_is : IsTextFor question g named text
+pub record IsAnswerFor (form : OutputForm) (question : Question) (g : SourcesModel) (named : List ℕ) (text : List ℕ) (status : ℕ) : Type 0 where
+  pub text_is : IsTextFor form question g named text
   pub status_is : status ≡ status_for question g named
 
 -- the text and the status for the symbols of a job, whether or not each of its names means one
 abbrev pub IsAnswerOf : GivenJob → SourcesModel → (text : List ℕ) → (status : ℕ) → Type 0
-IsAnswerOf job g text status = IsAnswerFor job.question g (symbols_in job g.tree) text status
+IsAnswerOf job g text status = IsAnswerFor job.settings.output_form job.question g (symbols_in job g.tree) text status
 
 -- `explain` ends, once its files are read: at the choices of their configuration, or after the notices on these for a name that means
 -- no symbol, or since memory runs out

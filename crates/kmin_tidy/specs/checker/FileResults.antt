@@ -1,8 +1,9 @@
 -- Results of a file that was read, and of a run that ends early.
 use Rattle.std.specs.Prelude.{◌≡◌, ◌≢◌, ◌⊎◌, ℕ, Bool, true, false, List, [], ◌∷◌, ◌++◌, Some, None, string_bytes}
 use Rattle.kmin_disk.specs.Disks.{Disk, MayFailOnce, IsUnchanged, Replaces}
+use Rattle.kmin_records.specs.declared.output_form.OutputForm.{OutputForm}
 use Rattle.kmin_tidy.specs.Options.{Settings}
-use Rattle.kmin_tidy.specs.Reports.{difference_line}
+use Rattle.kmin_tidy.specs.Reports.{file_line}
 use Rattle.kmin_tidy.specs.Steps.{IsUnwritten, IsUnsynced}
 use Rattle.kmin_tidy.specs.Ends.{IsToBeReplaced, LeavesNewFile}
 use Rattle.kmin_tidy.specs.Runs.{Tidies}
@@ -14,19 +15,19 @@ use Rattle.kmin_tidy.specs.declared.stop.Stop.TheVariants.{Memory, Left}
 use Rattle.kmin_report.specs.Reports.{ErrorLine}
 
 -- an accepted file of these bytes is compared with its minimal file `least`, and replaced by it if they differ and `write` is
--- true: the disk after it, its line of standard output, and its outcome and problem
-pub data IsRewritten (write : Bool) (old new : Disk) (path bytes least line : List ℕ) (end : FileEnd) : Type 0 where
+-- true: the disk after it, its line of standard output in a form, and its outcome and problem
+pub data IsRewritten (form : OutputForm) (write : Bool) (old new : Disk) (path bytes least line : List ℕ) (end : FileEnd) : Type 0 where
   same : least ≡ bytes → new ≡ old → line ≡ [] → end.problem ≡ None → end.outcome ≡ Minimal
-      → IsRewritten write old new path bytes least line end
-  shown : least ≢ bytes → write ≡ false → new ≡ old → line ≡ difference_line path bytes least → end.problem ≡ None
-      → end.outcome ≡ NotMinimal → IsRewritten write old new path bytes least line end
+      → IsRewritten form write old new path bytes least line end
+  shown : least ≢ bytes → write ≡ false → new ≡ old → line ≡ file_line form path bytes least → end.problem ≡ None
+      → end.outcome ≡ NotMinimal → IsRewritten form write old new path bytes least line end
   replaced : least ≢ bytes → write ≡ true → Replaces old.state new.state path least → new.failures ≡ old.failures
-      → line ≡ difference_line path bytes least → end.problem ≡ None → end.outcome ≡ Minimal
-      → IsRewritten write old new path bytes least line end
+      → line ≡ file_line form path bytes least → end.problem ≡ None → end.outcome ≡ Minimal
+      → IsRewritten form write old new path bytes least line end
   unwritten : least ≢ bytes → write ≡ true → IsUnwritten old new path → line ≡ [] → end.problem ≡ Some Write
-      → end.outcome ≡ Failed → IsRewritten write old new path bytes least line end
-  unsynced : least ≢ bytes → write ≡ true → IsUnsynced old new path least → line ≡ difference_line path bytes least
-      → end.problem ≡ Some Write → end.outcome ≡ Failed → IsRewritten write old new path bytes least line end
+      → end.outcome ≡ Failed → IsRewritten form write old new path bytes least line end
+  unsynced : least ≢ bytes → write ≡ true → IsUnsynced old new path least → line ≡ file_line form path bytes least
+      → end.problem ≡ Some Write → end.outcome ≡ Failed → IsRewritten form write old new path bytes least line end
 
 -- a file was replaced by its minimal file, or couldn't be: the disk after it, its outcome and problem, and whether it was
 pub data IsWritten (old new : Disk) (path least : List ℕ) (end : FileEnd) : Type 0 where

@@ -3,7 +3,7 @@ use Rattle.std.specs.Prelude.{◌≡◌, ℕ, List, ◌++◌}
 use Rattle.kc_tokens.specs.declared.language.Language.{Language}
 use Rattle.kmin_options.specs.Jobs.{Expansion}
 use Rattle.kmin_inputs.specs.FileContents.{Surroundings}
-use Rattle.kmin_trees.specs.JobTexts.{TreeTexts, AreExpandedTexts}
+use Rattle.kmin_expansions.specs.JobTexts.{TreeTexts, AreExpandedTexts}
 use Rattle.kmin_trees.specs.Stops.{StopsInExpansion}
 use Rattle.kmin_trees.specs.between.TreeStops.{StopsAtTexts}
 use Rattle.kmin_report.specs.Reports.{ErrorLine}

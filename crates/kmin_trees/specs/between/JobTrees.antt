@@ -4,7 +4,7 @@ use Rattle.kc_tree.specs.TreeModel.{TreeModel}
 use Rattle.kc_tree_model.specs.TreeFiles.{Files}
 use Rattle.kc_rules.specs.between.SettledViews.{tree_of_settled, tree_model_of}
 use Rattle.kmin_trees.specs.AcceptedTrees.{AreAccepted}
-use Rattle.kmin_trees.specs.JobTexts.{TreeTexts}
+use Rattle.kmin_expansions.specs.JobTexts.{TreeTexts}
 use Rattle.kmin_trees.specs.between.FileNames.{texts_named}
 use Rattle.kmin_trees.specs.declared.job_trees.JobTree.{JobTree}
 

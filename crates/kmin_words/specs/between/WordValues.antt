@@ -13,6 +13,8 @@ use Rattle.kc_dotconfig_model.specs.declared.format.Strings.TheVariants.{Escaped
 use Rattle.kc_value.specs.Lines.{has_newline}
 use Rattle.kmin_messages.specs.declared.message.Form.{Form}
 use Rattle.kmin_messages.specs.declared.message.Form.TheVariants.{Long, Json}
+use Rattle.kmin_records.specs.declared.output_form.OutputForm.{OutputForm}
+use Rattle.kmin_records.specs.declared.output_form.OutputForm.TheVariants.{Plain, Json as RecordLines}
 use Rattle.kmin_options.specs.declared.job.TidyFlags.{TidyFlags}
 use Rattle.kmin_options.specs.declared.job.ExplainFlags.{ExplainFlags}
 use Rattle.kmin_options.specs.declared.job.MissedForm.{MissedForm}
@@ -46,6 +48,10 @@ strings_of value = if bytes_eq value (codes "raw") then Raw else Escaped
 -- the form of messages for a value of `--messages`; None for plain ones
 abbrev pub form_of : List ℕ → Option Form
 form_of value = if bytes_eq value (codes "long") then Some Long else (if bytes_eq value (codes "json") then Some Json else None)
+
+-- the form of what is listed for a value of `--format`: `Json` for `json`, and `Plain` for any other
+abbrev pub output_form_of : List ℕ → OutputForm
+output_form_of value = if bytes_eq value (codes "json") then RecordLines else Plain
 
 -- the Kconfig language for a value of `--language`; without one that of Linux if macros are expanded, and the strict one if not
 abbrev pub language_of : List ℕ → (is_expanded : Bool) → Language
@@ -82,6 +88,7 @@ settings_of found paths =
       strict = is_given found (codes "strict");
       expansion = expansion;
       messages = form_of (value_of found (codes "messages"));
+      output_form = output_form_of (value_of found (codes "format"));
     }))))
 
 -- the options of a command, and the command with this name and its files
@@ -186,9 +193,13 @@ explain_job_of found =
     and_then (settings_of found (explained_files_of found)) (λ settings.
     Ok (record { settings = settings; question = explain (explain_flags_of found) (names_of found); files = explained_files_of found }))
 
--- whether a command is asked for reasons: `--long` or `--by-cause` is given, which no command has but `missed` and `check`
-abbrev pub asks_for_reasons : Found → Bool
-asks_for_reasons found = is_given found (codes "long") || is_given found (codes "by-cause")
+-- whether the command with this name, another one than `compare`, is asked for records
+abbrev pub asks_for_records : List ℕ → Found → Bool
+asks_for_records name found = not (bytes_eq name (codes "compare")) && bytes_eq (value_of found (codes "format")) (codes "json")
+
+-- whether the command with this name is asked for reasons: `--long` or `--by-cause` is given, or records are asked of it, which have them
+abbrev pub asks_for_reasons : List ℕ → Found → Bool
+asks_for_reasons name found = (is_given found (codes "long") || is_given found (codes "by-cause")) || asks_for_records name found
 
 -- the form in which `missed` says why symbols don't have their assigned values
 abbrev pub missed_form_of : Found → MissedForm
@@ -247,7 +258,7 @@ IsExplainJob found words = ⊥
 -- of this name that writes or lists; or the message with which a value is refused
 abbrev pub IsListing : (name : List ℕ) → Found → ParsedWords → Type 0
 IsListing name found words =
-    elim (asks_for_reasons found) [ true ↦ IsExplainJob (reasons_job_of name found) words | false ↦ AreJob (job_and_output_of name found) words ]
+    elim (asks_for_reasons name found) [ true ↦ IsExplainJob (reasons_job_of name found) words | false ↦ AreJob (job_and_output_of name found) words ]
 
 -- parsed words are the command of this name with the values that were found, or the message with which one is refused
 abbrev pub HasValues : (name : List ℕ) → Found → ParsedWords → Type 0

@@ -3,6 +3,7 @@ use Rattle.std.proofs.lemmas.Grind.{common_steps, elements}
 use Rattle.std.proofs.lemmas.Option.{slice_get-get_or}
 use Rattle.kc_system.specs.checker.Logs.{logged_units}
 use Rattle.kc_system.specs.checker.PendingPlaces.{is_pending}
+use Rattle.kc_system.proofs.ErrorExits.{no_success, no_value}
 use Rattle.kc_system.proofs.Lists.{decided}
 use Rattle.kc_system.proofs.Sets.{emptied}
 use Rattle.kc_system.proofs.Undo.{undoes_none}
@@ -84,36 +85,40 @@ loop-place-preserved g c =
           was.revising.done _ revised.0.done revised.1 was.recorded now.records;
     }
 
-pub returns-clause-solves : goal.returns-clause-solves
-returns-clause-solves g c =
-    let none = emptied (is_pending c.loop-place.pending) (λ k. (c.in_default.ensures.takes k).0) in
-    (ended (g.S.Graph.size c.args.plan.now.system.now) (g.S.Graph.dependencies c.args.plan.now.system.now) (g.S.System.rule c.args.plan.now.system.now)
-    (g.S.System.fits_user c.args.plan.now.system.now) c.args.plan.now.order.now c.args.plan.now.places.items
-    c.requires.plan.ordered c.requires.plan.places_are (g.met.S.System.frame c.args.plan.now.system.now) (decided _ g.met.S.System.equal_values)
-    c.args.users.now c.requires.users.1 (is_pending c.args.pending.now) c.args.values.now
-    c.loop-place.values (is_pending c.loop-place.pending) (logged_units c.loop-place.log.items) c.loop-place.evaluated c.requires.fits.0 none c.requires.holds
-    c.loop-place.invariant.revising).0
-
-pub returns-clause-evaluated : goal.returns-clause-evaluated
-returns-clause-evaluated g c =
-    let none = emptied (is_pending c.loop-place.pending) (λ k. (c.in_default.ensures.takes k).0) in
-    (ended (g.S.Graph.size c.args.plan.now.system.now) (g.S.Graph.dependencies c.args.plan.now.system.now) (g.S.System.rule c.args.plan.now.system.now)
-    (g.S.System.fits_user c.args.plan.now.system.now) c.args.plan.now.order.now c.args.plan.now.places.items
-    c.requires.plan.ordered c.requires.plan.places_are (g.met.S.System.frame c.args.plan.now.system.now) (decided _ g.met.S.System.equal_values)
-    c.args.users.now c.requires.users.1 (is_pending c.args.pending.now) c.args.values.now
-    c.loop-place.values (is_pending c.loop-place.pending) (logged_units c.loop-place.log.items) c.loop-place.evaluated c.requires.fits.0 none c.requires.holds
-    c.loop-place.invariant.revising).1
-
-pub returns-clause-recorded : goal.returns-clause-recorded
-returns-clause-recorded g c =
-    let none = emptied (is_pending c.loop-place.pending) (λ k. (c.in_default.ensures.takes k).0) in
-    let end = ended (g.S.Graph.size c.args.plan.now.system.now) (g.S.Graph.dependencies c.args.plan.now.system.now) (g.S.System.rule c.args.plan.now.system.now)
-    (g.S.System.fits_user c.args.plan.now.system.now) c.args.plan.now.order.now c.args.plan.now.places.items
-    c.requires.plan.ordered c.requires.plan.places_are (g.met.S.System.frame c.args.plan.now.system.now) (decided _ g.met.S.System.equal_values)
-    c.args.users.now c.requires.users.1 (is_pending c.args.pending.now) c.args.values.now
-    c.loop-place.values (is_pending c.loop-place.pending) (logged_units c.loop-place.log.items) c.loop-place.evaluated c.requires.fits.0 none c.requires.holds
-    c.loop-place.invariant.revising in
-    recorded_each _ _ _ _ _ _ end.1 end.2 c.loop-place.invariant.recorded
+pub returns : goal.returns
+returns g c = record {
+  solves =
+      (let none = emptied (is_pending c.loop-place.pending) (λ k. (c.in_default.ensures.takes k).0) in
+      (ended (g.S.Graph.size c.args.plan.now.system.now) (g.S.Graph.dependencies c.args.plan.now.system.now) (g.S.System.rule c.args.plan.now.system.now)
+      (g.S.System.fits_user c.args.plan.now.system.now) c.args.plan.now.order.now c.args.plan.now.places.items
+      c.requires.plan.ordered c.requires.plan.places_are (g.met.S.System.frame c.args.plan.now.system.now) (decided _ g.met.S.System.equal_values)
+      c.args.users.now c.requires.users.1 (is_pending c.args.pending.now) c.args.values.now
+      c.loop-place.values (is_pending c.loop-place.pending) (logged_units c.loop-place.log.items) c.loop-place.evaluated c.requires.fits.0 none c.requires.holds
+      c.loop-place.invariant.revising).0);
+  evaluated =
+      (let none = emptied (is_pending c.loop-place.pending) (λ k. (c.in_default.ensures.takes k).0) in
+      (ended (g.S.Graph.size c.args.plan.now.system.now) (g.S.Graph.dependencies c.args.plan.now.system.now) (g.S.System.rule c.args.plan.now.system.now)
+      (g.S.System.fits_user c.args.plan.now.system.now) c.args.plan.now.order.now c.args.plan.now.places.items
+      c.requires.plan.ordered c.requires.plan.places_are (g.met.S.System.frame c.args.plan.now.system.now) (decided _ g.met.S.System.equal_values)
+      c.args.users.now c.requires.users.1 (is_pending c.args.pending.now) c.args.values.now
+      c.loop-place.values (is_pending c.loop-place.pending) (logged_units c.loop-place.log.items) c.loop-place.evaluated c.requires.fits.0 none c.requires.holds
+      c.loop-place.invariant.revising).1);
+  recorded =
+      (let none = emptied (is_pending c.loop-place.pending) (λ k. (c.in_default.ensures.takes k).0) in
+      let end = ended (g.S.Graph.size c.args.plan.now.system.now) (g.S.Graph.dependencies c.args.plan.now.system.now) (g.S.System.rule c.args.plan.now.system.now)
+      (g.S.System.fits_user c.args.plan.now.system.now) c.args.plan.now.order.now c.args.plan.now.places.items
+      c.requires.plan.ordered c.requires.plan.places_are (g.met.S.System.frame c.args.plan.now.system.now) (decided _ g.met.S.System.equal_values)
+      c.args.users.now c.requires.users.1 (is_pending c.args.pending.now) c.args.values.now
+      c.loop-place.values (is_pending c.loop-place.pending) (logged_units c.loop-place.log.items) c.loop-place.evaluated c.requires.fits.0 none c.requires.holds
+      c.loop-place.invariant.revising in
+      recorded_each _ _ _ _ _ _ end.1 end.2 c.loop-place.invariant.recorded);
+  size = c.pop_first.ensures.size ∙ c.loop-place.invariant.size;
+  done = λ k. (c.in_default.ensures.takes k).1;
+  fits = c.loop-place.invariant.fits;
+  undo = c.loop-place.invariant.undo;
+  steps = c.loop-place.invariant.steps;
+  logged = grind (arith, elements);
+}
 
 pub bounds-order-place : goal.bounds-order-place
 bounds-order-place g c = (c.loop-place.invariant.revising.ahead c.in-Some.place c.in-Some.ensures.takes.member).1
@@ -130,32 +135,21 @@ revise_unit-requires-clause-values g c = c.loop-place.invariant.fits
 pub revise_unit-requires-clause-size : goal.revise_unit-requires-clause-size
 revise_unit-requires-clause-size g c = c.pop_first.ensures.size ∙ c.loop-place.invariant.size ∙ c.requires.size
 
-pub returns-in_err-revise_unit-clause-size : goal.returns-in_err-revise_unit-clause-size
-returns-in_err-revise_unit-clause-size g c = c.revise_unit.ensures.size ∙ c.pop_first.ensures.size ∙ c.loop-place.invariant.size
-
-pub returns-in_err-revise_unit-clause-undo : goal.returns-in_err-revise_unit-clause-undo
-returns-in_err-revise_unit-clause-undo g c = c.revise_unit.ensures.undo c.args.values.now c.loop-place.invariant.undo
-
-pub returns-clause-size : goal.returns-clause-size
-returns-clause-size g c = c.pop_first.ensures.size ∙ c.loop-place.invariant.size
-
-pub returns-clause-done : goal.returns-clause-done
-returns-clause-done g c = λ k. (c.in_default.ensures.takes k).1
-
-pub returns-clause-fits : goal.returns-clause-fits
-returns-clause-fits g c = c.loop-place.invariant.fits
-
-pub returns-clause-undo : goal.returns-clause-undo
-returns-clause-undo g c = c.loop-place.invariant.undo
-
-pub returns-clause-steps : goal.returns-clause-steps
-returns-clause-steps g c = c.loop-place.invariant.steps
+pub returns-in_err-revise_unit : goal.returns-in_err-revise_unit
+returns-in_err-revise_unit g c = record {
+  size = c.revise_unit.ensures.size ∙ c.pop_first.ensures.size ∙ c.loop-place.invariant.size;
+  done = no_success c.from_residual.result _ _ c.from_residual.ensures.1;
+  solves = no_success c.from_residual.result _ _ c.from_residual.ensures.1;
+  fits = no_success c.from_residual.result _ _ c.from_residual.ensures.1;
+  undo = c.revise_unit.ensures.undo c.args.values.now c.loop-place.invariant.undo;
+  logged = no_success c.from_residual.result _ _ c.from_residual.ensures.1;
+  evaluated = no_value c.from_residual.result _ _ c.from_residual.ensures.1;
+  steps = no_value c.from_residual.result _ _ c.from_residual.ensures.1;
+  recorded = no_success c.from_residual.result _ _ c.from_residual.ensures.1;
+}
 
 pub offset_bounds-order-place : goal.offset_bounds-order-place
 offset_bounds-order-place g c = grind (arith, common_steps)
 
 pub overflow_cast-u : goal.overflow_cast-u
 overflow_cast-u g c = grind (arith, common_steps)
-
-pub returns-clause-logged : goal.returns-clause-logged
-returns-clause-logged g c = grind (arith, elements)

@@ -6,10 +6,31 @@ use Rattle.std.proofs.lemmas.List.Elements.{Contains-get_or}
 use Rattle.kc_system.specs.checker.PendingPlaces.{is_pending}
 use Rattle.kc_system.specs.checker.Rows.{AreDependents}
 use Rattle.kc_system.specs.Solutions.{user_of}
+use Rattle.kc_system.proofs.ErrorExits.{no_success}
 use Rattle.kc_system.proofs.Lists.{each_set}
 use Rattle.kc_system.proofs.UserChanges.{place_inside}
 use Rattle.kc_system.proofs.Revisions.{marks_dependents}
 use Rattle.kc_system.proofs.revision.revise_unit.Goals as goal
+
+pub returns-in_err-value : goal.returns-in_err-value
+returns-in_err-value g c = record {
+  size = refl;
+  revises = no_success c.from_residual.result _ _ c.from_residual.ensures.1;
+  fits = no_success c.from_residual.result _ _ c.from_residual.ensures.1;
+  undo = λ old undoes. undoes;
+  step = c.evaluate.ensures.step;
+  records = no_success c.from_residual.result _ _ c.from_residual.ensures.1;
+}
+
+pub returns-in_err-write_logged : goal.returns-in_err-write_logged
+returns-in_err-write_logged g c = record {
+  size = c.mark.ensures.size;
+  revises = no_success c.from_residual-in_err-write_logged.result _ _ c.from_residual-in_err-write_logged.ensures.1;
+  fits = no_success c.from_residual-in_err-write_logged.result _ _ c.from_residual-in_err-write_logged.ensures.1;
+  undo = c.write_logged.ensures.undo;
+  step = c.evaluate.ensures.step;
+  records = no_success c.from_residual-in_err-write_logged.result _ _ c.from_residual-in_err-write_logged.ensures.1;
+}
 
 pub mark-requires-clause-units : goal.mark-requires-clause-units
 mark-requires-clause-units g c = λ k d h.
@@ -27,41 +48,52 @@ mark-requires-clause-places g c = λ w p e.
     c.args.plan.now.places.items c.requires.plan.ordered c.requires.plan.places_are w p (rw c.deref.ensures.value at e) in
     omega (arith, inside, c.requires.size)
 
-pub returns-in_ok-write_logged-clause-revises : goal.returns-in_ok-write_logged-clause-revises
-returns-in_ok-write_logged-clause-revises g c =
-    let size = g.S.Graph.size c.args.plan.now.system.now in
-    let dependencies = g.S.Graph.dependencies c.args.plan.now.system.now in
-    let u = c.args.u in
-    let row = c.of.result.now in
-    let values = c.args.values.now in
-    let value = c.in_ok-value.value in
-    let deps : AreDependents size dependencies u row = rw c.of.ensures.value (c.requires.plan.dependents_are.rows_are u c.requires.unit) in
-    let marks = marks_dependents size dependencies c.args.plan.now.places.items row (is_pending c.args.pending.now) (is_pending c.mark.new.pending) u
-    c.requires.plan.places_are.one_each deps (rw c.deref.ensures.value at c.mark.ensures.marks) in
-    let by_rule = c.in_ok-value.ensures.value in
-    let stored = get_or values u c.index-values-u.result in
-    let was : slice_get values u ≡ Some stored = slice_get-get_or values u c.index-values-u.result (omega (arith, c.requires.unit, c.requires.values.0)) in
-    let other : value ≢ stored = λ e. false≢true (sym (c.differs.ensures.1 e) ∙ c.if-differs.true) in
-    inr (
-      λ e. let both : Some stored ≡ Some (g.S.System.rule c.args.plan.now.system.now u (user_of c.args.users.now u) values) = sym was ∙ e in
-          let same : stored ≡ g.S.System.rule c.args.plan.now.system.now u (user_of c.args.users.now u) values = cc in other (by_rule ∙ sym same),
-      c.in_ok-write_logged.ensures.written ∙ ap (λ x. set values u x) by_rule,
-      c.in_ok-write_logged.ensures.logged,
-      marks,
-    )
+pub returns-in_ok-write_logged : goal.returns-in_ok-write_logged
+returns-in_ok-write_logged g c = record {
+  revises =
+      (let size = g.S.Graph.size c.args.plan.now.system.now in
+      let dependencies = g.S.Graph.dependencies c.args.plan.now.system.now in
+      let u = c.args.u in
+      let row = c.of.result.now in
+      let values = c.args.values.now in
+      let value = c.in_ok-value.value in
+      let deps : AreDependents size dependencies u row = rw c.of.ensures.value (c.requires.plan.dependents_are.rows_are u c.requires.unit) in
+      let marks = marks_dependents size dependencies c.args.plan.now.places.items row (is_pending c.args.pending.now) (is_pending c.mark.new.pending) u
+      c.requires.plan.places_are.one_each deps (rw c.deref.ensures.value at c.mark.ensures.marks) in
+      let by_rule = c.in_ok-value.ensures.value in
+      let stored = get_or values u c.index-values-u.result in
+      let was : slice_get values u ≡ Some stored = slice_get-get_or values u c.index-values-u.result (omega (arith, c.requires.unit, c.requires.values.0)) in
+      let other : value ≢ stored = λ e. false≢true (sym (c.differs.ensures.1 e) ∙ c.if-differs.true) in
+      inr (
+        λ e. let both : Some stored ≡ Some (g.S.System.rule c.args.plan.now.system.now u (user_of c.args.users.now u) values) = sym was ∙ e in
+            let same : stored ≡ g.S.System.rule c.args.plan.now.system.now u (user_of c.args.users.now u) values = cc in other (by_rule ∙ sym same),
+        c.in_ok-write_logged.ensures.written ∙ ap (λ x. set values u x) by_rule,
+        c.in_ok-write_logged.ensures.logged,
+        marks,
+      ));
+  fits =
+      rw c.in_ok-write_logged.ensures.written (each_set (g.S.System.fits_value c.args.plan.now.system.now) c.args.values.now c.args.u _ c.in_ok-value.value
+      c.requires.values.0 c.requires.unit c.in_ok-value.ensures.fits c.requires.values.1);
+  size = c.mark.ensures.size;
+  undo = c.write_logged.ensures.undo;
+  step = c.evaluate.ensures.step;
+  records = c.in_ok-value.ensures.records;
+}
 
-pub returns-in_ok-write_logged-clause-fits : goal.returns-in_ok-write_logged-clause-fits
-returns-in_ok-write_logged-clause-fits g c =
-    rw c.in_ok-write_logged.ensures.written (each_set (g.S.System.fits_value c.args.plan.now.system.now) c.args.values.now c.args.u _ c.in_ok-value.value
-    c.requires.values.0 c.requires.unit c.in_ok-value.ensures.fits c.requires.values.1)
-
-pub returns-else-differs-clause-revises : goal.returns-else-differs-clause-revises
-returns-else-differs-clause-revises g c =
-    let u = c.args.u in
-    let values = c.args.values.now in
-    let stored = get_or values u c.index-values-u.result in
-    let was : slice_get values u ≡ Some stored = slice_get-get_or values u c.index-values-u.result (omega (arith, c.requires.unit, c.requires.values.0)) in
-    inl (was ∙ ap Some (sym (c.differs.ensures.0 c.if-differs.false) ∙ c.in_ok-value.ensures.value), refl, refl, refl)
+pub returns-else-differs : goal.returns-else-differs
+returns-else-differs g c = record {
+  revises =
+      (let u = c.args.u in
+      let values = c.args.values.now in
+      let stored = get_or values u c.index-values-u.result in
+      let was : slice_get values u ≡ Some stored = slice_get-get_or values u c.index-values-u.result (omega (arith, c.requires.unit, c.requires.values.0)) in
+      inl (was ∙ ap Some (sym (c.differs.ensures.0 c.if-differs.false) ∙ c.in_ok-value.ensures.value), refl, refl, refl));
+  size = refl;
+  fits = c.requires.values;
+  undo = λ old undoes. undoes;
+  step = c.evaluate.ensures.step;
+  records = c.in_ok-value.ensures.records;
+}
 
 pub evaluate-requires-clause-unit : goal.evaluate-requires-clause-unit
 evaluate-requires-clause-unit g c = c.requires.unit
@@ -72,15 +104,6 @@ evaluate-requires-clause-users g c = c.requires.users
 pub evaluate-requires-clause-values : goal.evaluate-requires-clause-values
 evaluate-requires-clause-values g c = c.requires.values
 
-pub returns-in_err-value-clause-size : goal.returns-in_err-value-clause-size
-returns-in_err-value-clause-size g c = refl
-
-pub returns-in_err-value-clause-undo : goal.returns-in_err-value-clause-undo
-returns-in_err-value-clause-undo g c = λ old undoes. undoes
-
-pub returns-in_err-value-clause-step : goal.returns-in_err-value-clause-step
-returns-in_err-value-clause-step g c = c.evaluate.ensures.step
-
 pub bounds-values-u : goal.bounds-values-u
 bounds-values-u g c = omega (arith, c.requires.unit, c.requires.values.0)
 
@@ -89,42 +112,6 @@ of-requires g c = record { there = omega (arith, c.requires.plan.dependents_are.
 
 pub write_logged-requires : goal.write_logged-requires
 write_logged-requires g c = record { there = omega (arith, c.requires.unit, c.requires.values.0) }
-
-pub returns-in_err-write_logged-clause-size : goal.returns-in_err-write_logged-clause-size
-returns-in_err-write_logged-clause-size g c = c.mark.ensures.size
-
-pub returns-in_err-write_logged-clause-undo : goal.returns-in_err-write_logged-clause-undo
-returns-in_err-write_logged-clause-undo g c = c.write_logged.ensures.undo
-
-pub returns-in_err-write_logged-clause-step : goal.returns-in_err-write_logged-clause-step
-returns-in_err-write_logged-clause-step g c = c.evaluate.ensures.step
-
-pub returns-in_ok-write_logged-clause-size : goal.returns-in_ok-write_logged-clause-size
-returns-in_ok-write_logged-clause-size g c = c.mark.ensures.size
-
-pub returns-in_ok-write_logged-clause-undo : goal.returns-in_ok-write_logged-clause-undo
-returns-in_ok-write_logged-clause-undo g c = c.write_logged.ensures.undo
-
-pub returns-in_ok-write_logged-clause-step : goal.returns-in_ok-write_logged-clause-step
-returns-in_ok-write_logged-clause-step g c = c.evaluate.ensures.step
-
-pub returns-in_ok-write_logged-clause-records : goal.returns-in_ok-write_logged-clause-records
-returns-in_ok-write_logged-clause-records g c = c.in_ok-value.ensures.records
-
-pub returns-else-differs-clause-size : goal.returns-else-differs-clause-size
-returns-else-differs-clause-size g c = refl
-
-pub returns-else-differs-clause-fits : goal.returns-else-differs-clause-fits
-returns-else-differs-clause-fits g c = c.requires.values
-
-pub returns-else-differs-clause-undo : goal.returns-else-differs-clause-undo
-returns-else-differs-clause-undo g c = λ old undoes. undoes
-
-pub returns-else-differs-clause-step : goal.returns-else-differs-clause-step
-returns-else-differs-clause-step g c = c.evaluate.ensures.step
-
-pub returns-else-differs-clause-records : goal.returns-else-differs-clause-records
-returns-else-differs-clause-records g c = c.in_ok-value.ensures.records
 
 pub offset_bounds-values-u : goal.offset_bounds-values-u
 offset_bounds-values-u g c = grind (arith, common_steps)

@@ -39,41 +39,48 @@ revalue-requires-clause-holds g c =
     c.args.users.now c.write_changes.new.users (is_pending c.write_changes.new.pending) c.in-Ok.ensures.lists (g.S.System.rule c.args.plan.now.system.now)
     (decided _ g.met.S.System.equal_users) c.args.values.now c.requires.solves
 
-pub returns-in-Ok-revalue-clause-evaluated : goal.returns-in-Ok-revalue-clause-evaluated
-returns-in-Ok-revalue-clause-evaluated g c =
-    let size = g.S.Graph.size c.args.plan.now.system.now in
-    let dependencies = g.S.Graph.dependencies c.args.plan.now.system.now in
-    let order = c.args.plan.now.order.now in
-    let pending = is_pending c.write_changes.new.pending in
-    let before = c.args.users.now in
-    let after = c.write_changes.new.users in
-    let old = c.args.values.now in
-    let new = c.revalue.new.values in
-    count_same size (IsDue dependencies order pending old new) (IsTouched dependencies before after old new) c.in-Ok-revalue.report.evaluated
-    (due_touched size dependencies order c.args.plan.now.places.items c.requires.plan.ordered c.requires.plan.places_are before after pending
-    c.in-Ok.ensures.lists old new)
-    c.in-Ok-revalue.ensures.evaluated
-
-pub returns-in-Ok-revalue-clause-recorded : goal.returns-in-Ok-revalue-clause-recorded
-returns-in-Ok-revalue-clause-recorded g c =
-    let size = g.S.Graph.size c.args.plan.now.system.now in
-    let dependencies = g.S.Graph.dependencies c.args.plan.now.system.now in
-    let order = c.args.plan.now.order.now in
-    let pending = is_pending c.write_changes.new.pending in
-    let before = c.args.users.now in
-    let after = c.write_changes.new.users in
-    let old = c.args.values.now in
-    let new = c.revalue.new.values in
-    recorded_same size (IsDue dependencies order pending old new) (IsTouched dependencies before after old new) _ _
-    (due_touched size dependencies order c.args.plan.now.places.items c.requires.plan.ordered c.requires.plan.places_are before after pending
-    c.in-Ok.ensures.lists old new)
-    c.in-Ok-revalue.ensures.recorded
-
-pub returns-in-Ok-revalue-clause-fits_users : goal.returns-in-Ok-revalue-clause-fits_users
-returns-in-Ok-revalue-clause-fits_users g c =
-    let size = g.S.Graph.size c.args.plan.now.system.now in
-    let fits = g.S.System.fits_user c.args.plan.now.system.now in
-    rw c.in-Ok.ensures.users (changed_fits size fits c.args.changes.now c.args.users.now c.requires.changes c.requires.users)
+pub returns-in-Ok-revalue : goal.returns-in-Ok-revalue
+returns-in-Ok-revalue g c = record {
+  evaluated =
+      (let size = g.S.Graph.size c.args.plan.now.system.now in
+      let dependencies = g.S.Graph.dependencies c.args.plan.now.system.now in
+      let order = c.args.plan.now.order.now in
+      let pending = is_pending c.write_changes.new.pending in
+      let before = c.args.users.now in
+      let after = c.write_changes.new.users in
+      let old = c.args.values.now in
+      let new = c.revalue.new.values in
+      count_same size (IsDue dependencies order pending old new) (IsTouched dependencies before after old new) c.in-Ok-revalue.report.evaluated
+      (due_touched size dependencies order c.args.plan.now.places.items c.requires.plan.ordered c.requires.plan.places_are before after pending
+      c.in-Ok.ensures.lists old new)
+      c.in-Ok-revalue.ensures.evaluated);
+  recorded =
+      (let size = g.S.Graph.size c.args.plan.now.system.now in
+      let dependencies = g.S.Graph.dependencies c.args.plan.now.system.now in
+      let order = c.args.plan.now.order.now in
+      let pending = is_pending c.write_changes.new.pending in
+      let before = c.args.users.now in
+      let after = c.write_changes.new.users in
+      let old = c.args.values.now in
+      let new = c.revalue.new.values in
+      recorded_same size (IsDue dependencies order pending old new) (IsTouched dependencies before after old new) _ _
+      (due_touched size dependencies order c.args.plan.now.places.items c.requires.plan.ordered c.requires.plan.places_are before after pending
+      c.in-Ok.ensures.lists old new)
+      c.in-Ok-revalue.ensures.recorded);
+  fits_users =
+      (let size = g.S.Graph.size c.args.plan.now.system.now in
+      let fits = g.S.System.fits_user c.args.plan.now.system.now in
+      rw c.in-Ok.ensures.users (changed_fits size fits c.args.changes.now c.args.users.now c.requires.changes c.requires.users));
+  none = c.in-Ok-revalue.ensures.done;
+  size = c.revalue.ensures.size ∙ c.write_changes.ensures.size;
+  users = c.in-Ok.ensures.users;
+  fits_values = c.in-Ok-revalue.ensures.fits;
+  solves = c.in-Ok-revalue.ensures.solves;
+  changed = c.in-Ok-revalue.ensures.changed;
+  steps = c.in-Ok-revalue.ensures.steps;
+  err_users = tt;
+  err_values = tt;
+}
 
 pub write_changes-requires-clause-nothing : goal.write_changes-requires-clause-nothing
 write_changes-requires-clause-nothing g c = c.new-log.ensures.items
@@ -87,41 +94,21 @@ write_changes-requires-clause-none g c = c.requires.none
 pub restore_logged-requires : goal.restore_logged-requires
 restore_logged-requires g c = record { units = λ k u a e. omega (arith, c.write_changes.ensures.undo.units k u a e, c.write_changes.ensures.undo.one_each) }
 
-pub returns-in-Err-clause-none : goal.returns-in-Err-clause-none
-returns-in-Err-clause-none g c = c.in-Err.ensures.err
-
-pub returns-in-Err-clause-size : goal.returns-in-Err-clause-size
-returns-in-Err-clause-size g c = c.write_changes.ensures.size
-
-pub returns-in-Err-clause-users : goal.returns-in-Err-clause-users
-returns-in-Err-clause-users g c = tt
-
-pub returns-in-Err-clause-fits_users : goal.returns-in-Err-clause-fits_users
-returns-in-Err-clause-fits_users g c = rw (c.restore_logged.ensures.restored, c.write_changes.ensures.undo.back) c.requires.users
-
-pub returns-in-Err-clause-fits_values : goal.returns-in-Err-clause-fits_values
-returns-in-Err-clause-fits_values g c = c.requires.fits
-
-pub returns-in-Err-clause-solves : goal.returns-in-Err-clause-solves
-returns-in-Err-clause-solves g c = rw (c.restore_logged.ensures.restored, c.write_changes.ensures.undo.back) c.requires.solves
-
-pub returns-in-Err-clause-changed : goal.returns-in-Err-clause-changed
-returns-in-Err-clause-changed g c = tt
-
-pub returns-in-Err-clause-evaluated : goal.returns-in-Err-clause-evaluated
-returns-in-Err-clause-evaluated g c = tt
-
-pub returns-in-Err-clause-steps : goal.returns-in-Err-clause-steps
-returns-in-Err-clause-steps g c = tt
-
-pub returns-in-Err-clause-recorded : goal.returns-in-Err-clause-recorded
-returns-in-Err-clause-recorded g c = tt
-
-pub returns-in-Err-clause-err_users : goal.returns-in-Err-clause-err_users
-returns-in-Err-clause-err_users g c = c.restore_logged.ensures.restored ∙ c.write_changes.ensures.undo.back
-
-pub returns-in-Err-clause-err_values : goal.returns-in-Err-clause-err_values
-returns-in-Err-clause-err_values g c = refl
+pub returns-in-Err : goal.returns-in-Err
+returns-in-Err g c = record {
+  none = c.in-Err.ensures.err;
+  size = c.write_changes.ensures.size;
+  users = tt;
+  fits_users = rw (c.restore_logged.ensures.restored, c.write_changes.ensures.undo.back) c.requires.users;
+  fits_values = c.requires.fits;
+  solves = rw (c.restore_logged.ensures.restored, c.write_changes.ensures.undo.back) c.requires.solves;
+  changed = tt;
+  evaluated = tt;
+  steps = tt;
+  recorded = tt;
+  err_users = c.restore_logged.ensures.restored ∙ c.write_changes.ensures.undo.back;
+  err_values = refl;
+}
 
 pub revalue-requires-clause-plan : goal.revalue-requires-clause-plan
 revalue-requires-clause-plan g c = c.requires.plan
@@ -132,70 +119,22 @@ revalue-requires-clause-fits g c = c.requires.fits
 pub revalue-requires-clause-size : goal.revalue-requires-clause-size
 revalue-requires-clause-size g c = c.write_changes.ensures.size ∙ c.requires.size
 
-pub returns-in-Ok-revalue-clause-none : goal.returns-in-Ok-revalue-clause-none
-returns-in-Ok-revalue-clause-none g c = c.in-Ok-revalue.ensures.done
-
-pub returns-in-Ok-revalue-clause-size : goal.returns-in-Ok-revalue-clause-size
-returns-in-Ok-revalue-clause-size g c = c.revalue.ensures.size ∙ c.write_changes.ensures.size
-
-pub returns-in-Ok-revalue-clause-users : goal.returns-in-Ok-revalue-clause-users
-returns-in-Ok-revalue-clause-users g c = c.in-Ok.ensures.users
-
-pub returns-in-Ok-revalue-clause-fits_values : goal.returns-in-Ok-revalue-clause-fits_values
-returns-in-Ok-revalue-clause-fits_values g c = c.in-Ok-revalue.ensures.fits
-
-pub returns-in-Ok-revalue-clause-solves : goal.returns-in-Ok-revalue-clause-solves
-returns-in-Ok-revalue-clause-solves g c = c.in-Ok-revalue.ensures.solves
-
-pub returns-in-Ok-revalue-clause-changed : goal.returns-in-Ok-revalue-clause-changed
-returns-in-Ok-revalue-clause-changed g c = c.in-Ok-revalue.ensures.changed
-
-pub returns-in-Ok-revalue-clause-steps : goal.returns-in-Ok-revalue-clause-steps
-returns-in-Ok-revalue-clause-steps g c = c.in-Ok-revalue.ensures.steps
-
-pub returns-in-Ok-revalue-clause-err_users : goal.returns-in-Ok-revalue-clause-err_users
-returns-in-Ok-revalue-clause-err_users g c = tt
-
-pub returns-in-Ok-revalue-clause-err_values : goal.returns-in-Ok-revalue-clause-err_values
-returns-in-Ok-revalue-clause-err_values g c = tt
-
 pub restore_logged-requires-in-Err-revalue : goal.restore_logged-requires-in-Err-revalue
 restore_logged-requires-in-Err-revalue g c =
     record { units = λ k u a e. omega (arith, c.write_changes.ensures.undo.units k u a e, c.write_changes.ensures.undo.one_each) }
 
-pub returns-clause-none : goal.returns-clause-none
-returns-clause-none g c = c.clear.ensures.none
-
-pub returns-clause-size : goal.returns-clause-size
-returns-clause-size g c = c.clear.ensures.size ∙ c.revalue.ensures.size ∙ c.write_changes.ensures.size
-
-pub returns-clause-users : goal.returns-clause-users
-returns-clause-users g c = tt
-
-pub returns-clause-fits_users : goal.returns-clause-fits_users
-returns-clause-fits_users g c = rw (c.restore_logged-in-Err-revalue.ensures.restored, c.write_changes.ensures.undo.back) c.requires.users
-
-pub returns-clause-fits_values : goal.returns-clause-fits_values
-returns-clause-fits_values g c = rw c.in-Err-revalue.ensures.err c.requires.fits
-
-pub returns-clause-solves : goal.returns-clause-solves
-returns-clause-solves g c =
-    rw (c.in-Err-revalue.ensures.err, c.restore_logged-in-Err-revalue.ensures.restored, c.write_changes.ensures.undo.back) c.requires.solves
-
-pub returns-clause-changed : goal.returns-clause-changed
-returns-clause-changed g c = tt
-
-pub returns-clause-evaluated : goal.returns-clause-evaluated
-returns-clause-evaluated g c = tt
-
-pub returns-clause-steps : goal.returns-clause-steps
-returns-clause-steps g c = tt
-
-pub returns-clause-recorded : goal.returns-clause-recorded
-returns-clause-recorded g c = tt
-
-pub returns-clause-err_users : goal.returns-clause-err_users
-returns-clause-err_users g c = c.restore_logged-in-Err-revalue.ensures.restored ∙ c.write_changes.ensures.undo.back
-
-pub returns-clause-err_values : goal.returns-clause-err_values
-returns-clause-err_values g c = c.in-Err-revalue.ensures.err
+pub returns : goal.returns
+returns g c = record {
+  none = c.clear.ensures.none;
+  size = c.clear.ensures.size ∙ c.revalue.ensures.size ∙ c.write_changes.ensures.size;
+  users = tt;
+  fits_users = rw (c.restore_logged-in-Err-revalue.ensures.restored, c.write_changes.ensures.undo.back) c.requires.users;
+  fits_values = rw c.in-Err-revalue.ensures.err c.requires.fits;
+  solves = rw (c.in-Err-revalue.ensures.err, c.restore_logged-in-Err-revalue.ensures.restored, c.write_changes.ensures.undo.back) c.requires.solves;
+  changed = tt;
+  evaluated = tt;
+  steps = tt;
+  recorded = tt;
+  err_users = c.restore_logged-in-Err-revalue.ensures.restored ∙ c.write_changes.ensures.undo.back;
+  err_values = c.in-Err-revalue.ensures.err;
+}

@@ -8,5 +8,5 @@ use Rattle.kmin_answers.proofs.symbol_lines.difference_lines.Given as goal
 -- `text` has the lines of the differences before this one
 abbrev pub invariant-loop-difference : goal.invariant-loop-difference
 invariant-loop-difference l =
-    l.text.items ≡ flat_map (λ (d : DifferenceRef). line_between l.strings (tree_of_settled l.settled) l.left l.right d.symbol)
+    l.text.items ≡ flat_map (λ (d : DifferenceRef). line_between l.form l.strings (tree_of_settled l.settled) l.left l.right d.symbol)
     (take l.difference-index l.differences)

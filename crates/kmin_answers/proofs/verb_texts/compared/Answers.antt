@@ -7,7 +7,7 @@ use Rattle.kmin_answers.proofs.verb_texts.compared.Goals as goal
 
 pub returns-clause-text : goal.returns-clause-text
 returns-clause-text c =
-    compared_text c.args.strings (tree_in c.args.left.now) (tree_of_settled c.settled.result.now) c.args.left.now.values c.args.right.now.values
+    compared_text c.args.form c.args.strings (tree_in c.args.left.now) (tree_of_settled c.settled.result.now) c.args.left.now.values c.args.right.now.values
     c.values.result.now
     c.values-2.result.now
     c.in_ok-found.found.items c.deref.result.now c.in_ok-text.text.items

@@ -1,6 +1,6 @@
 use Rattle.std.proofs.Common.{◌∷◌, [], refl, rules}
 use Rattle.kc_files.specs.TextViews.{items_of}
-use Rattle.kmin_trees.specs.WantedQuestions.{at_fault}
+use Rattle.kmin_expansions.specs.WantedQuestions.{at_fault}
 use Rattle.kmin_report.proofs.WriterLemmas.{lines_append, lines_one}
 use Rattle.kmin_report.proofs.Results.{if_err}
 use Rattle.kmin_run.proofs.wants_command.answer_questions.Goals as goal

@@ -1,5 +1,5 @@
 use Rattle.std.proofs.Common.{◌≢◌, Bool, cond, [], take, refl, sym, ap, ◌∙◌, subst, append-nil, inl, inr}
-use Rattle.kmin_tidy.specs.Reports.{difference_line}
+use Rattle.kmin_tidy.specs.Reports.{file_line}
 use Rattle.kmin_tidy.specs.checker.FileResults.{IsRewritten, same, shown}
 use Rattle.kmin_tidy.proofs.FileLemmas.{agree, differ, rewritten_by, listed_by}
 use Rattle.kmin_tidy.proofs.ReadingLemmas.{both_ok}
@@ -18,14 +18,14 @@ returns-then-options-clause-rewritten g c =
     let path = c.args.path.now in
     let bytes = c.args.bytes.now in
     let least = c.args.least.now in
-    let line = difference_line path bytes least in
+    let line = file_line c.args.options.output_form path bytes least in
     let other : least ≢ bytes = differ least bytes c.eq.result c.eq.ensures c.if-eq.false in
     both_ok c.write_listed.result _ _ _ (λ end w listed. (
       cond end.is_replaced line [],
       listed_by c.args.text.now.items line c.write_listed.new.text.items c.len-start.result end.is_replaced (c.len-start.ensures ∙ c.args.text.now.ok.0)
-          (listed ∙ ap (λ text. cond end.is_replaced text (take c.len-start.result text)) c.in_ok-push_difference_line.ensures),
-      subst (λ (write : Bool). IsRewritten write a b path bytes least (cond end.is_replaced line []) end) (sym c.if-options.true)
-          (rewritten_by a b path bytes least end other w),
+          (listed ∙ ap (λ text. cond end.is_replaced text (take c.len-start.result text)) c.in_ok-push_file_line.ensures),
+      subst (λ (write : Bool). IsRewritten c.args.options.output_form write a b path bytes least (cond end.is_replaced line []) end) (sym c.if-options.true)
+          (rewritten_by c.args.options.output_form a b path bytes least end other w),
     ))
     c.write_listed.ensures.written c.write_listed.ensures.listed
 
@@ -37,10 +37,10 @@ returns-then-options-clause-stopped g c =
 pub returns-else-options-clause-rewritten : goal.returns-else-options-clause-rewritten
 returns-else-options-clause-rewritten g c =
     let other : c.args.least.now ≢ c.args.bytes.now = differ c.args.least.now c.args.bytes.now c.eq.result c.eq.ensures c.if-eq.false in (
-      difference_line c.args.path.now c.args.bytes.now c.args.least.now,
-      c.in_ok-push_difference_line.ensures,
+      file_line c.args.options.output_form c.args.path.now c.args.bytes.now c.args.least.now,
+      c.in_ok-push_file_line.ensures,
       shown other c.if-options.false refl refl refl refl,
     )
 
-pub returns-in_err-push_difference_line-clause-stopped : goal.returns-in_err-push_difference_line-clause-stopped
-returns-in_err-push_difference_line-clause-stopped g c = memory_stop c.from_residual.result _ c.from_residual.ensures (inl (refl, refl))
+pub returns-in_err-push_file_line-clause-stopped : goal.returns-in_err-push_file_line-clause-stopped
+returns-in_err-push_file_line-clause-stopped g c = memory_stop c.from_residual.result _ c.from_residual.ensures (inl (refl, refl))

@@ -1,5 +1,5 @@
 use Rattle.std.proofs.Common.{[], refl, arith}
-use Rattle.kmin_trees.specs.JobTexts.{no_texts}
+use Rattle.kmin_expansions.specs.JobTexts.{no_texts}
 use Rattle.kmin_report.specs.StandardError.{none}
 use Rattle.kmin_trees.specs.between.JobTrees.{plain_texts}
 use Rattle.kmin_trees.specs.between.TreeStops.{for_memory}

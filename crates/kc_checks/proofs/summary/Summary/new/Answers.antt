@@ -1,15 +1,18 @@
 use Rattle.std.proofs.Common.{arith}
 use Rattle.std.proofs.lemmas.Grind.{common_steps}
-use Rattle.kc_checks.specs.between.Summaries.{IsSummary}
+use Rattle.kc_tree_model.specs.Limits.{names_defined}
+use Rattle.kc_listing.specs.between.ListingView.{RepresentsListing}
+use Rattle.kc_checks.specs.checker.SummarySteps.{IsSummedTo}
+use Rattle.kc_checks.proofs.GroupPlaces.{count_is}
+use Rattle.kc_checks.proofs.SummarySteps.{all_summed}
 use Rattle.kc_checks.proofs.summary.Summary.new.Goals as goal
 
 pub returns-clause-summary : goal.returns-clause-summary
-unfolding IsSummary
-returns-clause-summary c = λ read h. record {
-  symbols = c.in_ok-symbols_of.ensures.ok read h;
-  enclosing = c.in_ok-enclosing.ensures.enclosing read h;
-  choices = c.in_ok-enclosing.ensures.choices read h;
-}
+unfolding RepresentsListing IsSummedTo
+returns-clause-summary c = λ read h.
+    let l = c.args.listing.now in
+    let n = count_is l.names.arena (names_defined read) l.texts.items l.lines.items l.groups.items read h.groups_are in
+    all_summed read c.loop-i.i c.loop-i.inside.items c.loop-i.summary (omega arith) (c.loop-i.invariant read h)
 
 pub returns-clause-few : goal.returns-clause-few
 returns-clause-few c = grind (arith, common_steps)

@@ -1,0 +1,4 @@
+pub mod TreeFolders
+pub mod TextsOfExpansions
+pub mod ListedQuestions
+pub mod KnownExpansions

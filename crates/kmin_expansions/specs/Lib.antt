@@ -1,0 +1,5 @@
+pub mod TreeFolders
+pub mod JobTexts
+pub mod KnownExpansions
+pub mod WantedQuestions
+pub mod between

@@ -1,0 +1,2 @@
+pub mod ExpansionStops
+pub mod FilesByPlace

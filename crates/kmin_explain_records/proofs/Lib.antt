@@ -1,0 +1,5 @@
+pub mod RecordDepths
+pub mod RecordTexts
+pub mod AskedTokens
+pub mod ListedSymbols
+pub mod JoinedMembers

@@ -1,0 +1,24 @@
+use Rattle.std.proofs.Common.{ℕ, List, [], ◌∷◌, ◌++◌, ap}
+use Rattle.std.specs.Prelude.{codes}
+use Rattle.json.specs.Tree.{json_tokens}
+use Rattle.kc_config.specs.ConfigStates.{tree_in}
+use Rattle.kc_explanation.specs.Asked.{asked_value}
+use Rattle.kmin_messages.proofs.WriterSteps.{wrote, and_then, and_last}
+use Rattle.kmin_explain.specs.between.Sources.{config_of}
+use Rattle.kmin_records.specs.JsonValues.{text_json, object_of, place_members}
+use Rattle.kmin_records.proofs.JsonLists.{last_write, as_last}
+use Rattle.kmin_explain_records.proofs.asked_members.write_asked.Goals as goal
+
+pub returns : goal.returns
+returns c = λ read meanings.
+    let by = c.args.by.now in
+    let k = c.args.symbol.now in
+    let line = c.args.line.now in
+    as_last c.end_object.result _ _ _ _
+    (ap (λ (path : List ℕ). json_tokens (object_of (place_members path line.number
+    ++ (codes "value", text_json (asked_value by.strings (tree_in (config_of by)) k.s k.kind line.user)) ∷ (codes "outcome", text_json c.args.outcome.now) ∷ [])))
+    c.path_at.ensures)
+    (and_last _ _ _ _ _ _
+    (and_then _ _ _ _ _ (wrote _ _ _ _ c.in_ok-begin_object.ensures)
+    (and_then _ _ _ _ _ c.in_ok-write_place.ensures (and_then _ _ _ _ _ c.in_ok-write_asked_value.ensures c.in_ok-write_bytes.ensures)))
+    (last_write _ _ _ _ c.end_object.ensures))

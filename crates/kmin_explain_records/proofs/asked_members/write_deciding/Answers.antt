@@ -1,0 +1,23 @@
+use Rattle.std.proofs.Common.{[], sym, ap}
+use Rattle.std.specs.Prelude.{flat_map, option_map}
+use Rattle.json.specs.Tree.{json_tokens}
+use Rattle.kc_config_reasons.specs.between.Places.{place_view}
+use Rattle.kmin_explain.specs.between.Sources.{sources_model}
+use Rattle.kmin_records.proofs.JsonLists.{as_tokens, as_last, nothing_more}
+use Rattle.kmin_explain_records.specs.SymbolRecords.{deciding_json}
+use Rattle.kmin_explain_records.proofs.asked_members.write_deciding.Goals as goal
+
+pub returns-in-None : goal.returns-in-None
+returns-in-None c = λ read meanings.
+    let g = sources_model c.args.by.now read meanings in
+    let k = c.args.symbol.now in
+    as_tokens _ _ [] _
+    (ap (λ p. flat_map json_tokens (deciding_json g k.s k.kind c.args.case c.args.hindrance (option_map place_view p))) (sym c.in-None.is)) (nothing_more _)
+
+pub returns-in-Some : goal.returns-in-Some
+returns-in-Some c = λ read meanings.
+    let g = sources_model c.args.by.now read meanings in
+    let k = c.args.symbol.now in
+    as_last c.write_counting.result _ _ _ _
+    (ap (λ p. flat_map json_tokens (deciding_json g k.s k.kind c.args.case c.args.hindrance (option_map place_view p))) (sym c.in-Some.is))
+    (c.write_counting.ensures read meanings)

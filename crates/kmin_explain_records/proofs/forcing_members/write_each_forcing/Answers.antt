@@ -1,0 +1,27 @@
+use Rattle.std.proofs.Common.{map}
+use Rattle.std.specs.Prelude.{ℕ, flat_map, slice_get}
+use Rattle.json.specs.Tree.{json_tokens}
+use Rattle.kc_tree.specs.between.Views.{reverse_dependency_view}
+use Rattle.kc_evaluation.specs.checker.ValuationView.{valuation_tree, valuation_exprs, valuation_values}
+use Rattle.kc_symbol_lines.specs.between.LinesView.{position_view}
+use Rattle.kmin_explain_records.specs.SymbolRecords.{forcing_json}
+use Rattle.kmin_records.proofs.JsonLists.{one_more_written, all_written}
+use Rattle.kmin_explain_records.proofs.forcing_members.write_each_forcing.Goals as goal
+
+pub loop-number-preserved : goal.loop-number-preserved
+loop-number-preserved c =
+    let under = c.args.under.now in
+    let fs = map (reverse_dependency_view (valuation_exprs under)) c.args.all.now in
+    let places = map position_view c.args.places.now in
+    one_more_written
+    (λ (n : ℕ). flat_map json_tokens (forcing_json c.args.strings c.args.paths.now (valuation_tree under) (valuation_values under) (slice_get fs n) (slice_get places n)))
+    c.args.numbers.now c.loop-number.number-index _ _ _ _ c.loop-number-test.true c.loop-number.invariant c.in_ok-write_numbered.ensures
+
+pub returns : goal.returns
+returns c =
+    let under = c.args.under.now in
+    let fs = map (reverse_dependency_view (valuation_exprs under)) c.args.all.now in
+    let places = map position_view c.args.places.now in
+    all_written
+    (λ (n : ℕ). flat_map json_tokens (forcing_json c.args.strings c.args.paths.now (valuation_tree under) (valuation_values under) (slice_get fs n) (slice_get places n)))
+    c.args.numbers.now c.loop-number.number-index _ _ c.loop-number-test.false c.loop-number.invariant

@@ -1,0 +1,18 @@
+use Rattle.std.proofs.Common.{map}
+use Rattle.std.specs.Prelude.{ℕ, slice_get}
+use Rattle.kc_tree.specs.between.Views.{reverse_dependency_view}
+use Rattle.kc_evaluation.specs.checker.ValuationView.{valuation_tree, valuation_exprs, valuation_values}
+use Rattle.kc_symbol_lines.specs.between.LinesView.{position_view}
+use Rattle.kmin_messages.proofs.WriterSteps.{wrote, and_then, and_last}
+use Rattle.kmin_explain_records.specs.SymbolRecords.{forcing_json}
+use Rattle.kmin_records.proofs.JsonLists.{last_write, as_last, each_array}
+use Rattle.kmin_explain_records.proofs.forcing_members.write_forcing_list.Goals as goal
+
+pub returns : goal.returns
+returns c =
+    let under = c.args.under.now in
+    let fs = map (reverse_dependency_view (valuation_exprs under)) c.args.all.now in
+    let places = map position_view c.args.places.now in
+    as_last c.end_array.result _ _ _ _
+    (each_array (λ (n : ℕ). forcing_json c.args.strings c.args.paths.now (valuation_tree under) (valuation_values under) (slice_get fs n) (slice_get places n)) c.args.numbers.now)
+    (and_last _ _ _ _ _ _ (and_then _ _ _ _ _ (wrote _ _ _ _ c.in_ok-begin_array.ensures) c.in_ok-write_each_forcing.ensures) (last_write _ _ _ _ c.end_array.ensures))

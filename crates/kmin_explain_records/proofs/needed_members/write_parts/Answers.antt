@@ -1,0 +1,14 @@
+use Rattle.kc_evaluation.specs.checker.ValuationView.{valuation_tree, valuation_exprs, valuation_values}
+use Rattle.kc_rules_model.specs.SymbolValues.{environment}
+use Rattle.kc_located_reasons.specs.between.PartsView.{located_part_view}
+use Rattle.kmin_messages.proofs.WriterSteps.{wrote, and_then, and_last}
+use Rattle.kmin_explain_records.specs.SymbolRecords.{part_json}
+use Rattle.kmin_records.proofs.JsonLists.{last_write, as_last, viewed_array}
+use Rattle.kmin_explain_records.proofs.needed_members.write_parts.Goals as goal
+
+pub returns : goal.returns
+returns c =
+    let under = c.args.under.now in
+    as_last c.end_array.result _ _ _ _
+    (viewed_array (located_part_view (valuation_exprs under)) (part_json c.args.strings (environment (valuation_tree under) (valuation_values under)) c.args.paths.now) c.args.parts.now)
+    (and_last _ _ _ _ _ _ (and_then _ _ _ _ _ (wrote _ _ _ _ c.in_ok-begin_array.ensures) c.in_ok-write_each_part.ensures) (last_write _ _ _ _ c.end_array.ensures))

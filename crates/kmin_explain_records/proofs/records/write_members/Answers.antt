@@ -1,0 +1,28 @@
+use Rattle.std.specs.Prelude.{option_map}
+use Rattle.kc_tree.specs.between.Views.{symbol_view}
+use Rattle.kc_evaluation.specs.checker.ValuationView.{valuation_tree, valuation_exprs, valuation_values}
+use Rattle.kc_reasons.specs.between.ReasonsView.{reasons_view}
+use Rattle.kc_symbol_lines.specs.between.LinesView.{position_view, symbol_lines_view}
+use Rattle.kc_explanation.specs.between.ReasonPlacesView.{places_view}
+use Rattle.kmin_explain.specs.between.Sources.{sources_model}
+use Rattle.kmin_explain_records.specs.SymbolRecords.{given_members, asked_members, lacking_members, forcing_members}
+use Rattle.kmin_explain_records.proofs.JoinedMembers.{four_parts}
+use Rattle.kmin_explain_records.proofs.records.write_members.Goals as goal
+
+pub returns : goal.returns
+returns c = λ read meanings are.
+    let strings = c.args.by.now.strings in
+    let paths = c.args.by.now.tree_paths.now in
+    let tree = valuation_tree c.args.under.now in
+    let values = valuation_values c.args.under.now in
+    let exprs = valuation_exprs c.args.under.now in
+    let symbol = c.args.symbol.now in
+    let view = symbol_view exprs symbol in
+    let reasons = c.args.reasons.now in
+    let places = c.args.places.now in
+    four_parts c.write_forcing_members.result _ _ _ _ _
+    (given_members strings paths tree values c.args.s (record { file = symbol.file; line = symbol.line }) reasons.chosen reasons.case (option_map position_view places.given_at))
+    (asked_members (sources_model c.args.by.now read meanings) c.args.s symbol.kind reasons.case reasons.hindrance)
+    (lacking_members strings paths tree values view reasons.hindrance (places_view exprs places))
+    (forcing_members strings paths tree values view (symbol_lines_view exprs c.args.lines.now) (reasons_view exprs reasons))
+    c.in_ok-write_given.ensures (c.in_ok-write_asked_members.ensures read meanings are) c.in_ok-write_lacking.ensures c.write_forcing_members.ensures

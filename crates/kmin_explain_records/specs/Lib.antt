@@ -1,0 +1,5 @@
+pub mod ReasonWords
+pub mod SymbolRecords
+pub mod ListedMissed
+pub mod RecordLaws
+pub mod checker

@@ -1,0 +1,222 @@
+//! The members of the JSON object that explains a symbol.
+ghost use Rattle.std.specs.Prelude.{◌≡◌, ◌<◌, ◌∷◌, ◌++◌, [], ℕ, List, length, option_map, codes, OnOk};
+ghost use Rattle.json.specs.Json.{string as text_of_json};
+ghost use Rattle.json.specs.Tree.{json_tokens};
+ghost use Rattle.kc_tree_model.specs.TreeLookup.{unit_of};
+ghost use Rattle.kc_tree_model.specs.Blocks.{Group};
+ghost use Rattle.kc_tree.specs.between.Views.{symbol_view, SymbolFits};
+ghost use Rattle.kc_dotconfig_model.specs.ConfigLines.{LineMeaning};
+ghost use Rattle.kc_config.specs.ConfigStates.{tree_in};
+ghost use Rattle.kc_evaluation.specs.checker.ValuationView.{valuation_tree, valuation_exprs, valuation_values};
+ghost use Rattle.kc_reasons_model.specs.Reasons.{name_of_symbol};
+ghost use Rattle.kc_reasons.specs.between.ReasonsView.{reasons_view};
+ghost use Rattle.kc_symbol_lines.specs.between.LinesView.{position_view, symbol_lines_view};
+ghost use Rattle.kc_located_reasons.specs.between.PartsView.{ArePartsThere};
+ghost use Rattle.kc_explanation.specs.between.ReasonPlacesView.{places_view};
+ghost use Rattle.kmin_messages.specs.between.MessageViews.{AppendsTokens};
+ghost use Rattle.kmin_explain_records.specs.ReasonWords.{hindrance_word, lift_of_case};
+ghost use Rattle.kmin_records.specs.JsonValues.{or_null, object_of};
+ghost use Rattle.kmin_explain_records.specs.SymbolRecords.{position_members, given_members, asked_members, lacking_members, forcing_members};
+ghost use Rattle.kmin_explain.specs.between.Sources.{config_of, AreSourcesOf, sources_model};
+ghost use Rattle.kmin_records.specs.between.RecordTokens.{member_tokens, list_tokens};
+
+use super::asked_members::write_asked_list;
+use super::forcing_members::{write_forcing_list, write_symbol};
+use super::needed_members::{write_alternatives, write_needs, write_position};
+use super::reason_words::{case_word, hindrance_word, lift_of_case};
+use json::Writer;
+use kc_dotconfig::Strings;
+use kc_evaluation::Valuation;
+use kc_explanation::{ReasonPlaces, is_without_prompt, name_of};
+use kc_reasons::{Case, Hindrance, SymbolReasons};
+use kc_symbol_lines::{Position, SymbolLines};
+use kc_tree::{Sym, Symbol};
+use kc_value::Text;
+use kmin_explain::{AskedSymbol, Sources};
+use kmin_records::{write_optional, write_text};
+use std::alloc::{AllocError, Global};
+
+/// Writes the name of the selected member of a choice, or null.
+fn write_chosen(
+    writer: &mut Writer,
+    under: &Valuation<'_>,
+    chosen: Option<Sym>,
+) -> Result<(), AllocError>
+    ensures { OnOk result (AppendsTokens writer.old writer.new (json_tokens (or_null (λ m. text_of_json (name_of_symbol (valuation_tree under.now) m)) chosen))) }
+{
+    match chosen {
+        None => writer.null(),
+        Some(m) => writer.string(name_of(under, m)),
+    }
+}
+
+/// Writes a place in the tree as an object.
+fn write_position_object(
+    writer: &mut Writer,
+    paths: &[Text],
+    at: Position,
+) -> Result<(), AllocError>
+    ensures { OnOk result (AppendsTokens writer.old writer.new (json_tokens (object_of (position_members paths.now (position_view at))))) }
+{
+    writer.begin_object()?;
+    write_position(writer, paths, at)?;
+    writer.end_object()
+}
+
+/// Writes a place in the tree as an object, or null if there is none.
+fn write_given_at(
+    writer: &mut Writer,
+    paths: &[Text],
+    at: Option<Position>,
+) -> Result<(), AllocError>
+    ensures { OnOk result (AppendsTokens writer.old writer.new (json_tokens (or_null (λ p. object_of (position_members paths.now p)) (option_map position_view at)))) }
+{
+    match at {
+        None => writer.null(),
+        Some(at) => write_position_object(writer, paths, at),
+    }
+}
+
+/// Writes what hinders a user value, or null.
+fn write_hindrance(writer: &mut Writer, hindrance: Option<Hindrance>) -> Result<(), AllocError>
+    ensures { OnOk result (AppendsTokens writer.old writer.new (json_tokens (or_null (λ h. text_of_json (hindrance_word h)) hindrance))) }
+{
+    match hindrance {
+        None => writer.null(),
+        Some(h) => writer.string(hindrance_word(h)),
+    }
+}
+
+/// Writes the members `lift`, `chosen` and `given_at`.
+fn write_case_details(
+    writer: &mut Writer,
+    under: &Valuation<'_>,
+    paths: &[Text],
+    chosen: Option<Sym>,
+    case: Case,
+    at: Option<Position>,
+) -> Result<(), AllocError>
+    ensures { OnOk result (AppendsTokens writer.old writer.new (list_tokens ((codes "lift", or_null text_of_json (lift_of_case case)) ∷ (codes "chosen", or_null (λ m. text_of_json (name_of_symbol (valuation_tree under.now) m)) chosen) ∷ (codes "given_at", or_null (λ p. object_of (position_members paths.now p)) (option_map position_view at)) ∷ []))) }
+{
+    write_optional(writer, "lift", lift_of_case(case))?;
+    writer.key("chosen")?;
+    write_chosen(writer, under, chosen)?;
+    writer.key("given_at")?;
+    write_given_at(writer, paths, at)
+}
+
+/// Writes the member `defined_at`.
+fn write_defined_at(writer: &mut Writer, paths: &[Text], at: Position) -> Result<(), AllocError>
+    ensures { OnOk result (AppendsTokens writer.old writer.new (member_tokens (codes "defined_at", object_of (position_members paths.now (position_view at))))) }
+{
+    writer.key("defined_at")?;
+    write_position_object(writer, paths, at)
+}
+
+/// Writes the members that have the name and value of symbol `s`, the place of its first definition, and what gives the value.
+pub(crate) fn write_given(
+    alloc: Global,
+    writer: &mut Writer,
+    under: &Valuation<'_>,
+    strings: Strings,
+    paths: &[Text],
+    s: Sym,
+    defined_at: Position,
+    chosen: Option<Sym>,
+    case: Case,
+    at: Option<Position>,
+) -> Result<(), AllocError>
+    requires there { s < length (valuation_tree under.now).symbols }
+    ensures { OnOk result (AppendsTokens writer.old writer.new (list_tokens (given_members strings paths.now (valuation_tree under.now) (valuation_values under.now) s (position_view defined_at) chosen case (option_map position_view at)))) }
+{
+    write_symbol(alloc, writer, under, strings, s)?;
+    write_defined_at(writer, paths, defined_at)?;
+    write_text(writer, "case", case_word(case))?;
+    write_case_details(writer, under, paths, chosen, case, at)
+}
+
+/// Writes the members `asked` and `hindrance`.
+pub(crate) fn write_asked_members(
+    alloc: Global,
+    writer: &mut Writer,
+    by: &Sources<'_>,
+    symbol: &AskedSymbol,
+    case: Case,
+    hindrance: Option<Hindrance>,
+) -> Result<(), AllocError>
+    requires unit { symbol.now.unit ≡ unit_of (tree_in (config_of by.now)) symbol.now.s }
+    ensures { (read : List Group) (meanings : List (List LineMeaning)) → AreSourcesOf by.now read meanings → OnOk result (AppendsTokens writer.old writer.new (list_tokens (asked_members (sources_model by.now read meanings) symbol.now.s symbol.now.kind case hindrance))) }
+{
+    writer.key("asked")?;
+    write_asked_list(alloc, writer, by, symbol, case, hindrance)?;
+    writer.key("hindrance")?;
+    write_hindrance(writer, hindrance)
+}
+
+/// Writes the members `needs` and `unmet`.
+pub(crate) fn write_lacking(
+    alloc: Global,
+    writer: &mut Writer,
+    under: &Valuation<'_>,
+    strings: Strings,
+    paths: &[Text],
+    symbol: &Symbol<'_>,
+    hindrance: Option<Hindrance>,
+    places: &ReasonPlaces,
+) -> Result<(), AllocError>
+    requires needs { ArePartsThere (valuation_exprs under.now) places.now.needs.items }
+    requires unmet { ArePartsThere (valuation_exprs under.now) places.now.unmet.items }
+    ensures { OnOk result (AppendsTokens writer.old writer.new (list_tokens (lacking_members strings paths.now (valuation_tree under.now) (valuation_values under.now) (symbol_view (valuation_exprs under.now) symbol.now) hindrance (places_view (valuation_exprs under.now) places.now)))) }
+{
+    let without_prompt = is_without_prompt(hindrance, symbol);
+    writer.key("needs")?;
+    write_needs(
+        alloc,
+        writer,
+        under,
+        strings,
+        paths,
+        without_prompt,
+        &places.needs,
+    )?;
+    writer.key("unmet")?;
+    write_alternatives(alloc, writer, under, strings, paths, &places.unmet)
+}
+
+/// Writes the members `selected_by` and `implied_by`.
+pub(crate) fn write_forcing_members(
+    alloc: Global,
+    writer: &mut Writer,
+    under: &Valuation<'_>,
+    strings: Strings,
+    paths: &[Text],
+    symbol: &Symbol<'_>,
+    lines: &SymbolLines,
+    reasons: &SymbolReasons,
+) -> Result<(), AllocError>
+    requires fits { SymbolFits (valuation_exprs under.now) (length (valuation_tree under.now).symbols) symbol.now }
+    ensures { OnOk result (AppendsTokens writer.old writer.new (list_tokens (forcing_members strings paths.now (valuation_tree under.now) (valuation_values under.now) (symbol_view (valuation_exprs under.now) symbol.now) (symbol_lines_view (valuation_exprs under.now) lines.now) (reasons_view (valuation_exprs under.now) reasons.now)))) }
+{
+    writer.key("selected_by")?;
+    write_forcing_list(
+        alloc,
+        writer,
+        under,
+        strings,
+        paths,
+        symbol.selectors,
+        &lines.selectors,
+        &reasons.selected_by,
+    )?;
+    writer.key("implied_by")?;
+    write_forcing_list(
+        alloc,
+        writer,
+        under,
+        strings,
+        paths,
+        symbol.impliers,
+        &lines.impliers,
+        &reasons.implied_by,
+    )
+}

@@ -1,0 +1,26 @@
+-- The lines of records: each is one object, which reads back.
+use Rattle.std.proofs.Common.{◌≡◌, ℕ, List, [], ◌∷◌, refl, lit≤}
+use Rattle.json.specs.Tree.{items_depth}
+use Rattle.kmin_records.specs.SmallNumbers.{ItemsAreSmall}
+use Rattle.kmin_records.specs.Records.{IsRecord, lines_json, compare_members, compare_record, tidy_members, tidy_record}
+use Rattle.kmin_records.specs.LackingLines.{lacking_lines}
+use Rattle.kmin_records.proofs.OneLine.{one_object}
+
+lines_depth : (lines : List (List ℕ)) → items_depth (lines_json lines) ≡ 0
+lines_depth [] = refl
+lines_depth (line ∷ lines) = rw (lines_depth lines) refl
+
+lines_small : (lines : List (List ℕ)) → ItemsAreSmall (lines_json lines)
+lines_small [] = tt
+lines_small (line ∷ lines) = (tt, lines_small lines)
+
+pub differences_read_back : (name left right : List ℕ) → IsRecord (compare_members name left right) (compare_record name left right)
+differences_read_back name left right = one_object (compare_members name left right) (tt, (tt, (tt, tt))) (lit≤ tt)
+
+pub files_read_back : (path bytes least : List ℕ) → IsRecord (tidy_members path bytes least) (tidy_record path bytes least)
+files_read_back path bytes least =
+    let outs = lacking_lines bytes least in
+    let ins = lacking_lines least bytes in
+    one_object (tidy_members path bytes least)
+    (tt, (tt, (lines_small outs, (lines_small ins, tt))))
+    (rw (lines_depth outs, lines_depth ins) (lit≤ tt))

@@ -1,0 +1,23 @@
+-- Texts of the code as the definitions see them, and their tokens.
+use Rattle.std.specs.Prelude.{ℕ, List, ◌∷◌, map, flat_map}
+use Rattle.std.specs.Borrow.{Bor}
+use Rattle.std.specs.Str.Lossy.{utf8_lossy}
+use Rattle.json.specs.Json.{Json}
+use Rattle.json.specs.Token.{Token, string, key}
+use Rattle.json.specs.Tree.{json_tokens}
+
+-- the bytes of texts
+abbrev pub texts_of : List (Bor (List ℕ)) → List (List ℕ)
+texts_of texts = map (λ (text : Bor (List ℕ)). text.now) texts
+
+-- the tokens of texts, with U+FFFD in place of what isn't UTF-8
+abbrev pub text_tokens : List (List ℕ) → List Token
+text_tokens texts = map (λ text. string (utf8_lossy text)) texts
+
+-- the tokens of a member: a name with its value
+abbrev pub member_tokens : List ℕ × Json → List Token
+member_tokens m = key m.0 ∷ json_tokens m.1
+
+-- the tokens of members
+abbrev pub list_tokens : List (List ℕ × Json) → List Token
+list_tokens ms = flat_map member_tokens ms

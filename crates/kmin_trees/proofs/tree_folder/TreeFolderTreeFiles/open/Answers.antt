@@ -1,5 +1,0 @@
-use Rattle.std.proofs.Common.{rules}
-use Rattle.kmin_trees.proofs.tree_folder.TreeFolderTreeFiles.open.Goals as goal
-
-pub returns : goal.returns
-returns g c = search rules
