@@ -7,7 +7,7 @@ use Rattle.std.specs.List.{list_any}
 use Rattle.kc_tokens.specs.declared.language.Language.{Language}
 use Rattle.kc_expr.specs.between.Arena.{Exprs, node_expr}
 use Rattle.kc_expr.specs.Expr.{Expr}
-use Rattle.kc_statements.specs.between.StatementViews.{attribute_in}
+use Rattle.kc_statements.specs.between.StatementViews.{attribute_in, is_optional_code, is_prompt}
 use Rattle.kc_statements.specs.declared.statement.Attribute.{Attribute as CodeAttribute}
 use Rattle.kc_statements.specs.declared.statement.Attribute.TheVariants as attributes
 use Rattle.kc_tree_model.specs.Statements.{prompt_of, is_optional}
@@ -19,7 +19,6 @@ use Rattle.kc_listing.specs.between.ListingView.{RepresentsListing, line_in, Rep
 use Rattle.kc_tree_model.specs.Limits.{names_defined}
 use Rattle.kc_builder.specs.checker.ChoiceRows.{is_optional_line, choice_row, group_rows, opens, IsChoiceRow, AreChoiceRows}
 use Rattle.kc_conditions.specs.between.GroupConditions.{conditions_at, own_conditions}
-use Rattle.kc_checks.specs.between.Attributes.{is_optional_code, is_prompt}
 use Rattle.kc_conditions.specs.between.Firsts.{first_prompt}
 use Rattle.kc_checks.specs.between.Summaries.{read_before, group_at, own_lines, is_choice_code}
 use Rattle.kc_conditions.specs.between.Walks.{condition_at, RepresentsConditions, RepresentsAllConditions}

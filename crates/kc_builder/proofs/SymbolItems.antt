@@ -27,8 +27,8 @@ use Rattle.kc_builder.specs.checker.Definitions.{HasDefinition, HasStatement, Ar
 use Rattle.kc_builder.specs.checker.GatheredItems.{gathered_prompt, gathered_default, gathered_range, own_key, target_key, gathered_reverse_dependency, gathered_items, HasAppended}
 use Rattle.kc_checks.specs.between.Summaries.{read_before, group_at, attributes_end}
 use Rattle.kc_conditions.specs.between.Walks.{condition_at, RepresentsConditions, RepresentsAllConditions}
-use Rattle.kc_builder.specs.declared.definition_attributes.ReverseKind.{ReverseKind}
-use Rattle.kc_builder.specs.declared.definition_attributes.ReverseKind.TheVariants.{Select, Imply}
+use Rattle.kc_statements.specs.declared.statement.ReverseKind.{ReverseKind}
+use Rattle.kc_statements.specs.declared.statement.ReverseKind.TheVariants.{Select, Imply}
 use Rattle.kc_tree.specs.declared.tree_lists.Attributes.{Attributes}
 use Rattle.kc_tree.specs.declared.items_with_keys.ItemsWithKeys.{ItemsWithKeys}
 use Rattle.kc_tree.specs.declared.symbol.ReverseDependency.{ReverseDependency as CodeForce}

@@ -15,6 +15,7 @@ use super::choice_defaults::push_group_defaults;
 use super::choice_rows::push_row;
 use super::definitions::{no_attributes, push_attributes};
 use super::entries::push_entry;
+use super::group_attributes::GroupAttributes;
 use kc_checks::{Checks, Summary, lines_of, out_of_memory};
 use kc_conditions::{GroupConditions, WalkedListing, conditions_of};
 use kc_expr::ExprId;
@@ -60,27 +61,18 @@ impl GroupParts {
         ensures ok { OnOk result (HasGroup listing.now.names (group_at listing.now.groups.items i) (own_lines listing.now i) (own_conditions groups.now conditions.now i) (conditions_at groups.now i) choices self.old self.new) }
     {
         let group = &listing.groups[i];
-        let own = &groups[i];
+        let joined = &groups[i];
         let lines = lines_of(listing, i);
         let given = conditions_of(groups, conditions, i);
-        push_attributes(
-            &mut self.attributes,
-            &listing.names,
-            &group.head,
+        let own = GroupAttributes {
+            names: &listing.names,
             lines,
-            given,
-            own.dependency,
-        )?;
+            conditions: given,
+        };
+        push_attributes(&mut self.attributes, own, &group.head, joined.dependency)?;
         push_row(&mut self.rows, group, lines, given)?;
-        push_group_defaults(
-            &mut self.defaults,
-            &listing.names,
-            &group.head,
-            choices,
-            lines,
-            given,
-        )?;
-        push_entry(&mut self.entries, &group.head, own, choices)?;
+        push_group_defaults(&mut self.defaults, own, &group.head, choices)?;
+        push_entry(&mut self.entries, &group.head, joined, choices)?;
         Ok(())
     }
 

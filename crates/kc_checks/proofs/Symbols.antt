@@ -25,7 +25,7 @@ use Rattle.kc_listing.specs.declared.listing.Line.{Line as CodeLine}
 use Rattle.kc_listing.specs.declared.listing.GroupHead.{GroupHead as CodeHead}
 use Rattle.kc_listing.specs.declared.listing.GroupHead.TheVariants as codes
 use Rattle.kc_listing.specs.between.ListingView.{RepresentsGroups, RepresentsHead, line_in}
-use Rattle.kc_checks.specs.between.Attributes.{aim_of}
+use Rattle.kc_statements.specs.between.StatementViews.{target_of}
 use Rattle.kc_checks.specs.between.Summaries.{summary_in, symbol_summaries, choices_at, group_at, read_before, type_in}
 use Rattle.kc_checks.specs.declared.summary.SymbolSummary.{SymbolSummary}
 use Rattle.kc_checks.proofs.SymbolSummaries.{types_of_lines}
@@ -137,13 +137,13 @@ module _ (read : List Group) (symbols : List SymbolSummary) (h : symbols ≡ sym
       ∙ map-get (summary_in (contents_of read) (groups_in_context read)) (names_defined read) s name e)
 
 -- an attribute with a target is wrong exactly if its symbol isn't bool or tristate, or the target can't be selected
-pub reverse_dependency_some : (c : Contents) (k : Kind) (a : Attribute) (x : List ℕ) → aim_of a ≡ Some x
+pub reverse_dependency_some : (c : Contents) (k : Kind) (a : Attribute) (x : List ℕ) → target_of a ≡ Some x
     → is_wrong_reverse_dependency c k a ≡ (not (is_tri_kind k) || not (is_selectable c x))
 reverse_dependency_some c k (select s) x e = let same : s.name ≡ x = cc in ap (λ y. not (is_tri_kind k) || not (is_selectable c y)) same
 reverse_dependency_some c k (imply s) x e = let same : s.name ≡ x = cc in ap (λ y. not (is_tri_kind k) || not (is_selectable c y)) same
 reverse_dependency_some c k a x e = cc
 
-pub reverse_dependency_none : (c : Contents) (k : Kind) (a : Attribute) → aim_of a ≡ None → is_wrong_reverse_dependency c k a ≡ false
+pub reverse_dependency_none : (c : Contents) (k : Kind) (a : Attribute) → target_of a ≡ None → is_wrong_reverse_dependency c k a ≡ false
 reverse_dependency_none c k (select s) e = cc
 reverse_dependency_none c k (imply s) e = cc
 reverse_dependency_none c k a e = refl

@@ -12,10 +12,9 @@ ghost use Rattle.kc_listing.specs.between.ListingView.{RepresentsListing};
 ghost use Rattle.kc_listing.specs.declared.listing.GroupHead.TheVariants as codes;
 ghost use Rattle.kc_checks.specs.checker.Marks.{AreMarked};
 ghost use Rattle.kc_checks.specs.between.FaultSearch.{AreFaultless, AreSmall, CountsChoices, HasMembers};
-ghost use Rattle.kc_checks.specs.checker.Kinds.{choice_around, is_added_line, may_follow_code};
+ghost use Rattle.kc_checks.specs.checker.Kinds.{choice_around, is_added_code, is_added_line, may_follow_code};
 ghost use Rattle.kc_checks.specs.between.Summaries.{group_at, is_choice_code, IsRepresented, IsSummed};
 
-use super::attribute::is_added;
 use super::attribute_checks::{fault_at, first_choice_fault, first_symbol_fault};
 use super::enclosing_choices::begins_choice;
 use super::fault_kinds::definition_fault;
@@ -23,6 +22,7 @@ use super::group_lines::lines_of;
 use super::marks::mark_members;
 use super::summary::{Summary, is_first};
 use kc_listing::{GroupHead, Line, Listing};
+use kc_statements::Attribute;
 use kc_tokens::Language;
 use kc_tree::{ItemsByNumber, is_no_member_kind};
 use kc_tree_model::{Sym, TreeFault};
@@ -37,6 +37,21 @@ fn is_modules(listing: &Listing, s: u32) -> bool
 {
     let id = listing.names.symbols[s as usize];
     listing.names.arena.name(id) == "MODULES"
+}
+
+/// Whether a later definition of a choice member may have an attribute: a type without a prompt, `depends on`, `select`, `imply` or
+/// help text.
+fn is_added(attribute: &Attribute) -> bool
+    ensures { result ≡ is_added_code attribute.now }
+{
+    matches!(
+        *attribute,
+        Attribute::Typed(_)
+            | Attribute::Depends(_)
+            | Attribute::Select(_)
+            | Attribute::Imply(_)
+            | Attribute::Help
+    )
 }
 
 /// Whether some lines are of attributes alone that a later definition of a member may have.

@@ -7,7 +7,7 @@ use Rattle.kc_tokens.specs.Languages.{is_linux_6_12}
 use Rattle.kc_tokens.specs.declared.language.Language.{Language}
 use Rattle.kc_expr.specs.between.Arena.{Exprs, Represents, node_expr, Grows}
 use Rattle.kc_expr.specs.Expr.{Expr}
-use Rattle.kc_statements.specs.between.StatementViews.{attribute_in, AttributeNodesExist}
+use Rattle.kc_statements.specs.between.StatementViews.{attribute_in, AttributeNodesExist, is_prompt, conjunct_given}
 use Rattle.kc_statements.specs.declared.statement.Attribute.{Attribute as CodeAttribute}
 use Rattle.kc_statements.specs.declared.statement.Attribute.TheVariants as attributes
 use Rattle.kc_listing.specs.declared.listing.Line.{Line as CodeLine}
@@ -24,11 +24,10 @@ use Rattle.kc_tree_model.specs.Conditions.{conjunction_of, visible_conjunct, att
 use Rattle.kc_tree_model.specs.Contents.{menu_end_of}
 use Rattle.kc_tree_model.proofs.NestedTrees.OpenBlocks.{pushed, popped, open_inside}
 use Rattle.kc_conditions.specs.checker.Conjunctions.{Conjoins, conjunct}
-use Rattle.kc_checks.specs.between.Attributes.{is_prompt}
-use Rattle.kc_conditions.specs.checker.Conjuncts.{conjunct_view, conjunct_views, AreJoined, AreAppended, condition_view, line_condition}
+use Rattle.kc_conditions.specs.checker.Conjuncts.{conjunct_views, AreJoined, AreAppended, condition_view, line_condition}
 use Rattle.kc_conditions.specs.between.Firsts.{first_prompt, RepresentsPrompt, RepresentsInside, is_end, GroupHeadNodesExist}
 use Rattle.kc_conditions.specs.between.Walks.{condition_among, condition_at, or_yes, RepresentsEnd, RepresentsEnclosing, RepresentsEnclosings, innermost_enclosing, RepresentsConditions, RepresentsAllConditions, IsWalked, HasWalked}
-use Rattle.kc_conditions.specs.declared.conditions.Conjuncts.TheVariants.{Dependencies, Visibles}
+use Rattle.kc_statements.specs.declared.statement.Conjuncts.TheVariants.{Dependencies, Visibles}
 use Rattle.kc_conditions.specs.declared.conditions.EnclosingConditions.{EnclosingConditions}
 use Rattle.kc_conditions.specs.declared.conditions.EntryConditions.{EntryConditions}
 use Rattle.kc_conditions.specs.declared.group_walk.GroupConditions.{GroupConditions}
@@ -145,7 +144,7 @@ outer_shown language exprs texts y (a ∷ outer) (g ∷ gs) h = h.1
 
 -- the values of attributes, by the code and by the definition
 depends_one : (exprs : Exprs) (n : ℕ) (a : CodeAttribute) (xs : List Expr) (rest : List Line) → xs ≡ filter_map (λ (l : Line). depends_of l.attribute) rest
-    → conjunct exprs (conjunct_view Dependencies a) ++ xs ≡ filter_map (λ (l : Line). depends_of l.attribute)
+    → conjunct exprs (conjunct_given Dependencies a) ++ xs ≡ filter_map (λ (l : Line). depends_of l.attribute)
     (record { number = n; attribute = attribute_in exprs a } ∷ rest)
 depends_one exprs n (attributes.Typed k) xs rest e = e
 depends_one exprs n (attributes.TypedPrompt k c) xs rest e = e
@@ -169,7 +168,7 @@ depends_given exprs (l ∷ lines) =
 
 -- the values of attributes, by the code and by the definition
 visible_one : (exprs : Exprs) (n : ℕ) (a : CodeAttribute) (xs : List Expr) (rest : List Line) → xs ≡ filter_map (λ (l : Line). visible_of l.attribute) rest
-    → conjunct exprs (conjunct_view Visibles a) ++ xs ≡ filter_map (λ (l : Line). visible_of l.attribute)
+    → conjunct exprs (conjunct_given Visibles a) ++ xs ≡ filter_map (λ (l : Line). visible_of l.attribute)
     (record { number = n; attribute = attribute_in exprs a } ∷ rest)
 visible_one exprs n (attributes.Typed k) xs rest e = e
 visible_one exprs n (attributes.TypedPrompt k c) xs rest e = e

@@ -16,7 +16,6 @@ ghost use Rattle.kc_conditions.specs.between.Walks.{RepresentsEnclosing, HasWalk
 use super::conditions::{
     EnclosingConditions, EntryConditions, entry_conditions, join_optional, push_conditions,
 };
-use kc_checks::is_prompt;
 use kc_expr::{Arena, ExprId};
 use kc_listing::{GroupHead, Line};
 use kc_tokens::{ExprFault, Language};
@@ -52,7 +51,7 @@ pub fn first_condition(lines: &[Line], conditions: &[ExprId]) -> Option<ExprId>
     ensures value { result ≡ first_prompt lines.now conditions.now }
 {
     for i in 0..lines.len() {
-        if is_prompt(&lines[i].attribute) {
+        if lines[i].attribute.is_prompt() {
             return Some(conditions[i]);
         }
     }

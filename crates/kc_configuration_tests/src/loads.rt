@@ -4,7 +4,7 @@ use kc_config::Config;
 use kc_dotconfig::Fragment;
 use kc_rules::{Profile, Settled};
 use kc_value::{Tri, ValueRef};
-use kmin_fakes::twice;
+use kmin_fakes::{and_drop, twice};
 use std::alloc::{AllocError, Global};
 use std::test::Fail;
 
@@ -113,10 +113,7 @@ fn are_made(
 
 /// Whether a copy is equal to its original: replacing its assignment changes what it should.
 fn is_copied(alloc: Global, config: &Config<'_>) -> Result<bool, AllocError> {
-    let mut copy = config.copy()?;
-    let is_made = is_made(alloc, &mut copy, &OF_A_COPY);
-    drop(copy);
-    is_made
+    and_drop!(mut copy = config.copy()?; is_made(alloc, &mut copy, &OF_A_COPY))
 }
 
 /// Whether the symbol of this number is the only one that is missed.
@@ -138,18 +135,12 @@ fn is_changed(alloc: Global, config: &mut Config<'_>) -> Result<bool, AllocError
 
 /// Whether each file changes a new configuration of the large tree as it should.
 fn is_large_tree_changed(alloc: Global) -> Result<bool, AllocError> {
-    let tree = large_tree(alloc)?;
-    let is_changed = is_large_tree_changed_in(alloc, &tree);
-    drop(tree);
-    is_changed
+    and_drop!(tree = large_tree(alloc)?; is_large_tree_changed_in(alloc, &tree))
 }
 
 /// Whether each file changes a new configuration of this tree as it should.
 fn is_large_tree_changed_in(alloc: Global, tree: &Settled) -> Result<bool, AllocError> {
-    let mut config = twice!(Config::new(alloc, tree));
-    let is_changed = is_changed(alloc, &mut config);
-    drop(config);
-    is_changed
+    and_drop!(mut config = twice!(Config::new(alloc, tree)); is_changed(alloc, &mut config))
 }
 
 /// A bool, two with its value, and one below both.
@@ -173,10 +164,10 @@ const OF_THE_DIAMOND: [Change; 2] = [
 
 /// Whether the files change the diamond as they should, and a refused file changes nothing.
 fn is_diamond_changed(alloc: Global) -> Result<bool, AllocError> {
-    let tree = settled(alloc, DIAMOND, Profile::Present)?;
-    let is_changed = is_diamond_changed_in(alloc, &tree);
-    drop(tree);
-    is_changed
+    and_drop!(
+        tree = settled(alloc, DIAMOND, Profile::Present)?;
+        is_diamond_changed_in(alloc, &tree)
+    )
 }
 
 /// Whether the files change a configuration of this diamond as they should, and a refused file changes nothing.

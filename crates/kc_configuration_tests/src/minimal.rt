@@ -5,7 +5,7 @@ use kc_dotconfig_model::{LoadFault, LoadKind};
 use kc_minimal::{RunFault, WriteFault, minimise};
 use kc_rules::{Profile, Settled};
 use kc_value::FromRead;
-use kmin_fakes::{Bounded, is_printed, twice, twice_on};
+use kmin_fakes::{Bounded, and_drop, is_printed, twice, twice_on};
 use std::alloc::{AllocError, Global};
 use std::test::Fail;
 
@@ -30,10 +30,10 @@ fn faults_are_printed_as_what_failed(rt: HostRuntime) -> Result<(), Fail> {
 
 /// Whether a file is minimised to these bytes.
 fn is_minimised(alloc: Global, file: &str, wanted: &str) -> Result<bool, AllocError> {
-    let tree = settled(alloc, TREE.as_bytes(), Profile::Present)?;
-    let is_minimised = is_minimised_over(alloc, &tree, file, wanted);
-    drop(tree);
-    is_minimised
+    and_drop!(
+        tree = settled(alloc, TREE.as_bytes(), Profile::Present)?;
+        is_minimised_over(alloc, &tree, file, wanted)
+    )
 }
 
 /// Whether a file is minimised to these bytes over this tree.

@@ -6,7 +6,7 @@ use kc_dotconfig::Format;
 use kc_dotconfig_model::{LoadFault, LoadKind};
 use kc_minimal::{RunFault, WriteFault, minimise};
 use kc_rules::{Profile, Settled};
-use kmin_fakes::{Bounded, Script, Then, twice, twice_on};
+use kmin_fakes::{Bounded, Script, Then, and_drop, twice, twice_on};
 use std::alloc::{AllocError, Global};
 use std::test::Fail;
 
@@ -112,10 +112,7 @@ fn is_answered(
 
 /// Whether each file of `cases` is answered as it should be, in pieces of each size.
 fn are_answered(alloc: Global) -> Result<bool, AllocError> {
-    let tree = settled(alloc, BOOL, Profile::Present)?;
-    let are_answered = are_answered_over(alloc, &tree);
-    drop(tree);
-    are_answered
+    and_drop!(tree = settled(alloc, BOOL, Profile::Present)?; are_answered_over(alloc, &tree))
 }
 
 /// Whether each file of `cases` is answered as it should be over this tree, in pieces of each size.
@@ -157,10 +154,10 @@ fn longest_line(alloc: Global) -> Result<Vec<u8>, AllocError> {
 
 /// Whether the longest line that is read is accepted, and a line of one byte more refused.
 fn are_long_lines_answered(alloc: Global) -> Result<bool, AllocError> {
-    let tree = settled(alloc, BOOL, Profile::Present)?;
-    let are_answered = are_long_lines_answered_over(alloc, &tree);
-    drop(tree);
-    are_answered
+    and_drop!(
+        tree = settled(alloc, BOOL, Profile::Present)?;
+        are_long_lines_answered_over(alloc, &tree)
+    )
 }
 
 /// Whether the longest line that is read is accepted over this tree, and a line of one byte more refused.
@@ -192,10 +189,10 @@ fn is_answered_once(
     case: &Case<'_>,
     room: usize,
 ) -> Result<bool, AllocError> {
-    let tree = settled(alloc, tree, Profile::Present)?;
-    let is_answered = is_answered(alloc, &tree, case, 4_096, room);
-    drop(tree);
-    is_answered
+    and_drop!(
+        tree = settled(alloc, tree, Profile::Present)?;
+        is_answered(alloc, &tree, case, 4_096, room)
+    )
 }
 
 #[test]

@@ -3,7 +3,7 @@ use super::test_trees::{are_same, merged_twice, settled};
 use kc_config::Config;
 use kc_rules::{Profile, Settled, Steps};
 use kc_system::solve;
-use kmin_fakes::twice;
+use kmin_fakes::{and_drop, twice};
 use std::alloc::{AllocError, Global};
 use std::test::Fail;
 
@@ -81,10 +81,10 @@ fn is_kept_solved(alloc: Global, profile: Profile) -> Result<bool, AllocError> {
 
 /// Whether the values of a configuration of this tree are those that solving anew gives, after each of many changes.
 fn stays_solved(alloc: Global, tree: &Settled) -> Result<bool, AllocError> {
-    let mut config = twice!(Config::new(alloc, tree));
-    let stays_solved = is_solved_throughout(alloc, &mut config);
-    drop(config);
-    stays_solved
+    and_drop!(
+        mut config = twice!(Config::new(alloc, tree));
+        is_solved_throughout(alloc, &mut config)
+    )
 }
 
 /// Whether a configuration, which has no user value at first, has the values that solving anew gives, after each of 40 changes.

@@ -11,15 +11,12 @@ use kc_rules::{Profile, Settled, UnitValue, UserValue, settle};
 use kc_system::{Report, System};
 use kc_tree::{Texts, Tree};
 use kc_value::FromRead;
-use kmin_fakes::{twice, twice_on};
+use kmin_fakes::{and_drop, twice, twice_on};
 use std::alloc::{AllocError, Global};
 
 /// The settled tree of one Kconfig file with this text. An `Err` means out of memory, or that the tree isn't accepted.
 pub(crate) fn settled(alloc: Global, text: &[u8], profile: Profile) -> Result<Settled, AllocError> {
-    let texts = texts_of(alloc, text)?;
-    let settled = settled_twice(alloc, &texts, profile);
-    drop(texts);
-    settled
+    and_drop!(texts = texts_of(alloc, text)?; settled_twice(alloc, &texts, profile))
 }
 
 /// The tree of these texts, settled at the second try where the first is refused.
@@ -74,10 +71,10 @@ pub(crate) fn merged_twice(
     config: &mut Config<'_>,
     file: &str,
 ) -> Result<Report, AllocError> {
-    let fragment = fragment_twice(alloc, config.settled(), file)?;
-    let report = laid_over_itself(config, &fragment);
-    drop(fragment);
-    report
+    and_drop!(
+        fragment = fragment_twice(alloc, config.settled(), file)?;
+        laid_over_itself(config, &fragment)
+    )
 }
 
 /// The assignments and notices of a configuration file, read at a second try if the first fails.
@@ -95,10 +92,7 @@ pub(crate) fn fragment_twice(
 fn laid_over_itself(config: &mut Config<'_>, fragment: &Fragment) -> Result<Report, AllocError>
     requires { FitsTree (tree_in config.old) fragment.now.assigns.items }
 {
-    let before = twice!(config.copy());
-    let report = laid_over(config, &before, fragment);
-    drop(before);
-    report
+    and_drop!(before = twice!(config.copy()); laid_over(config, &before, fragment))
 }
 
 /// Lays a fragment over a configuration that is equal to the copy `before`, with which it is compared after a failed try.

@@ -7,3 +7,4 @@ pub mod UserValueFits
 pub mod FragmentFits
 pub mod AscendingUnits
 pub mod GatheredLines
+pub mod Groups

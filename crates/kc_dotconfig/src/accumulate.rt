@@ -18,7 +18,8 @@ ghost use Rattle.kc_dotconfig.specs.checker.GatheredLines.{lines_in, lines_more,
 use super::accumulator::Accumulator;
 use super::assigned_values::AssignedValues;
 use super::fragment::Fragment;
-use super::gathered_lines::{add_line, with_lines};
+use super::gathered_lines::with_lines;
+use super::maps::add_item;
 use super::meanings::{Meaning, read_line};
 use kc_dotconfig_model::{ChoiceLine, Format, LoadKind, Notice, NoticeKind};
 use kc_rules::Settled;
@@ -123,7 +124,7 @@ fn take_member(
     ensures lines { OnOk result (gathered.new.lines ≡ gathered.old.lines + 1) }
     ensures err { OnErr result (gathered.new.lines ≡ gathered.old.lines) }
 {
-    add_line(alloc, &mut gathered.members, unit, line)?;
+    add_item(alloc, &mut gathered.members, unit, line)?;
     gathered.lines += 1;
     gathered.next = unit.saturating_add(1);
     Ok(())

@@ -4,6 +4,7 @@ ghost use Rattle.std.specs.BTreeMap.{insert_entry};
 ghost use Rattle.std.specs.Ordering.{nat_cmp};
 ghost use Rattle.kc_dotconfig.specs.checker.UserValueOrder.{IsAscending, AreBelow};
 
+use super::maps::put;
 use kc_rules_model::UserValue;
 use std::alloc::{AllocError, Global};
 use std::collections::BTreeMap;
@@ -52,29 +53,9 @@ fn map_of(
 {
     let mut map = BTreeMap::new(alloc);
     for (unit, user) in listed {
-        match map.insert(unit, user) {
-            Ok(before) => drop(before),
-            Err(_) => return Err(AllocError),
-        }
+        put(&mut map, unit, user)?;
     }
     Ok(map)
-}
-
-/// Sets the user value of a unit in a map, and replaces an earlier one.
-pub(crate) fn put(
-    map: &mut BTreeMap<u32, UserValue>,
-    unit: u32,
-    user: UserValue,
-) -> Result<(), AllocError>
-    ensures { OnOk result (map.new.entries ≡ insert_entry nat_cmp map.old.entries unit user) }
-{
-    match map.insert(unit, user) {
-        Ok(before) => {
-            drop(before);
-            Ok(())
-        }
-        Err(_) => Err(AllocError),
-    }
 }
 
 impl AssignedValues {

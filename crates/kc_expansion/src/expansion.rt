@@ -17,13 +17,13 @@ ghost use Rattle.kc_expansion.specs.checker.ReadingViews.{state_of, file_run_of}
 use super::choice_names::ChoiceNames;
 use super::faults::fault;
 use super::line_steps::LineState;
-use super::open_files::{OpenFiles, with_path};
+use super::open_files::OpenFiles;
 use super::reading_state::Reading;
 use super::source_faults::ReadCounts;
 use super::tree_reading::read_lines;
 use kc_answers::Answers;
 use kc_files::{ExpandedFiles, ExpandedTree, FileRead, Store, TreeFiles};
-use kc_macros::{Bindings, MacroFault, MacroKind, MacroNotice, Place, Run, Stop};
+use kc_macros::{Bindings, MacroFault, MacroKind, MacroNotice, Place, Run, Stop, with_innermost};
 use kc_value::{MAX_FILES, MAX_TREE_BYTES, Seed};
 use std::alloc::{AllocError, Global};
 use std::rc::Rc;
@@ -78,7 +78,7 @@ fn read_root<F: TreeFiles>(
     if bytes.len() > MAX_TREE_BYTES {
         return Err(fault(reading.alloc, at, MacroKind::TooMany));
     }
-    let paths = with_path(reading.alloc, root, &[])?;
+    let paths = with_innermost(reading.alloc, root, &[])?;
     let opened = OpenFiles {
         root,
         paths: &paths,

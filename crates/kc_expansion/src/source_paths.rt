@@ -1,5 +1,5 @@
 //! The paths that a `source` line reads.
-ghost use Rattle.std.specs.Prelude.{◌≡◌, ◌∷◌, [], ◌||◌, not, nat_lt, length, IfOk};
+ghost use Rattle.std.specs.Prelude.{◌≡◌, ◌∷◌, [], ◌||◌, not, nat_lt, length, Some, IfOk};
 ghost use Rattle.kc_macros_model.specs.Worlds.{returned};
 ghost use Rattle.kc_macros_model.specs.PathPatterns.{paths_with_files};
 ghost use Rattle.kc_macros_model.specs.TreeExpansion.{SourceReader, path_read};
@@ -37,8 +37,8 @@ fn pattern_paths<F: TreeFiles>(
     at: Place<'_>,
     sort: SourceSort,
     pattern: &[u8],
-) -> Result<Option<Vec<Vec<u8>>>, Stop>
-    ensures { (sub : SourceReader) → Steps (file_run_of (F.contents files.old) reading.old) (file_run_of (F.contents files.new) reading.new) (pattern_followed sub (place_of at.entry) (source_sort_of sort) pattern.now (state_of reading.old)) (λ found. paths_left sub (place_of at.entry) pattern.now found (state_of reading.new)) result }
+) -> Result<Vec<Vec<u8>>, Stop>
+    ensures { (sub : SourceReader) → Steps (file_run_of (F.contents files.old) reading.old) (file_run_of (F.contents files.new) reading.new) (pattern_followed sub (place_of at.entry) (source_sort_of sort) pattern.now (state_of reading.old)) (λ found. paths_left sub (place_of at.entry) pattern.now (Some found) (state_of reading.new)) result }
 {
     match files_of_pattern(
         reading.alloc,
@@ -52,7 +52,7 @@ fn pattern_paths<F: TreeFiles>(
                 return Err(fault(reading.alloc, at, MacroKind::MissingFile));
             }
             reading.listed = found.listed;
-            Ok(Some(found.paths))
+            Ok(found.paths)
         }
         Err(PatternStop::TooMany) => Err(fault(reading.alloc, at, MacroKind::TooMany)),
         Err(PatternStop::Unlisted) => Err(fault(reading.alloc, at, MacroKind::MissingFile)),
@@ -89,7 +89,8 @@ pub(crate) fn paths_to_read<F: TreeFiles>(
     ensures { (sub : SourceReader) → Steps (file_run_of (F.contents files.old) reading.old) (file_run_of (F.contents files.new) reading.new) (path_read sub (place_of at.entry) (source_sort_of sort) path.now (state_of reading.old)) (λ found. paths_left sub (place_of at.entry) path.now found (state_of reading.new)) result }
 {
     if is_pattern(path) {
-        return pattern_paths(reading, files, at, sort, path);
+        let found = pattern_paths(reading, files, at, sort, path)?;
+        return Ok(Some(found));
     }
     if sort.optional {
         let paths = path_if_there(reading.alloc, &mut reading.store, files, path)?;

@@ -15,7 +15,7 @@ ghost use Rattle.kc_expansion.specs.checker.WrittenViews.{text_up_to};
 use super::file_lines::{LineHere, line_here, put_source};
 use super::line_places::LineStart;
 use super::line_steps::SourceLine;
-use super::open_files::{OpenFiles, with_path};
+use super::open_files::OpenFiles;
 use super::reading_state::Reading;
 use super::source_lines::push_source_line;
 use super::source_paths::paths_to_read;
@@ -23,7 +23,7 @@ use super::source_reads::{file_to_read, keep_list, keep_text, list_to_read};
 use super::written_file::WrittenFile;
 use kc_files::{TreeFiles, has_bracket, list_name, path_meant};
 use kc_macro_forms::{SourceSort, line_bytes, source_line};
-use kc_macros::{Place, Stop};
+use kc_macros::{Place, Stop, with_innermost};
 use kc_value::{MAX_OPEN_FILES, MAX_TREE_BYTES};
 use std::rc::Rc;
 
@@ -40,7 +40,7 @@ fn read_source<F: TreeFiles>(
     ensures reads { Reads (file_run_of (F.contents files.old) reading.old) (file_run_of (F.contents files.new) reading.new) (reader_of opened.now (place_of at.entry) (one_file path.now) (state_of reading.old)) (end_of (λ key. progress key.items (state_of reading.new)) result) }
 {
     let bytes = file_to_read(reading, files, opened, at, path)?;
-    let paths = with_path(reading.alloc, path, opened.paths)?;
+    let paths = with_innermost(reading.alloc, path, opened.paths)?;
     let inner = OpenFiles {
         root: opened.root,
         paths: &paths,
@@ -63,7 +63,7 @@ fn read_list<F: TreeFiles>(
     ensures reads { Reads (file_run_of (F.contents files.old) reading.old) (file_run_of (F.contents files.new) reading.new) (reader_of opened.now (place_of at.entry) (file_list name.now (items_of paths.now)) (state_of reading.old)) (end_of (λ key. progress key.items (state_of reading.new)) result) }
 {
     list_to_read(reading, opened, at, name)?;
-    let open_paths = with_path(reading.alloc, name, opened.paths)?;
+    let open_paths = with_innermost(reading.alloc, name, opened.paths)?;
     let inner = OpenFiles {
         root: opened.root,
         paths: &open_paths,

@@ -43,21 +43,19 @@ located_explained_at_is strings paths tree values s lines r places there =
     ∙ ap (λ x. located_first_line strings paths tree values s r.chosen r.case places.given_at ++ (hindrance_line r.hindrance ++ x))
     (sym (located_details_is strings paths tree values s k.0 lines r places k.1))
 
--- two texts, each appended to what was there; three; four
+-- two texts, each appended to what was there; three
 pub joined_two : (old one two a b : List ℕ) → one ≡ old ++ a → two ≡ one ++ b → two ≡ old ++ (a ++ b)
 joined_two old one two a b h1 h2 = h2 ∙ ap (λ x. x ++ b) h1 ∙ simp append_assoc
 
 pub joined_three : (old one two three a b c : List ℕ) → one ≡ old ++ a → two ≡ one ++ b → three ≡ two ++ c → three ≡ old ++ (a ++ (b ++ c))
 joined_three old one two three a b c h1 h2 h3 = h3 ∙ ap (λ x. x ++ c) (h2 ∙ ap (λ x. x ++ b) h1) ∙ simp append_assoc
 
-pub joined_four : (old one two three four a b c d : List ℕ) → one ≡ old ++ a → two ≡ one ++ b → three ≡ two ++ c → four ≡ three ++ d
-    → four ≡ old ++ (a ++ (b ++ (c ++ d)))
-joined_four old one two three four a b c d h1 h2 h3 h4 =
-    h4 ∙ ap (λ x. x ++ d) (h3 ∙ ap (λ x. x ++ c) (h2 ∙ ap (λ x. x ++ b) h1)) ∙ simp append_assoc
+-- and where one of them is two; after two more
+pub joined_details : (old one two three a b c d : List ℕ) → one ≡ old ++ a → two ≡ one ++ (b ++ c) → three ≡ two ++ d
+    → three ≡ old ++ (a ++ (b ++ (c ++ d)))
+joined_details old one two three a b c d h1 h2 h3 = h3 ∙ ap (λ x. x ++ d) (h2 ∙ ap (λ x. x ++ (b ++ c)) h1) ∙ simp append_assoc
 
--- six texts, each appended to what was there
-pub joined : (old one two three four five six a b c d e f : List ℕ) → one ≡ old ++ a → two ≡ one ++ b → three ≡ two ++ c → four ≡ three ++ d
-    → five ≡ four ++ e → six ≡ five ++ f → six ≡ old ++ (a ++ (b ++ (c ++ (d ++ (e ++ f)))))
-joined old one two three four five six a b c d e f h1 h2 h3 h4 h5 h6 =
-    h6 ∙ ap (λ x. x ++ f) (h5 ∙ ap (λ x. x ++ e) (h4 ∙ ap (λ x. x ++ d) (h3 ∙ ap (λ x. x ++ c) (h2 ∙ ap (λ x. x ++ b) h1))))
-    ∙ simp append_assoc
+pub joined_all : (old one two three four five a b c d e f : List ℕ) → one ≡ old ++ a → two ≡ one ++ b → three ≡ two ++ c → four ≡ three ++ (d ++ e)
+    → five ≡ four ++ f → five ≡ old ++ (a ++ (b ++ (c ++ (d ++ (e ++ f)))))
+joined_all old one two three four five a b c d e f h1 h2 h3 h4 h5 =
+    h5 ∙ ap (λ x. x ++ f) (h4 ∙ ap (λ x. x ++ (d ++ e)) (h3 ∙ ap (λ x. x ++ c) (h2 ∙ ap (λ x. x ++ b) h1))) ∙ simp append_assoc

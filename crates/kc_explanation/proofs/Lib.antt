@@ -1,2 +1,4 @@
 pub mod SpellingLemmas
 pub mod ExplanationLemmas
+pub mod PartLines
+pub mod Spellings

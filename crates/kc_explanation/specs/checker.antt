@@ -1,1 +1,3 @@
 pub mod SpellingWalk
+pub mod Contexts
+pub mod PartLines

@@ -55,7 +55,10 @@ impl Store {
         if let Some(index) = self.find_newest(text) {
             return Ok(Leaf::Name(index));
         }
-        let index = self.intern(text)?;
+        if let Some(index) = self.find(text) {
+            return Ok(Leaf::Name(index));
+        }
+        let index = self.insert_name(text)?;
         Ok(Leaf::Name(index))
     }
 
@@ -135,8 +138,8 @@ impl Store {
         if !condition || !is_constant_m(leaf) {
             return Ok(id);
         }
-        let modules = self.intern("MODULES")?;
-        let name = self.push(Node::Alone(Leaf::Name(modules)))?;
+        let modules = self.word_leaf("MODULES")?;
+        let name = self.push(Node::Alone(modules))?;
         self.push(Node::Both(id, name))
     }
 }

@@ -152,26 +152,6 @@ impl Store {
         Ok(id)
     }
 
-    /// The number of a name, which is appended if the store doesn't hold it. An `Err` means out of memory.
-    pub(crate) fn intern(&mut self, name: &str) -> Result<u32, ExprFault>
-        requires sound { IsSound self.old }
-        ensures sound { IsSound self.new }
-        ensures extends { Extends self.old self.new }
-        ensures place { IfOk result (λ i. index_of_name name.now (stored_names self.new) ≡ Some i) }
-        ensures within { IfOk result (λ i. i < length (stored_names self.new)) }
-        ensures name { IfOk result (λ i. slice_index_or (stored_names self.new) i [] ≡ name.now) }
-        ensures names { IfOk result (λ i. stored_names self.new ≡ with_name name.now (stored_names self.old)) }
-        ensures texts { self.new.texts.items ≡ self.old.texts.items }
-        ensures nodes { self.new.nodes.items ≡ self.old.nodes.items }
-        ensures memory { IfErr result IsOutOfMemory }
-        ensures err { OnErr result (exprs_in self.new ≡ exprs_in self.old) }
-    {
-        match self.find(name) {
-            Some(index) => Ok(index),
-            None => self.insert_name(name),
-        }
-    }
-
     /// The number of a name, which is appended if the store doesn't hold it. An `Err` means out of memory, or that there are 2^32
     /// names already.
     pub(crate) fn insert_name(&mut self, name: &str) -> Result<u32, ExprFault>

@@ -1,6 +1,6 @@
 -- The paths of patterns.
 use Rattle.std.proofs.Common.{◌≡◌, ℕ, zero, suc, ◌+◌, ◌<◌, ◌≤◌, Bool, true, false, cond, List, [], ◌∷◌, ◌++◌, length, map, drop, take, get_or, None, Some, refl, sym, ap, ◌∙◌, subst, append_assoc, arith, length-drop}
-use Rattle.std.specs.Prelude.{Vec, Result, Ok, Err, filter, nat_lt, ◌==◌, if◌then◌else◌}
+use Rattle.std.specs.Prelude.{Vec, Result, Ok, Err, IsErrAnd, filter, nat_lt, ◌==◌, if◌then◌else◌}
 use Rattle.std.specs.List.{onto_first}
 use Rattle.std.specs.declared.alloc.Global.{Global}
 use Rattle.std.proofs.lemmas.Bool.Decides.{nat_tests}
@@ -188,6 +188,33 @@ pub as_it_is : (at : Place) (piece folder : List ℕ) (listed : ℕ) → is_patt
     ≡ returns (found ((folder ++ piece) ∷ []) listed)
 as_it_is at piece folder listed e =
     ap (λ b. elim b [ true ↦ does (list_folder folder) (matching_listed at piece folder listed) | false ↦ returns (found ((folder ++ piece) ∷ []) listed) ]) e
+
+-- a piece without `*` and `?` is a name in each of some folders
+module _ (at : Place) (piece : List ℕ) (e : is_pattern piece ≡ false) where
+  as_names : (folders : List (List ℕ)) (listed : ℕ) → paths_in_folders at piece folders listed ≡ returns (found (map (λ folder. folder ++ piece) folders) listed)
+  as_names [] listed = refl
+  as_names (folder ∷ folders) listed =
+      ap (λ (p : Program FoundPaths). p >>= λ first. paths_in_folders at piece folders first.listed >>= λ rest. returns
+      (found (first.paths ++ rest.paths) rest.listed)) (as_it_is at piece folder listed e)
+      ∙ ap (λ (p : Program FoundPaths). p >>= λ rest. returns (found ((folder ++ piece) ∷ rest.paths) rest.listed)) (as_names folders listed)
+
+  pub names_found : (known : KnownFiles) (folders : List (List ℕ)) (listed : ℕ)
+      → Comes known (paths_in_folders at piece folders listed) (returned (found (map (λ folder. folder ++ piece) folders) listed))
+  names_found known folders listed =
+      let f = found (map (λ folder. folder ++ piece) folders) listed in
+      comes_as known (paths_in_folders at piece folders listed) (returns f) (returned f)
+      (same_by known (paths_in_folders at piece folders listed) (returns f) (as_names folders listed)) (comes_at_once known f)
+
+-- a result that passes on a stop finds what the stop does
+module _ (known : KnownFiles) (at : Place) (p : Program FoundPaths) (stop : PatternStop) where
+  pub stops_as : (r : Result CodePaths PatternStop) → IsErrAnd r (λ e. e ≡ stop) → Finds known at p (Err stop) → Finds known at p r
+  stops_as (Ok f) h k = absurd h
+  stops_as (Err e) h k = subst (λ (s : PatternStop). Finds known at p (Err s)) (sym h) k
+
+  pub more_stops_as : {T : Type 0} (before after : FoundPaths) (r : Result T PatternStop) → IsErrAnd r (λ e. e ≡ stop)
+      → FindsMore {T = T} known at p before after (Err stop) → FindsMore known at p before after r
+  more_stops_as before after (Ok x) h k = absurd h
+  more_stops_as {T = T} before after (Err e) h k = subst (λ (s : PatternStop). FindsMore {T = T} known at p before after (Err s)) (sym h) k
 
 not_slash : (c : ℕ) → (c ≡ 47 → ⊥) → (c == 47) ≡ false
 not_slash c h = grind (arith, nat_tests)

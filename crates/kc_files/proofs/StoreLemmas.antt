@@ -1,15 +1,15 @@
 -- The files and folders that a store has.
 use Rattle.std.proofs.Common.{◌≡◌, ℕ, ◌-◌, ◌^◌, ◌<◌, ◌≤◌, Bool, ◌||◌, List, [], ◌∷◌, ◌++◌, Option, Some, None, refl, sym, ap, ◌∙◌, subst, ⊎_elim, arith}
-use Rattle.std.specs.Prelude.{is_some, Result, Ok, Err, IfOk}
+use Rattle.std.specs.Prelude.{is_some, option_map, Result, Ok, Err, IfOk}
 use Rattle.kc_value.specs.Streams.{one_failure_more}
 use Rattle.kc_files.specs.declared.file_bytes.FileRead.{FileRead as CodeFile}
-use Rattle.kc_files.specs.checker.FileViews.{file_of}
+use Rattle.kc_files.specs.checker.FileViews.{file_of, seen_as}
 use Rattle.kc_value.specs.declared.limits.TheConstants.{MAX_LISTED_NAMES}
 use Rattle.kc_tree_model.specs.Keywords.{keyword_in_table}
 use Rattle.kc_macros_model.specs.Worlds.{World, has_file}
 use Rattle.kc_files.specs.TreeContents.{TreeContents, StaysKnown, HasRisen, FileContent, OpensAs, FolderContent, ListsAs}
 use Rattle.kc_files.specs.between.KnownFiles.{FileRead, missing, unreadable, whole, too_long, is_there, FolderRead, names, too_many, unlisted, KnownFiles, AreBytes, IsUnreadable, Agrees, MatchFile, content_of_reader, MatchFolder, AreAsKnown, Grows}
-use Rattle.kc_files.proofs.TableLemmas.{stays_found, found_or_new}
+use Rattle.kc_files.proofs.TableLemmas.{stays_found, found_or_new, found_as}
 
 pub stays_same : (t : TreeContents) → StaysKnown t t
 stays_same t = record { same = refl; rising = omega arith }
@@ -180,3 +180,9 @@ there_by_read too_long bytes unread (more, h, l) k = ap (λ b. is_some b || unre
 pub there_by : (known : KnownFiles) (path : List ℕ) (read : FileRead) → keyword_in_table known.files path ≡ Some read → (w : World) → Agrees w known
     → has_file w path ≡ is_there read
 there_by known path read e w a = there_by_read read (w.bytes path) (w.unreadable path) (a.files path read e) (a.there path read e)
+
+-- the shared result of reading a file is the one that the store has for the path
+pub shared_found : {E : Type 0} (r : Result CodeFile E) (read : CodeFile) (table : List (List ℕ × CodeFile)) (path : List ℕ) → keyword_in_table table path ≡ Some read
+    → IfOk r (λ copy. file_of copy ≡ file_of read) → IfOk r (λ copy. keyword_in_table (seen_as file_of table) path ≡ Some (file_of copy))
+shared_found (Err e) read table path h f = tt
+shared_found (Ok copy) read table path h f = found_as file_of table path ∙ ap (option_map file_of) h ∙ ap Some (sym f)

@@ -5,11 +5,10 @@
 mod expanded_files;
 mod expanded_tree;
 mod file_bytes;
-mod file_table;
 mod files;
 mod folder_names;
-mod folder_table;
 mod name_matches;
+mod path_table;
 mod paths;
 mod patterns;
 mod store;

@@ -1,18 +1,16 @@
 //! The store of the files and folders of a tree: each path is opened at most once, and each folder listed at most once.
 ghost use Rattle.std.specs.Prelude.{◌≡◌, [], ◌≢◌, None, Some, IfOk, IfErr};
 ghost use Rattle.kc_tree_model.specs.Keywords.{keyword_in_table};
-ghost use Rattle.kc_macros_model.specs.Worlds.{World, has_file};
-ghost use Rattle.kc_files.specs.between.KnownFiles.{names, is_there, Agrees, Grows};
+ghost use Rattle.kc_files.specs.between.KnownFiles.{names, is_there, Grows};
 ghost use Rattle.kc_files.specs.checker.FileViews.{file_of, known_of};
 ghost use Rattle.kc_files.specs.checker.PatternRuns.{StopsAtFolder};
 ghost use Rattle.kc_files.specs.TextViews.{items_of};
 ghost use Rattle.kc_files.specs.TreeContents.{StaysKnown};
 
 use super::file_bytes::{FileRead, read_file};
-use super::file_table::FileTable;
 use super::files::TreeFiles;
 use super::folder_names::{FolderRead, list_folder};
-use super::folder_table::FolderTable;
+use super::path_table::PathTable;
 use super::patterns::PatternStop;
 use kc_value::{MAX_BLOCK_BYTES, Seed};
 use std::alloc::{AllocError, Global};
@@ -22,8 +20,8 @@ use std::rc::Rc;
 /// read at once.
 #[derive(Drop)]
 pub struct Store {
-    files: FileTable,
-    folders: FolderTable,
+    files: PathTable<FileRead>,
+    folders: PathTable<FolderRead>,
     block: [u8; MAX_BLOCK_BYTES],
 }
 
@@ -39,8 +37,8 @@ fn shared(read: &FileRead) -> Result<FileRead, AllocError>
     }
 }
 
-/// Whether a file is there, by the result of reading it.
-fn is_there(read: &FileRead) -> bool
+/// Whether a file is there, also one that can't be read, by the result of reading it.
+pub(crate) fn is_there(read: &FileRead) -> bool
     ensures { result ≡ is_there (file_of read.now) }
 {
     match read {
@@ -58,8 +56,8 @@ impl Store {
         ensures folders { result.folders ≡ [] }
     {
         Store {
-            files: FileTable::new(alloc, seed),
-            folders: FolderTable::new(alloc, seed),
+            files: PathTable::new(alloc, seed),
+            folders: PathTable::new(alloc, seed),
             block: [0; MAX_BLOCK_BYTES],
         }
     }
@@ -118,9 +116,9 @@ impl Store {
     ///
     /// The folder has more names than may be listed, or it is there and can't be listed.
     pub(crate) fn names_in(&self, folder: &[u8]) -> Result<&[Vec<u8>], PatternStop>
-        requires listed { keyword_in_table self.now.folders folder.now ≢ None }
-        ensures value { IfOk result (λ ns. keyword_in_table self.now.folders folder.now ≡ Some (names (items_of ns.now))) }
-        ensures stop { IfErr result (λ stop. StopsAtFolder stop (keyword_in_table self.now.folders folder.now)) }
+        requires listed { keyword_in_table (known_of self.now).folders folder.now ≢ None }
+        ensures value { IfOk result (λ ns. keyword_in_table (known_of self.now).folders folder.now ≡ Some (names (items_of ns.now))) }
+        ensures stop { IfErr result (λ stop. StopsAtFolder stop (keyword_in_table (known_of self.now).folders folder.now)) }
     {
         match self.folders.get(folder) {
             Some(FolderRead::Names(names)) => Ok(names.as_slice()),
@@ -128,24 +126,5 @@ impl Store {
             Some(FolderRead::Unlisted) => Err(PatternStop::Unlisted),
             None => unreachable!(),
         }
-    }
-
-    /// Whether a file is at a path, also one that can't be read.
-    ///
-    /// # Errors
-    ///
-    /// Memory runs out.
-    pub(crate) fn has_file<F: TreeFiles>(
-        &mut self,
-        alloc: Global,
-        files: &mut F,
-        path: &[u8],
-    ) -> Result<bool, AllocError>
-        ensures same { StaysKnown (F.contents files.old) (F.contents files.new) }
-        ensures grows { Grows (F.contents files.old) (F.contents files.new) (known_of self.old) (known_of self.new) }
-        ensures there { IfOk result (λ there. (w : World) → Agrees w (known_of self.new) → has_file w path.now ≡ there) }
-    {
-        let read = self.file(alloc, files, path)?;
-        Ok(is_there(&read))
     }
 }

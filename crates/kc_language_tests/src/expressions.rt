@@ -5,7 +5,7 @@ ghost use Rattle.kc_expr.specs.between.Visits.{HasFound};
 use kc_expr::{Arena, ExprId, NameId, Operand, VisitedSet};
 use kc_tokens::{ExprFault, ExprKind, Language, Token, tokens};
 use kc_value::Tri;
-use kmin_fakes::{twice, twice_on};
+use kmin_fakes::{and_drop, twice, twice_on};
 use std::alloc::{AllocError, Global};
 
 /// How many names and expressions an arena has.
@@ -54,10 +54,7 @@ fn read(alloc: Global, arena: &mut Arena, text: &str) -> Result<(ExprId, usize, 
 
 /// Whether the calls of an arena return the parts of an expression.
 fn returns_parts(alloc: Global) -> Result<bool, ExprFault> {
-    let mut arena = Arena::new(alloc);
-    let returns_parts = returns_parts_in(alloc, &mut arena);
-    drop(arena);
-    returns_parts
+    and_drop!(mut arena = Arena::new(alloc); returns_parts_in(alloc, &mut arena))
 }
 
 /// Whether those of this arena, which is empty, do.
@@ -122,10 +119,7 @@ fn push_unvisited(
 
 /// Whether a walk passes over the names that it has visited, and visits them again once it is begun anew.
 fn is_visited_once(alloc: Global) -> Result<bool, ExprFault> {
-    let mut arena = Arena::new(alloc);
-    let is_visited_once = is_visited_once_in(alloc, &mut arena);
-    drop(arena);
-    is_visited_once
+    and_drop!(mut arena = Arena::new(alloc); is_visited_once_in(alloc, &mut arena))
 }
 
 /// Whether a walk through an expression of this arena, which is empty at first, visits each name once.
@@ -171,10 +165,7 @@ fn push_all(arena: &Arena, id: ExprId, found: &mut Vec<NameId>) -> Result<(), Al
 
 /// Whether the names of an expression are appended to those of a list, each as often as it occurs.
 fn are_pushed(alloc: Global) -> Result<bool, ExprFault> {
-    let mut arena = Arena::new(alloc);
-    let are_pushed = are_pushed_in(alloc, &mut arena);
-    drop(arena);
-    are_pushed
+    and_drop!(mut arena = Arena::new(alloc); are_pushed_in(alloc, &mut arena))
 }
 
 /// Whether the names of an expression of this arena, which is empty at first, are appended as often as they occur.

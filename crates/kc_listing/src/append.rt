@@ -10,26 +10,25 @@ ghost use Rattle.kc_listing.specs.between.ListingView.{RepresentsListing};
 ghost use Rattle.kc_listing.specs.checker.StateViews.{Describes, IsMeant, at_line};
 
 use super::listing::{Group, GroupHead, Listing};
-use super::state::{OpenBlock, ReaderState};
+use super::state::{OpenBlock, Position, ReaderState};
 use kc_tree_model::{Block, TreeKind};
 use kc_value::Text;
 
 /// Appends to the listing a statement that defines no symbol, or the end of a file.
 pub(crate) fn push_group(
     listing: &mut Listing,
-    file: u32,
-    line: u32,
+    at: Position,
     head: GroupHead,
 ) -> Result<(), TreeKind>
     ensures appends { (before : List Placed) (m : Meant) → RepresentsListing listing.old before → IsMeant listing.old before head m
-        → from_head name_of_head m ≡ None → OnOk result (RepresentsListing listing.new (with_group (at_line file line) m before)) }
+        → from_head name_of_head m ≡ None → OnOk result (RepresentsListing listing.new (with_group (at_line at.file at.line) m before)) }
     ensures texts { listing.new.texts ≡ listing.old.texts }
     ensures memory { IfErr result (λ k. k ≡ OutOfMemory) }
 {
     let attributes = listing.lines.len();
     let Ok(()) = listing.groups.push(Group {
-        file,
-        line,
+        file: at.file,
+        line: at.line,
         head,
         attributes,
     })
@@ -42,67 +41,60 @@ pub(crate) fn push_group(
 /// Appends the end of the innermost block or sourced file, and takes it off the stack.
 pub(crate) fn push_end(
     read: &mut ReaderState,
-    file: u32,
-    line: u32,
+    at: Position,
     head: GroupHead,
 ) -> Result<(), TreeKind>
     ensures appends { (r : FileSource) (before : List Placed) (m : Meant) → Describes r read.old before → IsMeant read.old.listing before head m
-        → side_of m ≡ closing → OnOk result (Describes r read.new (with_group (at_line file line) m before)) }
+        → side_of m ≡ closing → OnOk result (Describes r read.new (with_group (at_line at.file at.line) m before)) }
     ensures memory { IfErr result (λ k. k ≡ OutOfMemory) }
 {
     let _ = read.stack.pop();
-    push_group(&mut read.listing, file, line, head)
+    push_group(&mut read.listing, at, head)
 }
 
 /// Appends a statement that defines no symbol, and opens and ends no block or file.
 pub(crate) fn push_plain(
     read: &mut ReaderState,
-    file: u32,
-    line: u32,
+    at: Position,
     head: GroupHead,
 ) -> Result<(), TreeKind>
     ensures appends { (r : FileSource) (before : List Placed) (m : Meant) → Describes r read.old before → IsMeant read.old.listing before head m
-        → side_of m ≡ inside → from_head name_of_head m ≡ None → OnOk result (Describes r read.new (with_group (at_line file line) m before)) }
+        → side_of m ≡ inside → from_head name_of_head m ≡ None → OnOk result (Describes r read.new (with_group (at_line at.file at.line) m before)) }
     ensures memory { IfErr result (λ k. k ≡ OutOfMemory) }
 {
-    push_group(&mut read.listing, file, line, head)
+    push_group(&mut read.listing, at, head)
 }
 
 /// Appends the statement that opens a menu or an `if`.
 pub(crate) fn push_block(
     read: &mut ReaderState,
-    file: u32,
-    line: u32,
+    at: Position,
     head: GroupHead,
     block: Block,
 ) -> Result<(), TreeKind>
     ensures appends { (r : FileSource) (before : List Placed) (m : Meant) → Describes r read.old before → IsMeant read.old.listing before head m
         → from_head block_of_head m ≡ Some block → same_block Block.Choice block ≡ false
-        → OnOk result (Describes r read.new (with_group (at_line file line) m before)) }
+        → OnOk result (Describes r read.new (with_group (at_line at.file at.line) m before)) }
     ensures memory { IfErr result (λ k. k ≡ OutOfMemory) }
 {
-    let Ok(()) = read.stack.push(OpenBlock::Block(block, line)) else {
+    let Ok(()) = read.stack.push(OpenBlock::Block(block, at.line)) else {
         return Err(TreeKind::OutOfMemory);
     };
-    push_group(&mut read.listing, file, line, head)
+    push_group(&mut read.listing, at, head)
 }
 
 /// Appends the statement that opens a choice.
-pub(crate) fn push_choice_group(
-    read: &mut ReaderState,
-    file: u32,
-    line: u32,
-) -> Result<(), TreeKind>
+pub(crate) fn push_choice_group(read: &mut ReaderState, at: Position) -> Result<(), TreeKind>
     requires few { read.old.choices < MAX_CHOICES }
     ensures appends { (r : FileSource) (before : List Placed) → Describes r read.old before
-        → OnOk result (Describes r read.new (with_group (at_line file line) (of_head choice) before)) }
+        → OnOk result (Describes r read.new (with_group (at_line at.file at.line) (of_head choice) before)) }
     ensures memory { IfErr result (λ k. k ≡ OutOfMemory) }
 {
-    let Ok(()) = read.stack.push(OpenBlock::Block(Block::Choice, line)) else {
+    let Ok(()) = read.stack.push(OpenBlock::Block(Block::Choice, at.line)) else {
         return Err(TreeKind::OutOfMemory);
     };
     read.choices += 1;
-    push_group(&mut read.listing, file, line, GroupHead::Choice)
+    push_group(&mut read.listing, at, GroupHead::Choice)
 }
 
 /// Appends a text, which is a title or a path, and returns its index among the texts.
@@ -123,15 +115,14 @@ pub(crate) fn push_text(read: &mut ReaderState, text: Text) -> Result<usize, Tre
 /// Appends a `source` whose path is the text at the index `place`, and counts its file and the file's bytes.
 pub(crate) fn push_source(
     read: &mut ReaderState,
-    file: u32,
-    line: u32,
+    at: Position,
     place: usize,
     size: usize,
 ) -> Result<(), TreeKind>
     requires files { read.old.files < MAX_FILES }
     requires bytes { read.old.bytes + size ≤ MAX_TREE_BYTES }
     ensures appends { (r : FileSource) (before : List Placed) (path : List ℕ) → Describes r read.old before → slice_get read.old.listing.texts.items place ≡ Some path → size ≡ size_in r path
-        → OnOk result (Describes r read.new (with_group (at_line file line) (of_head (source path)) before)) }
+        → OnOk result (Describes r read.new (with_group (at_line at.file at.line) (of_head (source path)) before)) }
     ensures memory { IfErr result (λ k. k ≡ OutOfMemory) }
 {
     let Ok(()) = read.stack.push(OpenBlock::Source(place)) else {
@@ -139,5 +130,5 @@ pub(crate) fn push_source(
     };
     read.files += 1;
     read.bytes += size;
-    push_group(&mut read.listing, file, line, GroupHead::Source(place))
+    push_group(&mut read.listing, at, GroupHead::Source(place))
 }

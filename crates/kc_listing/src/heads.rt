@@ -3,15 +3,15 @@ ghost use Rattle.std.specs.Prelude.{◌≡◌, ◌<◌, List, length, count_by, 
 ghost use Rattle.kc_expr.specs.between.Arena.{node_expr};
 ghost use Rattle.kc_tree_model.specs.Blocks.{Group as Placed};
 ghost use Rattle.kc_tree_model.specs.Limits.{FileSource};
-ghost use Rattle.kc_tree_model.specs.Statements.{config, choice, menu, condition, comment, mainmenu, ends};
+ghost use Rattle.kc_tree_model.specs.Statements.{config, choice, menu, condition, comment};
 ghost use Rattle.kc_listing.specs.checker.StateViews.{Describes};
 ghost use Rattle.kc_listing.specs.checker.OpenBlockViews.{is_block};
 ghost use Rattle.kc_listing.specs.checker.Steps.{AppendsHead};
 
-use super::append::{push_block, push_choice_group, push_end, push_plain, push_text};
+use super::append::{push_block, push_choice_group, push_plain, push_text};
 use super::listing::{Group, GroupHead};
 use super::open_blocks::open_block_count;
-use super::state::{OpenBlock, ReaderState};
+use super::state::{OpenBlock, Position, ReaderState};
 use kc_expr::ExprId;
 use kc_tree_model::{Block, TreeKind};
 use kc_value::{MAX_CHOICES, MAX_NAME_BYTES, MAX_OPEN_BLOCKS, Text};
@@ -24,13 +24,8 @@ fn is_at_block_limit(stack: &[OpenBlock]) -> bool
 }
 
 /// Appends a menu to the groups read, within the limit of open blocks.
-pub(crate) fn push_menu(
-    read: &mut ReaderState,
-    file: u32,
-    line: u32,
-    title: Text,
-) -> Result<(), TreeKind>
-    ensures { (r : FileSource) (before : List Placed) → Describes r read.old before → AppendsHead r file line before (menu title) read.new result }
+pub(crate) fn push_menu(read: &mut ReaderState, at: Position, title: Text) -> Result<(), TreeKind>
+    ensures { (r : FileSource) (before : List Placed) → Describes r read.old before → AppendsHead r at.file at.line before (menu title) read.new result }
 {
     if is_at_block_limit(&read.stack) {
         return Err(TreeKind::TooDeep);
@@ -38,29 +33,28 @@ pub(crate) fn push_menu(
     let Ok(place) = push_text(read, title) else {
         return Err(TreeKind::OutOfMemory);
     };
-    push_block(read, file, line, GroupHead::Menu(place), Block::Menu)
+    push_block(read, at, GroupHead::Menu(place), Block::Menu)
 }
 
 /// Appends an `if` to the groups read, within the limit of open blocks.
 pub(crate) fn push_if_block(
     read: &mut ReaderState,
-    file: u32,
-    line: u32,
+    at: Position,
     id: ExprId,
 ) -> Result<(), TreeKind>
     requires there { id < length read.old.listing.names.arena.nodes }
     ensures appends { (r : FileSource) (before : List Placed) → Describes r read.old before
-        → AppendsHead r file line before (condition (node_expr read.old.listing.names.arena id)) read.new result }
+        → AppendsHead r at.file at.line before (condition (node_expr read.old.listing.names.arena id)) read.new result }
 {
     if is_at_block_limit(&read.stack) {
         return Err(TreeKind::TooDeep);
     }
-    push_block(read, file, line, GroupHead::Condition(id), Block::If)
+    push_block(read, at, GroupHead::Condition(id), Block::If)
 }
 
 /// Appends a choice to the groups read, within the limits of open blocks and of choices.
-pub(crate) fn push_choice(read: &mut ReaderState, file: u32, line: u32) -> Result<(), TreeKind>
-    ensures { (r : FileSource) (before : List Placed) → Describes r read.old before → AppendsHead r file line before choice read.new result }
+pub(crate) fn push_choice(read: &mut ReaderState, at: Position) -> Result<(), TreeKind>
+    ensures { (r : FileSource) (before : List Placed) → Describes r read.old before → AppendsHead r at.file at.line before choice read.new result }
 {
     if is_at_block_limit(&read.stack) {
         return Err(TreeKind::TooDeep);
@@ -68,51 +62,26 @@ pub(crate) fn push_choice(read: &mut ReaderState, file: u32, line: u32) -> Resul
     if read.choices >= MAX_CHOICES {
         return Err(TreeKind::TooMany);
     }
-    push_choice_group(read, file, line)
+    push_choice_group(read, at)
 }
 
 /// Appends a `comment` with its title to the groups read.
 pub(crate) fn push_comment(
     read: &mut ReaderState,
-    file: u32,
-    line: u32,
+    at: Position,
     title: Text,
 ) -> Result<(), TreeKind>
-    ensures { (r : FileSource) (before : List Placed) → Describes r read.old before → AppendsHead r file line before (comment title) read.new result }
+    ensures { (r : FileSource) (before : List Placed) → Describes r read.old before → AppendsHead r at.file at.line before (comment title) read.new result }
 {
     let Ok(place) = push_text(read, title) else {
         return Err(TreeKind::OutOfMemory);
     };
-    push_plain(read, file, line, GroupHead::Comment(place))
-}
-
-/// Appends a `mainmenu` to the groups read, without its title.
-pub(crate) fn push_mainmenu(read: &mut ReaderState, file: u32, line: u32) -> Result<(), TreeKind>
-    ensures { (r : FileSource) (before : List Placed) → Describes r read.old before → AppendsHead r file line before mainmenu read.new result }
-{
-    push_plain(read, file, line, GroupHead::Mainmenu)
-}
-
-/// Appends the end of a menu, an `if` or a choice to the groups read.
-pub(crate) fn push_block_end(
-    read: &mut ReaderState,
-    file: u32,
-    line: u32,
-    block: Block,
-) -> Result<(), TreeKind>
-    ensures { (r : FileSource) (before : List Placed) → Describes r read.old before → AppendsHead r file line before (ends block) read.new result }
-{
-    push_end(read, file, line, GroupHead::Ends(block))
+    push_plain(read, at, GroupHead::Comment(place))
 }
 
 /// Appends a definition of a symbol to the groups read, within the limits of the length of names and the number of symbols.
-pub(crate) fn push_config(
-    read: &mut ReaderState,
-    file: u32,
-    line: u32,
-    name: &str,
-) -> Result<(), TreeKind>
-    ensures { (r : FileSource) (before : List Placed) → Describes r read.old before → AppendsHead r file line before (config name.now) read.new result }
+pub(crate) fn push_config(read: &mut ReaderState, at: Position, name: &str) -> Result<(), TreeKind>
+    ensures { (r : FileSource) (before : List Placed) → Describes r read.old before → AppendsHead r at.file at.line before (config name.now) read.new result }
 {
     if name.len() > MAX_NAME_BYTES {
         return Err(TreeKind::TooMany);
@@ -123,8 +92,8 @@ pub(crate) fn push_config(
     };
     let attributes = read.listing.lines.len();
     let Ok(()) = read.listing.groups.push(Group {
-        file,
-        line,
+        file: at.file,
+        line: at.line,
         head: GroupHead::Config(number),
         attributes,
     })

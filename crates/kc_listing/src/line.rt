@@ -13,7 +13,7 @@ ghost use Rattle.kc_listing.specs.checker.StatementResults.{begins_with, Returns
 ghost use Rattle.kc_listing.specs.checker.Steps.{ReturnsLineRead};
 
 use super::placement::fault_before_form;
-use super::state::{ReaderState, SourceFile, SourceFiles, Step};
+use super::state::{Position, ReaderState, SourceFile, SourceFiles, Step};
 use super::statements::push_statement;
 use super::text::{text_between, text_of};
 use kc_statements::{keyword_of, statement_of, tree_kind_of};
@@ -33,13 +33,12 @@ fn is_help_keyword(keyword: Keyword) -> bool
 fn read_form(
     read: &mut ReaderState,
     language: Language,
-    file: u32,
-    line: u32,
+    at: Position,
     keyword: Keyword,
     tokens: &[Token<'_>],
 ) -> Result<Step, TreeKind>
     ensures { (r : FileSource) (before : List Group) → Describes r read.old before
-        → ReturnsStatementRead r file line (statement_by_keyword language before keyword (lexemes_of tokens.now)) (begins_with keyword (lexemes_of tokens.now)) before read.new result }
+        → ReturnsStatementRead r at.file at.line (statement_by_keyword language before keyword (lexemes_of tokens.now)) (begins_with keyword (lexemes_of tokens.now)) before read.new result }
 {
     if let Some(kind) = fault_before_form(read, language, keyword, tokens) {
         return Err(kind);
@@ -48,7 +47,7 @@ fn read_form(
         Ok(statement) => statement,
         Err(kind) => return Err(kind),
     };
-    match push_statement(read, file, line, statement) {
+    match push_statement(read, at, statement) {
         Ok(Some(path)) => Ok(Step::Source(path)),
         Ok(None) if is_help_keyword(keyword) => Ok(Step::Help),
         Ok(None) => Ok(Step::Next),
@@ -60,12 +59,11 @@ fn read_form(
 fn read_tokens(
     read: &mut ReaderState,
     language: Language,
-    file: u32,
-    line: u32,
+    at: Position,
     tokens: &[Token<'_>],
 ) -> Result<Step, TreeKind>
     ensures { (r : FileSource) (before : List Group) → Describes r read.old before
-        → ReturnsStatementRead r file line (statement_of_tokens language before (lexemes_of tokens.now)) (is_help (lexemes_of tokens.now)) before read.new result }
+        → ReturnsStatementRead r at.file at.line (statement_of_tokens language before (lexemes_of tokens.now)) (is_help (lexemes_of tokens.now)) before read.new result }
 {
     let Some((first, rest)) = tokens.split_first() else {
         return Ok(Step::Next);
@@ -73,26 +71,25 @@ fn read_tokens(
     let Some(keyword) = keyword_of(first) else {
         return Err(TreeKind::UnknownStatement);
     };
-    read_form(read, language, file, line, keyword, rest)
+    read_form(read, language, at, keyword, rest)
 }
 
 /// Reads the text of a logical line that isn't of a help text. `found` is emptied and takes its tokens, so that lines can share it.
 fn read_text<'a>(
     read: &mut ReaderState,
     from: SourceFiles<'_>,
-    file: u32,
-    line: u32,
+    at: Position,
     text: &'a str,
     found: &mut Vec<Token<'a>>,
 ) -> Result<Step, TreeKind>
     requires short { nat_lt MAX_LINE_BYTES (length text.now) ≡ false }
     ensures { (before : List Group) → Describes (file_source_of from.entry) read.old before
-        → ReturnsLineRead (file_source_of from.entry) file line text.now before read.new result }
+        → ReturnsLineRead (file_source_of from.entry) at.file at.line text.now before read.new result }
 {
     found.clear();
     let language = from.texts.language();
     match push_tokens(language, text, found) {
-        Ok(()) => read_tokens(read, language, file, line, found.as_slice()),
+        Ok(()) => read_tokens(read, language, at, found.as_slice()),
         Err(fault) => Err(tree_kind_of(fault.kind)),
     }
 }
@@ -101,19 +98,18 @@ fn read_text<'a>(
 fn read_joined(
     read: &mut ReaderState,
     from: SourceFiles<'_>,
-    file: u32,
-    line: u32,
+    at: Position,
     bytes: &[u8],
 ) -> Result<Step, TreeKind>
     ensures { (before : List Group) → Describes (file_source_of from.entry) read.old before
-        → ReturnsLineRead (file_source_of from.entry) file line bytes.now before read.new result }
+        → ReturnsLineRead (file_source_of from.entry) at.file at.line bytes.now before read.new result }
 {
     let text = match text_of(bytes) {
         Ok(text) => text,
         Err(kind) => return Err(kind),
     };
     let mut found = Vec::new(read.alloc);
-    read_text(read, from, file, line, text, &mut found)
+    read_text(read, from, at, text, &mut found)
 }
 
 /// Reads a logical line that is one line of a file, from one place in it to another, and isn't of a help text.
@@ -131,8 +127,12 @@ fn read_part<'a>(
     ensures { (before : List Group) → Describes (file_source_of from.entry) read.old before
         → ReturnsLineRead (file_source_of from.entry) file.entry.number line (slice_range file.entry.bytes.now begin end) before read.new result }
 {
+    let here = Position {
+        file: file.number,
+        line,
+    };
     match text_between(file, begin, end) {
-        Ok(text) => read_text(read, from, file.number, line, text, found),
+        Ok(text) => read_text(read, from, here, text, found),
         Err(kind) => Err(kind),
     }
 }
@@ -156,6 +156,12 @@ pub(crate) fn read_logical<'a>(
         CowSlice::Borrowed(bytes) => {
             read_part(read, from, file, line, at, at + bytes.len(), found)
         }
-        CowSlice::Owned(bytes) => read_joined(read, from, file.number, line, bytes.as_slice()),
+        CowSlice::Owned(bytes) => {
+            let here = Position {
+                file: file.number,
+                line,
+            };
+            read_joined(read, from, here, bytes.as_slice())
+        }
     }
 }

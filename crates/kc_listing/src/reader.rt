@@ -9,7 +9,7 @@ ghost use Rattle.kc_listing.specs.checker.Steps.{ReturnsHelpRead, indented, Retu
 use super::fault::{fault_at, fault_or_out_of_memory, out_of_memory};
 use super::line::read_logical;
 use super::sources::{close_source, end_of_file, open_source};
-use super::state::{ReaderState, SourceFile, SourceFiles, Step};
+use super::state::{Position, ReaderState, SourceFile, SourceFiles, Step};
 use super::text::text_between;
 use kc_lines::{first_columns, is_of_help, logical_at, physical_at};
 use kc_tokens::Token;
@@ -64,16 +64,15 @@ fn read_sourced(
     read: &mut ReaderState,
     from: SourceFiles<'_>,
     depth: usize,
-    file: u32,
-    line: u32,
+    at: Position,
     path: Text,
 ) -> Result<(), TreeFault>
     ensures { (before : List Group) → Describes (file_source_of from.entry) read.old before
-        → ReturnsSourceRead (file_source_of from.entry) (read_file depth (file_source_of from.entry)) file line path before read.new result }
+        → ReturnsSourceRead (file_source_of from.entry) (read_file depth (file_source_of from.entry)) at.file at.line path before read.new result }
 {
-    let sourced = open_source(read, from, file, line, path)?;
+    let sourced = open_source(read, from, at, path)?;
     read_open_file(read, from, depth, sourced)?;
-    close_source(read, from, file, line)
+    close_source(read, from, at)
 }
 
 /// Reads a logical line with its help text or its sourced file; returns the place after it, and the number of lines.
@@ -107,7 +106,11 @@ fn read_statement<'a>(
             Ok((end, lines + more))
         }
         Ok(Step::Source(path)) => {
-            read_sourced(read, from, depth, file.number, number, path)?;
+            let here = Position {
+                file: file.number,
+                line: number,
+            };
+            read_sourced(read, from, depth, here, path)?;
             Ok((next, lines))
         }
     }

@@ -10,7 +10,7 @@ use super::append::{push_end, push_group, push_source, push_text};
 use super::fault::{fault_at, fault_or_out_of_memory, out_of_memory};
 use super::listing::GroupHead;
 use super::open_blocks::{innermost, is_path_open, open_file_count};
-use super::state::{ReaderState, SourceFile, SourceFiles};
+use super::state::{Position, ReaderState, SourceFile, SourceFiles};
 use super::text::whole_text;
 use kc_tree_model::{TreeFault, TreeKind};
 use kc_value::{MAX_FILES, MAX_OPEN_FILES, MAX_TREE_BYTES, Text};
@@ -79,25 +79,24 @@ fn sourced<'a>(
 pub(crate) fn open_source<'a>(
     read: &mut ReaderState,
     from: SourceFiles<'a>,
-    file: u32,
-    line: u32,
+    at: Position,
     path: Text,
 ) -> Result<SourceFile<'a>, TreeFault>
     ensures small { IfOk result (λ o. length o.bytes.now < 2 ^ 31) }
     ensures sourced { (before : List Group) → Describes (file_source_of from.entry) read.old before
-        → AppendsSource (file_source_of from.entry) file line path before read.new result }
+        → AppendsSource (file_source_of from.entry) at.file at.line path before read.new result }
 {
     let found = sourced(read, from, path.as_str());
     let Ok(place) = push_text(read, path) else {
         return Err(out_of_memory());
     };
     match found {
-        Ok(opened) => match push_source(read, file, line, place, opened.bytes.len()) {
+        Ok(opened) => match push_source(read, at, place, opened.bytes.len()) {
             Ok(()) => Ok(opened),
             Err(_) => Err(out_of_memory()),
         },
-        Err(kind) => match push_group(&mut read.listing, file, line, GroupHead::Source(place)) {
-            Ok(()) => Err(fault_or_out_of_memory(file, line, kind)),
+        Err(kind) => match push_group(&mut read.listing, at, GroupHead::Source(place)) {
+            Ok(()) => Err(fault_or_out_of_memory(at.file, at.line, kind)),
             Err(_) => Err(out_of_memory()),
         },
     }
@@ -107,12 +106,11 @@ pub(crate) fn open_source<'a>(
 pub(crate) fn close_source(
     read: &mut ReaderState,
     from: SourceFiles<'_>,
-    file: u32,
-    line: u32,
+    at: Position,
 ) -> Result<(), TreeFault>
-    ensures { (before : List Group) → Describes (file_source_of from.entry) read.old before → IsAfter (file_source_of from.entry) file line before read.new result }
+    ensures { (before : List Group) → Describes (file_source_of from.entry) read.old before → IsAfter (file_source_of from.entry) at.file at.line before read.new result }
 {
-    match push_end(read, file, line, GroupHead::FileEnd) {
+    match push_end(read, at, GroupHead::FileEnd) {
         Ok(()) => Ok(()),
         Err(_) => Err(out_of_memory()),
     }

@@ -7,6 +7,13 @@ use kc_tree_model::{Block, Texts};
 use kc_value::Text;
 use std::alloc::Global;
 
+/// A line of a file, which is given by its number.
+#[derive(Clone, Copy)]
+pub(crate) struct Position {
+    pub file: u32,
+    pub line: u32,
+}
+
 /// An open block with its first line, or an open sourced file, by the index of its path among the texts.
 #[derive(Clone, Copy)]
 pub(crate) enum OpenBlock {

@@ -7,11 +7,11 @@ ghost use Rattle.kc_statements.specs.between.StatementViews.{head_in, HeadNodesE
 ghost use Rattle.kc_listing.specs.checker.StateViews.{Describes};
 ghost use Rattle.kc_listing.specs.checker.StatementResults.{no_path, AppendsStatement};
 
+use super::append::{push_end, push_plain};
 use super::attributes::push_attribute;
-use super::heads::{
-    push_block_end, push_choice, push_comment, push_config, push_if_block, push_mainmenu, push_menu,
-};
-use super::state::ReaderState;
+use super::heads::{push_choice, push_comment, push_config, push_if_block, push_menu};
+use super::listing::GroupHead;
+use super::state::{Position, ReaderState};
 use kc_statements::{Head, Statement};
 use kc_tree_model::TreeKind;
 use kc_value::Text;
@@ -27,41 +27,35 @@ fn without_path(pushed: Result<(), TreeKind>) -> Result<Option<Text>, TreeKind>
 }
 
 /// Appends a statement that closes the open entry; of a `source` only the path is returned, and nothing appended yet.
-fn push_head(
-    read: &mut ReaderState,
-    file: u32,
-    line: u32,
-    head: Head<'_>,
-) -> Result<Option<Text>, TreeKind>
+fn push_head(read: &mut ReaderState, at: Position, head: Head<'_>) -> Result<Option<Text>, TreeKind>
     requires held { HeadNodesExist read.old.listing.names.arena head }
     ensures appends { (r : FileSource) (before : List Placed) → Describes r read.old before
-        → AppendsStatement r file line before (said_by_head (head_in read.old.listing.names.arena head.entry)) read.new result }
+        → AppendsStatement r at.file at.line before (said_by_head (head_in read.old.listing.names.arena head.entry)) read.new result }
 {
     match head {
-        Head::Config(name) => without_path(push_config(read, file, line, name)),
-        Head::Choice => without_path(push_choice(read, file, line)),
-        Head::Menu(title) => without_path(push_menu(read, file, line, title)),
-        Head::Condition(id) => without_path(push_if_block(read, file, line, id)),
-        Head::Comment(title) => without_path(push_comment(read, file, line, title)),
+        Head::Config(name) => without_path(push_config(read, at, name)),
+        Head::Choice => without_path(push_choice(read, at)),
+        Head::Menu(title) => without_path(push_menu(read, at, title)),
+        Head::Condition(id) => without_path(push_if_block(read, at, id)),
+        Head::Comment(title) => without_path(push_comment(read, at, title)),
         Head::Source(path) => Ok(Some(path)),
-        Head::Mainmenu => without_path(push_mainmenu(read, file, line)),
-        Head::Ends(block) => without_path(push_block_end(read, file, line, block)),
+        Head::Mainmenu => without_path(push_plain(read, at, GroupHead::Mainmenu)),
+        Head::Ends(block) => without_path(push_end(read, at, GroupHead::Ends(block))),
     }
 }
 
 /// Appends the statement of a line; a `source` isn't appended yet, and its path is returned instead.
 pub(crate) fn push_statement(
     read: &mut ReaderState,
-    file: u32,
-    line: u32,
+    at: Position,
     statement: Statement<'_>,
 ) -> Result<Option<Text>, TreeKind>
     requires held { StatementNodesExist read.old.listing.names.arena statement }
     ensures appends { (r : FileSource) (before : List Placed) → Describes r read.old before
-        → AppendsStatement r file line before (statement_in read.old.listing.names.arena statement.entry) read.new result }
+        → AppendsStatement r at.file at.line before (statement_in read.old.listing.names.arena statement.entry) read.new result }
 {
     match statement {
-        Statement::Head(head) => push_head(read, file, line, head),
-        Statement::Attribute(attribute) => without_path(push_attribute(read, line, &attribute)),
+        Statement::Head(head) => push_head(read, at, head),
+        Statement::Attribute(attribute) => without_path(push_attribute(read, at.line, &attribute)),
     }
 }

@@ -8,9 +8,8 @@ ghost use Rattle.kc_macro_forms.specs.between.WrittenTokens.{token_of, tokens_of
 ghost use Rattle.kc_macro_forms.specs.between.LineFormViews.{source_sort_of, form_view};
 ghost use Rattle.kc_macro_forms.specs.checker.RealTokens.{is_decisive_word, form_by};
 
-use super::form_words::{
-    is_help_word, is_optional_source, is_prompt_word, is_relative_source, is_source_word,
-};
+use super::form_words::{is_help_word, is_prompt_word, is_source_word};
+use super::keywords::is_among;
 use super::real_tokens::{is_empty_line, next_real};
 use super::token_sorts::{is_bare_prompt, is_path, is_unknown, is_word};
 use super::written_tokens::WrittenToken;
@@ -45,13 +44,19 @@ fn meaning_of(token: &WrittenToken) -> Option<&[u8]>
     }
 }
 
+/// Words of a `source` whose path begins in the folder of the file.
+static RELATIVE_SOURCES: [&[u8]; 2] = [b"rsource", b"orsource"];
+
+/// Words of a `source` whose files may be missing.
+static OPTIONAL_SOURCES: [&[u8]; 2] = [b"osource", b"orsource"];
+
 /// The sort of `source` that a word means.
 fn sort_of_source(word: &[u8]) -> SourceSort
     ensures { source_sort_of result ≡ sort_of_source word.now }
 {
     SourceSort {
-        relative: is_relative_source(word),
-        optional: is_optional_source(word),
+        relative: is_among(&RELATIVE_SOURCES, word),
+        optional: is_among(&OPTIONAL_SOURCES, word),
     }
 }
 
@@ -116,13 +121,10 @@ fn is_help_token(token: &WrittenToken) -> bool
 pub fn is_help_line(tokens: &[WrittenToken]) -> bool
     ensures { result ≡ is_help_line (without_gaps (tokens_of tokens.now)) }
 {
-    let Some((first, after)) = next_real(tokens) else {
-        return false;
-    };
-    if !is_empty_line(after) {
-        return false;
+    match next_real(tokens) {
+        Some((first, after)) => is_empty_line(after) && is_help_token(first),
+        None => false,
     }
-    is_help_token(first)
 }
 
 /// Whether a token begins a `source` line or a help text.
@@ -151,11 +153,8 @@ fn has_unknown(tokens: &[WrittenToken]) -> bool
 pub fn is_undecided(tokens: &[WrittenToken]) -> bool
     ensures { result ≡ is_undecided (without_gaps (tokens_of tokens.now)) }
 {
-    let Some((first, after)) = next_real(tokens) else {
-        return false;
-    };
-    if !is_decisive(first) {
-        return false;
+    match next_real(tokens) {
+        Some((first, after)) => is_decisive(first) && has_unknown(after),
+        None => false,
     }
-    has_unknown(after)
 }

@@ -199,6 +199,13 @@ module _ (p : Item → Bool) (q : Bool) (rest : List ℕ) (some : 0 < length res
       same ∙ ap (list_any p) (items_first q rest n some len) ∙ ap (λ b. b || list_any p (items q 0 (drop n rest))) f
       ∙ ap (λ s. list_any p (items q 0 s)) (sym (rest_is rest n))
 
+  -- whether one was found before, or an item of the rest passes, by the first item of the rest and those after it
+  pub item_either : (n : ℕ) → n ≡ length (item_bytes (first_item_of q rest)) → (before : Bool) → (before || list_any p (items q 0 rest))
+      ≡ ((before || p (first_item_of q rest)) || list_any p (items q 0 (take (length rest - n) (drop n rest))))
+  item_either n len true = refl
+  item_either n len false = ap (list_any p) (items_first q rest n some len)
+      ∙ ap (λ s. p (first_item_of q rest) || list_any p (items q 0 s)) (sym (rest_is rest n))
+
 by_front : (s : List ℕ) (b : Bool) → begins_reference s ≡ b → (p : Item → Bool) → ((o : Option ℕ) → p (reference_of (drop 2 s) o) ≡ false) → (b ≡ true)
     → p (first_item_of false s) ≡ false
 by_front s b e p h t = ap p (first_reference false s (e ∙ t)) ∙ h (inside_length 0 (drop 2 s))

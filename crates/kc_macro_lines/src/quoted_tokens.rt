@@ -1,12 +1,11 @@
 //! Quoted tokens, and all tokens of a line, with the values of their references.
 ghost use Rattle.std.specs.Prelude.{◌≡◌, ◌<◌, [], true, length, IfOk};
 ghost use Rattle.kc_macros_model.specs.References.{items};
-ghost use Rattle.kc_macros_model.specs.ExpansionRules.{begins_reference};
 ghost use Rattle.kc_macros_model.specs.WrittenTokens.{body_of, written_items, written_token, token_of_body};
 ghost use Rattle.kc_macros.specs.between.Variables.{bindings_of};
 ghost use Rattle.kc_macro_forms.specs.between.WrittenTokens.{token_of};
 ghost use Rattle.kc_macros.specs.Runs.{place_of, Runs, end_of};
-ghost use Rattle.kc_macro_lines.specs.checker.Bodies.{body_of_code, has_dollar_or_backslash, bodies_left, quoted_written};
+ghost use Rattle.kc_macro_lines.specs.checker.Bodies.{body_of_code, has_dollar_or_backslash, bodies_left};
 ghost use Rattle.kc_macros.specs.checker.ProgramSteps.{Steps};
 ghost use Rattle.kc_macro_lines.specs.checker.LineTexts.{token_view};
 
@@ -19,28 +18,7 @@ use kc_macros::{
 use kc_macros_model::{MacroKind, TokenSort};
 use std::alloc::{AllocError, Global};
 
-/// Appends the value of the reference at the front of a text between quotes to `out`; returns the rest.
-fn next_reference<'t>(
-    run: &mut Run<'_>,
-    at: Place<'_>,
-    bindings: &Bindings,
-    quote: u8,
-    text: &'t [u8],
-    out: &mut Body,
-) -> Result<&'t [u8], Stop>
-    requires begins { begins_reference text.now ≡ true }
-    ensures steps { Steps run.old run.new (bodies_left (place_of at.entry) (bindings_of bindings.now) quote (body_of_code out.old) (items true 0 text.now)) (λ rest. bodies_left (place_of at.entry) (bindings_of bindings.now) quote (body_of_code out.new) (items true 0 rest.now)) result }
-    ensures shorter { IfOk result (λ rest. length rest.now < length text.now) }
-{
-    let Some((inside, after)) = reference_at_front(text) else {
-        return Err(fault(run.alloc(), at, MacroKind::Unterminated, b""));
-    };
-    let value = text_value(run, at, bindings, &text[..inside.len() + 3])?;
-    push_reference(out, quote, &value)?;
-    Ok(after)
-}
-
-/// Appends the item at the front of a text between quotes to `out`, as it is written; returns the rest.
+/// Appends the item at the front of a text between quotes to `out`, of a reference its value; returns the rest.
 fn next_item<'t>(
     run: &mut Run<'_>,
     at: Place<'_>,
@@ -54,7 +32,12 @@ fn next_item<'t>(
     ensures shorter { IfOk result (λ rest. length rest.now < length text.now) }
 {
     if begins_reference_at(text, 0) {
-        return next_reference(run, at, bindings, quote, text, out);
+        let Some((inside, after)) = reference_at_front(text) else {
+            return Err(fault(run.alloc(), at, MacroKind::Unterminated, b""));
+        };
+        let value = text_value(run, at, bindings, &text[..inside.len() + 3])?;
+        push_reference(out, quote, &value)?;
+        return Ok(after);
     }
     if is_pair(text, true) {
         push_pair(out, text[1])?;
@@ -138,20 +121,6 @@ fn token_of_body(alloc: Global, quote: u8, body: Body) -> Result<WrittenToken, A
     })
 }
 
-/// A quoted token as it is written.
-fn written_quoted(
-    run: &mut Run<'_>,
-    at: Place<'_>,
-    bindings: &Bindings,
-    quote: u8,
-    text: &[u8],
-) -> Result<WrittenToken, Stop>
-    ensures { Runs run.old run.new (quoted_written (place_of at.entry) (bindings_of bindings.now) quote text.now) (end_of token_of result) }
-{
-    let body = written_body(run, at, bindings, quote, text)?;
-    Ok(token_of_body(run.alloc(), quote, body)?)
-}
-
 /// A token of a line as the expansion writes it, with the values of its references.
 pub(crate) fn written_token(
     run: &mut Run<'_>,
@@ -164,7 +133,10 @@ pub(crate) fn written_token(
     match token {
         LineToken::Gap(text) => Ok(new_token(run.alloc(), TokenSort::Gap, text, b"")?),
         LineToken::Run(text) => written_run(run, at, bindings, text),
-        LineToken::Quoted(quote, text) => written_quoted(run, at, bindings, quote, text),
+        LineToken::Quoted(quote, text) => {
+            let body = written_body(run, at, bindings, quote, text)?;
+            Ok(token_of_body(run.alloc(), quote, body)?)
+        }
         LineToken::Other(text) => Ok(new_token(run.alloc(), TokenSort::Other, text, b"")?),
         LineToken::Broken(_) => Err(fault(run.alloc(), at, MacroKind::Unterminated, b"")),
     }

@@ -7,6 +7,7 @@ ghost use Rattle.kc_macros.specs.between.Variables.{bindings_of};
 ghost use Rattle.kc_macro_forms.specs.between.WrittenTokens.{token_of};
 ghost use Rattle.kc_macros.specs.Runs.{place_of, Runs, end_of};
 ghost use Rattle.kc_macro_lines.specs.checker.Bodies.{body_of_code};
+ghost use Rattle.kc_macro_lines.specs.checker.RunContents.{IsRunContent};
 ghost use Rattle.kc_macro_lines.specs.checker.LineTexts.{first_item_of};
 
 use super::line_tokens::item_length;
@@ -44,10 +45,7 @@ fn is_reference_front(text: &[u8]) -> bool
     requires not_empty { 0 < length text.now }
     ensures value { result ≡ is_reference (first_item_of false text.now) }
 {
-    if begins_reference_at(text, 0) {
-        return inside_length(&text[2..]).is_some();
-    }
-    false
+    begins_reference_at(text, 0) && inside_length(&text[2..]).is_some()
 }
 
 /// Whether a text begins with a `$` that begins no reference.
@@ -55,38 +53,35 @@ fn is_plain_dollar_front(text: &[u8]) -> bool
     requires not_empty { 0 < length text.now }
     ensures value { result ≡ is_plain_dollar (first_item_of false text.now) }
 {
-    if begins_reference_at(text, 0) {
-        return false;
-    }
-    text[0] == b'$'
+    !begins_reference_at(text, 0) && text[0] == b'$'
 }
 
-/// Whether a run has a reference.
-fn has_reference(text: &[u8]) -> bool
-    ensures { result ≡ list_any is_reference (items false 0 text.now) }
-{
-    let mut rest = text;
-    'items: while !rest.is_empty() {
-        if is_reference_front(rest) {
-            return true;
-        }
-        rest = &rest[item_length(rest, false)..];
-    }
-    false
+/// What a run has: a `$` that begins no reference, else a reference, or only word bytes.
+#[derive(Clone, Copy)]
+enum RunContent {
+    PlainDollar,
+    Reference,
+    Word,
 }
 
-/// Whether a run has a `$` that begins no reference.
-fn has_plain_dollar(text: &[u8]) -> bool
-    ensures { result ≡ list_any is_plain_dollar (items false 0 text.now) }
+/// What a run has.
+fn run_content(text: &[u8]) -> RunContent
+    ensures { IsRunContent (items false 0 text.now) result }
 {
+    let mut has_reference = false;
     let mut rest = text;
     'items: while !rest.is_empty() {
         if is_plain_dollar_front(rest) {
-            return true;
+            return RunContent::PlainDollar;
         }
+        has_reference = has_reference || is_reference_front(rest);
         rest = &rest[item_length(rest, false)..];
     }
-    false
+    if has_reference {
+        RunContent::Reference
+    } else {
+        RunContent::Word
+    }
 }
 
 /// A run, a token of word bytes and references, as the expansion writes it: its value as one token. A run with a `$` that begins
@@ -99,14 +94,14 @@ pub(crate) fn written_run(
 ) -> Result<WrittenToken, Stop>
     ensures { Runs run.old run.new (written_run (place_of at.entry) (bindings_of bindings.now) text.now) (end_of token_of result) }
 {
-    if has_plain_dollar(text) {
-        return Ok(new_token(run.alloc(), TokenSort::Other, text, b"")?);
+    match run_content(text) {
+        RunContent::PlainDollar => Ok(new_token(run.alloc(), TokenSort::Other, text, b"")?),
+        RunContent::Reference => {
+            let value = text_value(run, at, bindings, text)?;
+            Ok(token_of_value(run.alloc(), &value)?)
+        }
+        RunContent::Word => Ok(new_token(run.alloc(), TokenSort::Word, text, text)?),
     }
-    if has_reference(text) {
-        let value = text_value(run, at, bindings, text)?;
-        return Ok(token_of_value(run.alloc(), &value)?);
-    }
-    Ok(new_token(run.alloc(), TokenSort::Word, text, text)?)
 }
 
 /// The bytes that are written between two quotes so far, and the text that they mean, if it is known.

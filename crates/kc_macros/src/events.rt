@@ -3,7 +3,7 @@ ghost use Rattle.std.specs.Prelude.{◌≡◌, Some, None, IfOk, option_map};
 ghost use Rattle.kc_tree_model.specs.Keywords.{keyword_in_table};
 ghost use Rattle.kc_macros_model.specs.Variables.{value_of_answer};
 ghost use Rattle.kc_macros_model.specs.Expansion.{asked_value, reported};
-ghost use Rattle.kc_macros.specs.Runs.{place_of, fault_of, notice_of, Runs, end_of};
+ghost use Rattle.kc_macros.specs.Runs.{place_of, fault_of, Runs, end_of};
 ghost use Rattle.kc_macros.specs.between.Stops.{FailsWith};
 ghost use Rattle.kc_macros.specs.checker.Events.{spent};
 
@@ -40,23 +40,6 @@ pub fn fault(alloc: Global, at: Place<'_>, kind: MacroKind, text: &[u8]) -> Stop
     }
 }
 
-/// A notice with its own copies of the path and the text.
-fn new_notice(
-    alloc: Global,
-    at: Place<'_>,
-    kind: MacroNoticeKind,
-    text: &[u8],
-) -> Result<MacroNotice, AllocError>
-    ensures { IfOk result (λ n. notice_of n ≡ record { at = place_of at.entry; kind = kind; text = text.now }) }
-{
-    Ok(MacroNotice {
-        file: Bytes::copied(alloc, at.file)?,
-        line: at.line,
-        kind,
-        text: Bytes::copied(alloc, text)?,
-    })
-}
-
 /// Takes this much work from what the run has left, or fails with `TooMany` if less is left.
 pub(crate) fn spend(run: &mut Run<'_>, at: Place<'_>, work: usize) -> Result<(), Stop>
     ensures { Runs run.old run.new (spent (place_of at.entry) work) (end_of (λ u. u) result) }
@@ -77,7 +60,12 @@ pub(crate) fn report(
 ) -> Result<Option<Bytes>, Stop>
     ensures { Runs run.old run.new (reported (place_of at.entry) kind text.now) (end_of (λ v. v) result) }
 {
-    let notice = new_notice(run.alloc(), at, kind, text)?;
+    let notice = MacroNotice {
+        file: Bytes::copied(run.alloc(), at.file)?,
+        line: at.line,
+        kind,
+        text: Bytes::copied(run.alloc(), text)?,
+    };
     run.push_notice(notice)?;
     Ok(Some(Bytes::from_vec(Vec::new(run.alloc()))))
 }

@@ -22,6 +22,7 @@ pub use bindings::Bindings;
 pub use built_in_functions::is_text;
 pub use bytes::Bytes;
 pub use events::fault;
+pub use frame::with_innermost;
 pub use kc_macros_model::{
     AnswersFault, AnswersKind, MacroKind, MacroNoticeKind, Operator, TokenSort,
 };

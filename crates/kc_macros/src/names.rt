@@ -4,7 +4,7 @@ ghost use Rattle.kc_tree_model.specs.Keywords.{keyword_in_table};
 ghost use Rattle.kc_macros_model.specs.Variables.{command_question, built_ins};
 ghost use Rattle.kc_macros_model.specs.Expansion.{fault as fault_program, reported, shell_value, built_in_value, other_value, unbound_value};
 ghost use Rattle.kc_macros.specs.Runs.{place_of, Runs, end_of};
-ghost use Rattle.kc_macros.specs.checker.BuiltIns.{arity_of, message_text, message_value};
+ghost use Rattle.kc_macros.specs.checker.BuiltIns.{message_text, message_value};
 
 use super::built_in_functions::{arity, built_in, is_text};
 use super::bytes::Bytes;
@@ -97,17 +97,19 @@ fn error_value(run: &mut Run<'_>, at: Place<'_>, text: Option<&[u8]>) -> Result<
     }
 }
 
-/// The value of a built-in function that is called with as many arguments as it takes.
-fn called_value(
+/// The value of a built-in function; another count of arguments than it takes is a fault.
+fn built_in_value(
     run: &mut Run<'_>,
     at: Place<'_>,
     name: &[u8],
     function: BuiltIn,
     args: &[Option<Bytes>],
 ) -> Result<Option<Bytes>, Stop>
-    requires arity { length args.now ≡ arity_of function }
-    ensures run { Runs run.old run.new (built_in_value (place_of at.entry) name.now function args.now) (end_of (λ v. v) result) }
+    ensures { Runs run.old run.new (built_in_value (place_of at.entry) name.now function args.now) (end_of (λ v. v) result) }
 {
+    if args.len() != arity(function) {
+        return Err(fault(run.alloc(), at, MacroKind::Arguments, name));
+    }
     match function {
         BuiltIn::Filename => Ok(Some(Bytes::copied(run.alloc(), at.file)?)),
         BuiltIn::Lineno => Ok(Some(decimal_text(run.alloc(), at.line)?)),
@@ -123,22 +125,6 @@ fn called_value(
         }
         BuiltIn::ErrorIf => error_value(run, at, message(&args[0], &args[1])),
     }
-}
-
-/// The value of a built-in function; another count of arguments is a fault.
-fn built_in_value(
-    run: &mut Run<'_>,
-    at: Place<'_>,
-    name: &[u8],
-    function: BuiltIn,
-    args: &[Option<Bytes>],
-) -> Result<Option<Bytes>, Stop>
-    ensures { Runs run.old run.new (built_in_value (place_of at.entry) name.now function args.now) (end_of (λ v. v) result) }
-{
-    if args.len() != arity(function) {
-        return Err(fault(run.alloc(), at, MacroKind::Arguments, name));
-    }
-    called_value(run, at, name, function, args)
 }
 
 /// The value of a name that is neither a variable nor built in.

@@ -13,7 +13,7 @@ ghost use Rattle.kc_macros.specs.checker.Frames.{frame_place, frame_item, frame_
 
 use super::bytes::Bytes;
 use super::events::{fault, spend};
-use super::frame::{Frame, is_recursion, with_name};
+use super::frame::{Frame, is_recursion, with_innermost};
 use super::partial_value::{PartialValue, push_text, value_length};
 use super::references::{pieces, plain_length, reference_at_front};
 use super::run::Run;
@@ -70,7 +70,7 @@ pub(crate) fn names_within<'a>(
     if is_recursion(names, name, args) {
         return Err(fault(alloc, at, MacroKind::Recursion, name));
     }
-    Ok(with_name(alloc, name, names)?)
+    Ok(with_innermost(alloc, name, names)?)
 }
 
 /// The pieces of a reference that is no argument of the call, by the bytes between its parentheses; a fault for more than 16.

@@ -18,7 +18,7 @@ use Rattle.std.proofs.lemmas.Option.{slice_get_past}
 use Rattle.std.specs.Option.{option_map, option_or, option_and_then}
 use Rattle.std.proofs.lemmas.List.{append-nil, append_assoc, take_more, map-append, at_drop_more}
 use Rattle.std.proofs.lemmas.List.Elements.{filter-append}
-use Rattle.kc_dotconfig.proofs.GatheredLines.{at_same, at_other, found_same, found_other}
+use Rattle.kc_dotconfig.proofs.GatheredLines.{at_same, at_other}
 use Rattle.kc_system.proofs.Lists.{get-some}
 use Rattle.kc_tree_model.specs.Trees.{Tree, Choice}
 use Rattle.kc_tree_model.specs.declared.ids.Unit.{Unit as TreeUnit}
@@ -93,22 +93,6 @@ module _ (tree : Tree) (values : List UnitValue) where
   no_places =
       ap (map place_of) (nothing_found (λ u. other_line_of_unit tree values u (slice_get tree.units u) [])
       (λ u. none_without_lines u (slice_get tree.units u) [] refl) (range_with_len 0 (length tree.units)))
-
--- the groups after a unit that has none gets one of one line
-pub group_inserted : (old new : List (ℕ × Vec (ℕ × ChoiceLine))) (unit : ℕ) (group : Vec (ℕ × ChoiceLine)) (l : ℕ × ChoiceLine)
-    → new ≡ insert_entry nat_cmp old unit group → group.items ≡ l ∷ [] → lookup (is_at (nat_cmp unit)) old ≡ None
-    → (u : ℕ) → group_in new u ≡ cond (u == unit) (group_more (group_in old u) l) (group_in old u)
-group_inserted old new unit group l is own none u = elim (cases_eq u unit) [
-  | inl same ↦
-      ap (λ k. group_in new k) same ∙ ap (λ es. group_in es unit) is
-      ∙ ap (option_map (λ (v : Vec (ℕ × ChoiceLine)). v.items)) (found_same old unit group) ∙ ap (λ ls. Some ls) own
-      ∙ ap (λ o. group_more (option_map (λ (v : Vec (ℕ × ChoiceLine)). v.items) o) l) (sym none)
-      ∙ ap (λ k. group_more (group_in old k) l) (sym same)
-      ∙ ap (λ b. cond b (group_more (group_in old u) l) (group_in old u)) (sym (eq-eqb u unit same))
-  | inr other ↦
-      ap (λ es. group_in es u) is ∙ ap (option_map (λ (v : Vec (ℕ × ChoiceLine)). v.items)) (found_other old u unit group other)
-      ∙ ap (λ b. cond b (group_more (group_in old u) l) (group_in old u)) (sym (ne_eqb u unit other))
-]
 
 -- the lines in the group of a unit after a line is added to the group of its choice's unit
 pub line_grouped : (old new : Option (List (ℕ × ChoiceLine))) (l : ℕ × ChoiceLine) (u : ℕ) → new ≡ cond (u == l.1.unit) (group_more old l) old

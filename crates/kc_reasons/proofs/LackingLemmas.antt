@@ -1,9 +1,4 @@
 -- The walk over the parts of a condition.
-use Rattle.kc_reasons_model.specs.Reasons.{is_empty, unless_one_lacks_nothing}
-use Rattle.std.specs.Global.{Vec}
-use Rattle.std.specs.Prelude.{◌||◌}
-use Rattle.std.specs.List.{list_any}
-use Rattle.kc_reasons.specs.checker.EmptyLists.{is_empty_vec}
 use Rattle.std.proofs.Common.{◌≡◌, ℕ, Bool, true, false, cond, List, [], ◌∷◌, ◌++◌, map, filter, reverse, refl, ap, sym, ◌∙◌, append_assoc, append-nil, subst}
 use Rattle.std.proofs.lemmas.List.{map-append, reverse-append}
 use Rattle.std.proofs.lemmas.List.Elements.{filter-append}
@@ -14,7 +9,7 @@ use Rattle.kc_expr.specs.between.Arena.{Exprs, node_expr}
 use Rattle.kc_rules_model.specs.Kinds.{is_n}
 use Rattle.kc_reasons_model.specs.Conjuncts.{Part, below, conjuncts, lacks, lacking}
 use Rattle.kc_reasons.specs.declared.low_parts.LowPart.{LowPart}
-use Rattle.kc_reasons.specs.between.Parts.{part_view, parts_view, alternatives_view}
+use Rattle.kc_reasons.specs.between.Parts.{part_view, parts_view}
 use Rattle.kc_reasons.specs.checker.LackingWalk.{if_low, lacking_in_reverse}
 
 -- appending a part that is too low
@@ -101,26 +96,3 @@ module _ (names : Environment) where
   found_turned exprs t e none found last empty f h =
       ap (parts_view exprs) h ∙ map-reverse (part_view exprs) found
       ∙ ap reverse (f ∙ ap (λ ps. parts_view exprs ps ++ lacking_in_reverse names t e) empty) ∙ turned t e
-
--- whether one of some lists is empty, as the code and the definitions ask it
-any_empty : (exprs : Exprs) (vs : List (Vec LowPart)) → list_any is_empty (alternatives_view exprs vs) ≡ list_any is_empty_vec vs
-any_empty exprs [] = refl
-any_empty exprs (v ∷ vs) = ap (λ b. b || list_any is_empty (alternatives_view exprs vs)) (same v.items) ∙ ap (λ b. is_empty_vec v || b) (any_empty exprs vs)
-  where
-    same : (ps : List LowPart) → is_empty (parts_view exprs ps) ≡ is_empty ps
-    same [] = refl
-    same (p ∷ ps) = refl
-
-module _ (exprs : Exprs) (env : Bool) (found : List (Vec LowPart)) (parts : List (List Part)) (without : env ≡ false)
-    (are : alternatives_view exprs found ≡ parts) where
-  by_test : (b : Bool) → list_any is_empty_vec found ≡ b → cond env [] (unless_one_lacks_nothing parts) ≡ cond b [] parts
-  by_test b e =
-      ap (λ c. cond c [] (unless_one_lacks_nothing parts)) without
-      ∙ ap (λ c. cond c [] parts) (ap (list_any is_empty) (sym are) ∙ any_empty exprs found ∙ e)
-
-  pub where_one_is_empty : (last : List (Vec LowPart)) → list_any is_empty_vec found ≡ true → last ≡ []
-      → alternatives_view exprs last ≡ cond env [] (unless_one_lacks_nothing parts)
-  where_one_is_empty last e none = ap (alternatives_view exprs) none ∙ sym (by_test true e)
-
-  pub where_none_is_empty : list_any is_empty_vec found ≡ false → alternatives_view exprs found ≡ cond env [] (unless_one_lacks_nothing parts)
-  where_none_is_empty e = are ∙ sym (by_test false e)

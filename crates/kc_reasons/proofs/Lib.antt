@@ -4,3 +4,4 @@ pub mod Ranges
 pub mod UnitHindrances
 pub mod LackingLemmas
 pub mod DecisiveLemmas
+pub mod EmptyLists

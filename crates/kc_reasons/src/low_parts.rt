@@ -22,7 +22,7 @@ pub struct LowPart {
 }
 
 /// What an expression of the tree is made of.
-fn parts_at<'a>(under: &Valuation<'a>, id: ExprId) -> ExprParts<'a>
+pub fn parts_at<'a>(under: &Valuation<'a>, id: ExprId) -> ExprParts<'a>
     requires there { id < length (valuation_exprs under.now).nodes }
     ensures expr { node_expr (valuation_exprs under.now) id ≡ expr_of_parts (valuation_exprs under.now) result }
     ensures within { ArePartsOf (valuation_exprs under.now) id result }

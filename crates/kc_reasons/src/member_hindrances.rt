@@ -54,7 +54,7 @@ pub(crate) fn hinders_member(
 }
 
 /// Whether some assignments give a member `y`.
-pub(crate) fn is_given_y(lines: &[MemberLine], s: Sym) -> bool
+pub fn is_given_y(lines: &[MemberLine], s: Sym) -> bool
     ensures { result ≡ is_given_y lines.now s }
 {
     lines

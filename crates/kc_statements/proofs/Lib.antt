@@ -1,4 +1,3 @@
-pub mod WordLemmas
 pub mod FormLemmas
 pub mod RangeLemmas
 pub mod TitleLemmas

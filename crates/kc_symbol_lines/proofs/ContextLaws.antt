@@ -18,7 +18,7 @@ use Rattle.kc_tree_model.proofs.Consistency.Lists.{Has}
 use Rattle.kc_reasons_model.specs.Places.{LocatedExpr, LocatedContext, as_choice_parts, located_at, located_prompts, located_choice, located_inside_menu, located_inside, located_context}
 use Rattle.kc_builder.specs.between.TreeLines.{HasLines}
 use Rattle.kc_builder.specs.declared.tree_lines.TreeLines.{TreeLines}
-use Rattle.kc_symbol_lines.specs.declared.attributes.Part.TheVariants.{Visibility}
+use Rattle.kc_statements.specs.declared.statement.Conjuncts.TheVariants.{Visibles}
 use Rattle.kc_symbol_lines.specs.declared.located.LocatedExpr.{LocatedExpr as CodeLocated}
 use Rattle.kc_symbol_lines.specs.between.LinesView.{located_view, all_located}
 use Rattle.kc_symbol_lines.specs.checker.OwnLines.{EnclosingLists, position_at, located_if, parts_in, dependency_parts, prompts_in}
@@ -41,8 +41,8 @@ module _ (e : Exprs) (off : ℕ) (is_n : node_expr e off ≡ alone (constant N))
   menu_located : context_view e (inside_menu a code.file ls) ≡ located_inside_menu (context_view e a) g
   menu_located =
       same_context _ _ _ _ (dependencies_located e g code.file ls r.file_is r.attributes a)
-      (map-append (located_view e) a.visibles (parts_in Visibility code.file ls)
-      ∙ ap (λ xs. all_located e a.visibles ++ xs) (parts_located e g code.file ls r.file_is r.attributes Visibility))
+      (map-append (located_view e) a.visibles (parts_in Visibles code.file ls)
+      ∙ ap (λ xs. all_located e a.visibles ++ xs) (parts_located e g code.file ls r.file_is r.attributes Visibles))
 
   shown_located : (o : Option (List CodeLocated))
       → all_located e (shown_parts off (position_at code.file code.line) o)

@@ -23,7 +23,7 @@ use Rattle.kc_tree.specs.between.GroupedItems.{IsGrouped}
 use Rattle.kc_checks.specs.between.Summaries.{read_before, group_at}
 use Rattle.kc_builder.specs.between.TreeLines.{HasLines}
 use Rattle.kc_builder.specs.declared.tree_lines.TreeLines.{TreeLines}
-use Rattle.kc_symbol_lines.specs.declared.attributes.Given.TheVariants.{Default, Range}
+use Rattle.kc_symbol_lines.specs.declared.own_lines.Given.TheVariants.{Default, Range}
 use Rattle.kc_symbol_lines.specs.declared.located.Position.{Position as CodePosition}
 use Rattle.kc_symbol_lines.specs.declared.located.LocatedExpr.{LocatedExpr}
 use Rattle.kc_symbol_lines.specs.declared.located.SymbolLines.{SymbolLines}

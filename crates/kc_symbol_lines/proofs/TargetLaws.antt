@@ -33,12 +33,11 @@ use Rattle.kc_builder.specs.declared.tree_lines.TreeLines.{TreeLines}
 use Rattle.kc_checks.proofs.GroupPlaces.{shown_at, placed_more, all_before}
 use Rattle.kc_checks.proofs.Symbols.{named_there, nameless}
 use Rattle.kc_checks.specs.between.Summaries.{read_before, group_at}
-use Rattle.kc_symbol_lines.specs.declared.attributes.Force.{Force}
-use Rattle.kc_symbol_lines.specs.declared.attributes.Force.TheVariants.{Select, Imply}
+use Rattle.kc_statements.specs.declared.statement.ReverseKind.{ReverseKind}
+use Rattle.kc_statements.specs.declared.statement.ReverseKind.TheVariants.{Select, Imply}
 use Rattle.kc_symbol_lines.specs.declared.located.Position.{Position as CodePosition}
 use Rattle.kc_symbol_lines.specs.declared.targets.GatheredLines.{GatheredLines}
 use Rattle.kc_symbol_lines.specs.between.LinesView.{position_view}
-use Rattle.kc_symbol_lines.specs.checker.Attributes.{target_of}
 use Rattle.kc_symbol_lines.specs.checker.OwnLines.{position_at}
 use Rattle.kc_symbol_lines.specs.checker.Targets.{target_symbol, target_keys, target_places, HasDefinition, AreGathered}
 use Rattle.kc_symbol_lines.specs.checker.Contexts.{lines_at}
@@ -196,7 +195,7 @@ module _ (t : TreeModel) (read : List Group) (tree_is : t.tree ≡ tree_of_group
       ∙ ap (λ (w : Tree). symbol_named w (slice_index_or t.exprs.names id [])) tree_is
       ∙ named_in_tree t.tree.language read (slice_index_or t.exprs.names id [])
 
-  target_is : (f : Force) (a : CodeAttribute) → AttributeNodesExist t.exprs a
+  target_is : (f : ReverseKind) (a : CodeAttribute) → AttributeNodesExist t.exprs a
       → target_symbol t f a ≡ option_and_then (λ (b : TargetAttribute). index_of_name b.name names) (target_meant f (attribute_in t.exprs a))
   target_is Select (attributes.Select s) h = name_found s.name h.0
   target_is Select a h = refl
@@ -207,7 +206,7 @@ module _ (t : TreeModel) (read : List Group) (tree_is : t.tree ≡ tree_of_group
   one_key None ks = refl
   one_key (Some k) ks = refl
 
-  keys_are : (f : Force) (ls : List CodeLine) → All (LineNodesExist t.exprs) ls
+  keys_are : (f : ReverseKind) (ls : List CodeLine) → All (LineNodesExist t.exprs) ls
       → target_keys t f ls ≡ filter_map (force_key_of (target_meant f) names) (map (line_in t.exprs) ls)
   keys_are f [] h = refl
   keys_are f (l ∷ ls) h =
@@ -223,7 +222,7 @@ module _ (t : TreeModel) (read : List Group) (tree_is : t.tree ≡ tree_of_group
       ap (λ r. position_view (position_at file line) ∷ r) h
       ∙ ap (λ n. let x : Position = record { file = n; line = line } in x ∷ ys) (sym e)
 
-  items_are : (f : Force) (p : GroupInContext) (file : ℕ) (ls : List CodeLine) → p.group.at.file ≡ file → All (LineNodesExist t.exprs) ls
+  items_are : (f : ReverseKind) (p : GroupInContext) (file : ℕ) (ls : List CodeLine) → p.group.at.file ≡ file → All (LineNodesExist t.exprs) ls
       → map position_view (target_places t f file ls) ≡ filter_map (place_of (target_meant f) names p) (map (line_in t.exprs) ls)
   items_are f p file [] e h = refl
   items_are f p file (l ∷ ls) e h =
@@ -232,7 +231,7 @@ module _ (t : TreeModel) (read : List Group) (tree_is : t.tree ≡ tree_of_group
       ∙ ap (λ o. cons_option (option_map (λ _. position_of p.group (line_in t.exprs l)) o) (filter_map (place_of (target_meant f) names p) (map (line_in t.exprs) ls)))
       (target_is f l.attribute (h 0 l (omega arith)))
 
-  key_below : (f : Force) (ls : List Line) → All (λ k. k < length names) (filter_map (force_key_of (target_meant f) names) ls)
+  key_below : (f : ReverseKind) (ls : List Line) → All (λ k. k < length names) (filter_map (force_key_of (target_meant f) names) ls)
   key_below f [] = All-nil (λ k. k < length names)
   key_below f (l ∷ ls) = by_aim (target_meant f l.attribute) (key_below f ls)
     where
@@ -250,7 +249,7 @@ module _ (t : TreeModel) (read : List Group) (tree_is : t.tree ≡ tree_of_group
       (named : defined_name p.group ≡ Some x) (at : slice_get names s ≡ Some x) (f : p.group.at.file ≡ file)
       (own : p.group.attributes ≡ map (line_in t.exprs) ls) (held : All (LineNodesExist t.exprs) ls)
       (g : AreGatheredOf names prior old) (more : HasDefinition t s p.group.number file ls old new) where
-    force_step : (k : Force) (keys keys2 : List ℕ) (items items2 : List CodePosition)
+    force_step : (k : ReverseKind) (keys keys2 : List ℕ) (items items2 : List CodePosition)
         → AreListed position_view (force_keys (target_meant k) names) (place_items (target_meant k) names) (λ _. Unit {0}) (length names) prior keys items
         → keys2 ≡ keys ++ target_keys t k ls → items2 ≡ items ++ target_places t k file ls
         → AreListed position_view (force_keys (target_meant k) names) (place_items (target_meant k) names) (λ _. Unit {0}) (length names) (prior ++ p ∷ []) keys2 items2

@@ -17,8 +17,8 @@ loop-line-preserved c =
           (conjoins_own mid c.loop-line.joined inv.there));
       all =
           with_more old mid new c.args.which c.args.lines.now c.loop-line.line-index c.line-item.result c.args.all c.loop-line.joined c.in_ok-joined.joined
-          c.conjunct_in.result
-          inv.grows c.requires.held c.loop-line-test.true c.line-item.is c.conjunct_in.ensures inv.all c.in_ok-joined.ensures.ok;
+          c.conjunct_given.result
+          inv.grows c.requires.held c.loop-line-test.true c.line-item.is c.conjunct_given.ensures inv.all c.in_ok-joined.ensures.ok;
     }
 
 pub join_optional-requires-clause-more : goal.join_optional-requires-clause-more

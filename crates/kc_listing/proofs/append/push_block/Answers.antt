@@ -8,10 +8,10 @@ use Rattle.kc_listing.proofs.append.push_block.Goals as goal
 pub returns-clause-appends : goal.returns-clause-appends
 unfolding Describes
 returns-clause-appends c = λ r before m d w b n.
-    on_ok c.push_group.result (RepresentsListing c.push_group.new.listing (with_group (at_line c.args.file c.args.line) m before)) _
+    on_ok c.push_group.result (RepresentsListing c.push_group.new.listing (with_group (at_line c.args.at.file c.args.at.line) m before)) _
     (λ h. record {
       shows = h;
-      counted = rw c.push_group.ensures.texts (counted_block r _ _ _ _ _ before c.args.file c.args.line m d.counted c.args.block
+      counted = rw c.push_group.ensures.texts (counted_block r _ _ _ _ _ before c.args.at.file c.args.at.line m d.counted c.args.block
           c.push.new.self.items c.in-Ok.ensures.items b n);
     })
     (c.push_group.ensures.appends before m d.shows w (block_name m c.args.block b))

@@ -7,6 +7,6 @@ use Rattle.kc_listing.proofs.append.push_plain.Goals as goal
 pub returns-clause-appends : goal.returns-clause-appends
 unfolding Describes
 returns-clause-appends c = λ r before m d w s n.
-    on_ok c.push_group.result (RepresentsListing c.push_group.new.listing (with_group (at_line c.args.file c.args.line) m before)) _
-    (λ h. record { shows = h; counted = rw c.push_group.ensures.texts (counted_inside r _ _ _ _ _ before c.args.file c.args.line m d.counted s) })
+    on_ok c.push_group.result (RepresentsListing c.push_group.new.listing (with_group (at_line c.args.at.file c.args.at.line) m before)) _
+    (λ h. record { shows = h; counted = rw c.push_group.ensures.texts (counted_inside r _ _ _ _ _ before c.args.at.file c.args.at.line m d.counted s) })
     (c.push_group.ensures.appends before m d.shows w n)

@@ -29,7 +29,7 @@ returns-then-read-ge-MAX_CHOICES c =
 pub returns : goal.returns
 unfolding Describes
 returns c = λ r before d.
-    head_pushed r c.args.file c.args.line before choice _ c.push_choice_group.result
+    head_pushed r c.args.at.file c.args.at.line before choice _ c.push_choice_group.result
     (choice_fits before (sym (ap (nat_le 64) (blocks_are r _ _ _ _ _ before d.counted))
     ∙ ap (λ xs. nat_le 64 (count_by is_block xs)) (sym c.deref.ensures.value) ∙ sym c.is_at_block_limit.ensures ∙ c.if-is_at_block_limit.false)
     (choices_few _ _ d.counted.choices_are c.if-read-ge-MAX_CHOICES.false))

@@ -7,7 +7,7 @@ use Rattle.kc_listing.proofs.heads.push_comment.Goals as goal
 
 pub returns : goal.returns
 returns c = λ r before d.
-    head_pushed r c.args.file c.args.line before (comment c.args.title) _ c.push_plain.result refl
+    head_pushed r c.args.at.file c.args.at.line before (comment c.args.title) _ c.push_plain.result refl
     (c.push_plain.ensures.appends r before (of_head (comment c.args.title)) (c.in-Ok.ensures.describes r before d) (c.args.title, c.in-Ok.ensures.kept, refl)
     refl refl)
     c.push_plain.ensures.memory

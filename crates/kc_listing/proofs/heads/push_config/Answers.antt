@@ -31,9 +31,9 @@ returns c = λ r before d.
     let t = c.in-Ok.ensures.returned (names_defined before) d.shows.names in (
       config_fits before c.args.name.now (name_short c.args.name.now (length c.args.name.now) refl c.if-name-gt-MAX_NAME_BYTES.false) t.0,
       record {
-        shows = lists_put_config _ _ _ _ _ _ _ _ _ _ before c.args.file c.args.line c.len-attributes.result c.in-Ok.number c.args.name.now c.in-Ok.ensures.grows
+        shows = lists_put_config _ _ _ _ _ _ _ _ _ _ before c.args.at.file c.args.at.line c.len-attributes.result c.in-Ok.number c.args.name.now c.in-Ok.ensures.grows
             (search rules) c.in-Ok-push.ensures.items d.shows t.1 t.2;
-        counted = counted_inside r _ _ _ _ _ before c.args.file c.args.line (of_head (config c.args.name.now)) d.counted refl;
+        counted = counted_inside r _ _ _ _ _ before c.args.at.file c.args.at.line (of_head (config c.args.name.now)) d.counted refl;
       },
     )
 

@@ -25,7 +25,7 @@ pub returns : goal.returns
 unfolding Describes
 returns c = record {
   appends = λ r before d.
-      head_pushed r c.args.file c.args.line before (condition (node_expr c.args.read.now.listing.names.arena c.args.id)) _ c.push_block.result
+      head_pushed r c.args.at.file c.args.at.line before (condition (node_expr c.args.read.now.listing.names.arena c.args.id)) _ c.push_block.result
       (if_fits before (node_expr c.args.read.now.listing.names.arena c.args.id)
       (sym (ap (nat_le 64) (blocks_are r _ _ _ _ _ before d.counted)) ∙ ap (λ xs. nat_le 64 (count_by is_block xs)) (sym c.deref.ensures.value)
       ∙ sym c.is_at_block_limit.ensures ∙ c.if-is_at_block_limit.false))

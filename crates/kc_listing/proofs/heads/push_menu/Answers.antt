@@ -21,7 +21,7 @@ returns-then-is_at_block_limit c =
 pub returns : goal.returns
 unfolding Describes
 returns c = λ r before d.
-    head_pushed r c.args.file c.args.line before (menu c.args.title) _ c.push_block.result
+    head_pushed r c.args.at.file c.args.at.line before (menu c.args.title) _ c.push_block.result
     (menu_fits before c.args.title (sym (ap (nat_le 64) (blocks_are r _ _ _ _ _ before d.counted))
     ∙ ap (λ xs. nat_le 64 (count_by is_block xs)) (sym c.deref.ensures.value) ∙ sym c.is_at_block_limit.ensures ∙ c.if-is_at_block_limit.false))
     (c.push_block.ensures.appends r before (of_head (menu c.args.title)) (c.in-Ok.ensures.describes r before d) (c.args.title, c.in-Ok.ensures.kept, refl) refl

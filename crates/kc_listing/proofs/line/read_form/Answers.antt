@@ -27,7 +27,7 @@ returns-in-Err c = λ r before d. elim c.in-Err.ensures.gives [
 pub returns-in-Ok-Some : goal.returns-in-Ok-Some
 unfolding Describes
 returns-in-Ok-Some c = λ r before d.
-    source_given r c.args.file c.args.line c.args.language before c.args.keyword (lexemes_of c.args.tokens.now)
+    source_given r c.args.at.file c.args.at.line c.args.language before c.args.keyword (lexemes_of c.args.tokens.now)
     (statement_in c.statement_of.new.arena c.in-Ok.statement)
     c.push_statement.new.read
     (sym (c.fault_before_form.ensures r before d) ∙ c.in_default.is) c.in-Ok.ensures.gives c.in-Ok-Some.path
@@ -37,7 +37,7 @@ returns-in-Ok-Some c = λ r before d.
 pub returns-in-Ok-None : goal.returns-in-Ok-None
 unfolding Describes
 returns-in-Ok-None c = λ r before d.
-    help_given r c.args.file c.args.line c.args.language before c.args.keyword (lexemes_of c.args.tokens.now)
+    help_given r c.args.at.file c.args.at.line c.args.language before c.args.keyword (lexemes_of c.args.tokens.now)
     (statement_in c.statement_of.new.arena c.in-Ok.statement)
     c.push_statement.new.read
     (sym (c.fault_before_form.ensures r before d) ∙ c.in_default.is) c.in-Ok.ensures.gives (sym c.is_help_keyword.ensures ∙ c.if-is_help_keyword.true)
@@ -47,7 +47,7 @@ returns-in-Ok-None c = λ r before d.
 pub returns-in-Ok-None-2 : goal.returns-in-Ok-None-2
 unfolding Describes
 returns-in-Ok-None-2 c = λ r before d.
-    next_given r c.args.file c.args.line c.args.language before c.args.keyword (lexemes_of c.args.tokens.now)
+    next_given r c.args.at.file c.args.at.line c.args.language before c.args.keyword (lexemes_of c.args.tokens.now)
     (statement_in c.statement_of.new.arena c.in-Ok.statement)
     c.push_statement.new.read
     (sym (c.fault_before_form.ensures r before d) ∙ c.in_default.is) c.in-Ok.ensures.gives (sym c.is_help_keyword.ensures ∙ c.if-is_help_keyword.false)
@@ -57,7 +57,7 @@ returns-in-Ok-None-2 c = λ r before d.
 pub returns-in-Err-push_statement : goal.returns-in-Err-push_statement
 unfolding Describes
 returns-in-Err-push_statement c = λ r before d.
-    limit_given r c.args.file c.args.line c.args.language before c.args.keyword (lexemes_of c.args.tokens.now)
+    limit_given r c.args.at.file c.args.at.line c.args.language before c.args.keyword (lexemes_of c.args.tokens.now)
     (statement_in c.statement_of.new.arena c.in-Ok.statement)
     c.push_statement.new.read
     (sym (c.fault_before_form.ensures r before d) ∙ c.in_default.is) c.in-Ok.ensures.gives c.in-Err-push_statement.kind

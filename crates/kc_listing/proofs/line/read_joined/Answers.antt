@@ -5,7 +5,7 @@ use Rattle.kc_listing.proofs.line.read_joined.Goals as goal
 
 pub returns-in-Err : goal.returns-in-Err
 returns-in-Err c = λ before d. inr (
-  c.in-Err.ensures (file_source_of c.args.from).language before c.args.line false,
+  c.in-Err.ensures (file_source_of c.args.from).language before c.args.at.line false,
   shown_of (file_source_of c.args.from) _ before d,
 )
 

@@ -14,7 +14,7 @@ returns-in_default-keyword_of c = λ r before d. inr (
 
 pub returns : goal.returns
 returns c = λ r before d.
-    rw c.in-Some.ensures.cases.0 (given_by_word r c.args.file c.args.line c.args.language before (lexeme_of c.in-Some.first.now) (lexemes_of c.in-Some.rest.now)
+    rw c.in-Some.ensures.cases.0 (given_by_word r c.args.at.file c.args.at.line c.args.language before (lexeme_of c.in-Some.first.now) (lexemes_of c.in-Some.rest.now)
     c.in-Some-keyword_of.keyword _ c.read_form.result (sym c.keyword_of.ensures ∙ c.in-Some-keyword_of.is) (c.read_form.ensures r before d))
 
 pub returns-in_default : goal.returns-in_default

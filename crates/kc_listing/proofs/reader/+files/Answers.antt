@@ -91,7 +91,7 @@ read_open_file-returns t c = record {
 pub read_sourced-returns-in_err-sourced : goal.read_sourced-returns-in_err-sourced
 read_sourced-returns-in_err-sourced t c = λ before d.
     let p = err_from_is_err_and c.from_residual.result c.from_residual.ensures.1 in
-    rw (p.1, p.2) (not_sourced (file_source_of c.args.from) (read_file c.args.depth (file_source_of c.args.from)) c.args.file c.args.line c.args.path before
+    rw (p.1, p.2) (not_sourced (file_source_of c.args.from) (read_file c.args.depth (file_source_of c.args.from)) c.args.at.file c.args.at.line c.args.path before
     c.open_source.new.read _ (c.in_err-sourced.ensures.sourced before d))
 
 pub read_open_file-overflow_add-number : goal.read_open_file-overflow_add-number
@@ -123,14 +123,14 @@ pub read_sourced-returns-in_err-read_open_file : goal.read_sourced-returns-in_er
 read_sourced-returns-in_err-read_open_file t c = λ before d.
     let p = err_from_is_err_and c.from_residual-in_err-read_open_file.result c.from_residual-in_err-read_open_file.ensures.1 in
     let s = c.in_ok-sourced.ensures.sourced before d in
-    rw (p.1, p.2) (file_faulty (file_source_of c.args.from) (read_file c.args.depth (file_source_of c.args.from)) c.args.file c.args.line c.args.path before
+    rw (p.1, p.2) (file_faulty (file_source_of c.args.from) (read_file c.args.depth (file_source_of c.args.from)) c.args.at.file c.args.at.line c.args.path before
     c.read_open_file.new.read _ s.0 (c.in_err-read_open_file.ensures.read _ s.3 c.args.path s.1 s.2))
 
 pub read_sourced-returns : goal.read_sourced-returns
 read_sourced-returns t c = λ before d.
     let s = c.in_ok-sourced.ensures.sourced before d in
     let f = c.in_ok-read_open_file.ensures.read _ s.3 c.args.path s.1 s.2 in
-    source_done (file_source_of c.args.from) (read_file c.args.depth (file_source_of c.args.from)) c.args.file c.args.line c.args.path before
+    source_done (file_source_of c.args.from) (read_file c.args.depth (file_source_of c.args.from)) c.args.at.file c.args.at.line c.args.path before
     c.close_source.new.read c.close_source.result s.0 f.0 (c.close_source.ensures _ f.1)
 
 pub read_open_file-returns-in_err-next : goal.read_open_file-returns-in_err-next

@@ -8,7 +8,7 @@ pub returns-in-Attribute : goal.returns-in-Attribute
 returns-in-Attribute c =
     record {
       appends = λ r before d. rw (c.without_path.ensures, c.in-Attribute.is)
-          (attribute_given r c.args.file c.args.line before (attribute_in c.args.read.now.listing.names.arena c.in-Attribute.attribute) _
+          (attribute_given r c.args.at.file c.args.at.line before (attribute_in c.args.read.now.listing.names.arena c.in-Attribute.attribute) _
           c.push_attribute.result
           (c.push_attribute.ensures.appends r before d));
     }

@@ -4,12 +4,37 @@ use Rattle.kc_macros_model.specs.WrittenTokens.{written_token}
 use Rattle.kc_macros.specs.Runs.{place_of}
 use Rattle.kc_macros.specs.between.Variables.{bindings_of}
 use Rattle.kc_macro_lines.specs.checker.LineTexts.{token_view}
-use Rattle.kc_macros.proofs.RunLemmas.{runs_out}
+use Rattle.kc_macro_forms.specs.between.WrittenTokens.{token_of}
+use Rattle.kc_macro_lines.specs.checker.Bodies.{body_of_code, quoted_written}
+use Rattle.kc_macros.proofs.RunLemmas.{runs_out, passes_on}
+use Rattle.kc_macros.proofs.ProgramLemmas.{runs_same}
 use Rattle.kc_macros.proofs.ExpansionLemmas.{fails_so, returns_so}
+use Rattle.kc_macro_lines.proofs.BodyLemmas.{quoted_stopped, quoted_returned}
 use Rattle.kc_macro_lines.proofs.quoted_tokens.written_token.Goals as goal
 
 pub returns-in_err-new_token-in-Gap : goal.returns-in_err-new_token-in-Gap
 returns-in_err-new_token-in-Gap c = runs_out _ _ _ _ _ c.from_residual.ensures.1
+
+pub returns-in_err-body-in-Quoted : goal.returns-in_err-body-in-Quoted
+returns-in_err-body-in-Quoted c =
+    let at = place_of c.args.at in
+    let b = bindings_of c.args.bindings.now in
+    passes_on _ _ _ _ c.in_err-body-in-Quoted.field-0.0 _ c.from_residual-in_err-body-in-Quoted.ensures.1
+    (runs_same c.args.run.now c.written_body.new.run _ (quoted_written at b c.in-Quoted.quote c.in-Quoted.text.now) _
+    (ap (λ t. written_token at b (token_view t)) c.in-Quoted.is)
+    (quoted_stopped at b c.in-Quoted.quote c.in-Quoted.text.now c.args.run.now c.written_body.new.run c.in_err-body-in-Quoted.field-0.0 c.in_err-body-in-Quoted.ensures))
+
+pub returns-in_err-token_of_body-in-Quoted : goal.returns-in_err-token_of_body-in-Quoted
+returns-in_err-token_of_body-in-Quoted c = runs_out _ _ _ _ _ c.from_residual-in_err-token_of_body-in-Quoted.ensures.1
+
+pub returns-in_ok-token_of_body-in-Quoted : goal.returns-in_ok-token_of_body-in-Quoted
+returns-in_ok-token_of_body-in-Quoted c =
+    let at = place_of c.args.at in
+    let b = bindings_of c.args.bindings.now in
+    runs_same c.args.run.now c.written_body.new.run _ (quoted_written at b c.in-Quoted.quote c.in-Quoted.text.now) _
+    (ap (λ t. written_token at b (token_view t)) c.in-Quoted.is)
+    (quoted_returned at b c.in-Quoted.quote c.in-Quoted.text.now c.args.run.now c.written_body.new.run
+    (body_of_code c.in_ok-body-in-Quoted.body) (token_of c.in_ok-token_of_body-in-Quoted.field-0) c.in_ok-token_of_body-in-Quoted.ensures c.in_ok-body-in-Quoted.ensures)
 
 pub returns-in_err-new_token-in-Other : goal.returns-in_err-new_token-in-Other
 returns-in_err-new_token-in-Other c = runs_out _ _ _ _ _ c.from_residual-in_err-new_token-in-Other.ensures.1

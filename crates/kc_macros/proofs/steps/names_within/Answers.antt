@@ -11,10 +11,10 @@ returns-then-is_recursion c = λ sub s t.
     fails_so s _ _ c.fault.result (is_recursive sub (place_of c.args.at) (texts_of_slices c.args.names.now) c.args.name.now c.args.args.now t
     (sym c.is_recursion.ensures ∙ c.if-is_recursion.true)) c.fault.ensures
 
-pub returns-in_err-with_name : goal.returns-in_err-with_name
-returns-in_err-with_name c = λ sub s t. steps_out _ _ _ _ _ c.from_residual.ensures.1
+pub returns-in_err-with_innermost : goal.returns-in_err-with_innermost
+returns-in_err-with_innermost c = λ sub s t. steps_out _ _ _ _ _ c.from_residual.ensures.1
 
 pub returns : goal.returns
 returns c = λ sub s t.
     leads_same s _ _ (is_not_recursive sub (place_of c.args.at) (texts_of_slices c.args.names.now) c.args.name.now c.args.args.now t
-    (sym c.is_recursion.ensures ∙ c.if-is_recursion.false) ∙ ap (λ ns. sub ns c.args.args.now t) (sym c.in_ok-with_name.ensures))
+    (sym c.is_recursion.ensures ∙ c.if-is_recursion.false) ∙ ap (λ ns. sub ns c.args.args.now t) (sym c.in_ok-with_innermost.ensures))

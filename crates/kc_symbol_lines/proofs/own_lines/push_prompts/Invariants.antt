@@ -6,5 +6,5 @@ use Rattle.kc_symbol_lines.proofs.own_lines.push_prompts.Given as goal
 
 abbrev pub invariant-loop-line : goal.invariant-loop-line
 invariant-loop-line l =
-    each_items l.found.items ++ prompts_in (lists_of l.enclosing) l.file l.lines (drop l.line-index l.lines)
-    ≡ each_items l.fn.found.items ++ prompts_in (lists_of l.enclosing) l.file l.lines l.lines
+    each_items l.found.items ++ prompts_in (lists_of l.enclosing) l.own.file l.own.lines.now (drop l.line-index l.own.lines.now)
+    ≡ each_items l.fn.found.items ++ prompts_in (lists_of l.enclosing) l.own.file l.own.lines.now l.own.lines.now

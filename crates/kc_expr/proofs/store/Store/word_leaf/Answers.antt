@@ -16,6 +16,19 @@ returns-in-Some-find_newest c = record {
   memory = omega arith;
 }
 
+pub returns-in-Some-find : goal.returns-in-Some-find
+returns-in-Some-find c =
+    let place = sym c.find.ensures.value ∙ c.in-Some-find.is in
+    record {
+      sound = grind (arith, common_steps);
+      extends = grind (arith, common_steps);
+      fits = (place_there _ _ _ place).0;
+      names = rw ((place_there _ _ _ place).1, place) refl;
+      operand = ap named (place_there _ _ _ place).1
+          ∙ ap (λ o. constant_else o (named c.args.text.now)) (sym c.in_default.is ∙ c.constant_of.ensures);
+      memory = omega arith;
+    }
+
 pub returns : goal.returns
 returns c = record {
   sound = grind (arith, common_steps);
@@ -49,5 +62,8 @@ returns-in_err-index c = record {
 pub find_newest-requires : goal.find_newest-requires
 find_newest-requires c = grind (arith, common_steps)
 
-pub intern-requires : goal.intern-requires
-intern-requires c = grind (arith, common_steps)
+pub find-requires : goal.find-requires
+find-requires c = grind (arith, common_steps)
+
+pub insert_name-requires : goal.insert_name-requires
+insert_name-requires c = grind (arith, common_steps)

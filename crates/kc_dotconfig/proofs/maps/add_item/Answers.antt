@@ -1,0 +1,14 @@
+use Rattle.std.proofs.Common.{rules, ◌≡◌, None}
+use Rattle.std.proofs.lemmas.Result.{on_ok_weaker}
+use Rattle.std.specs.Map.{lookup}
+use Rattle.std.specs.BTreeMap.{is_at}
+use Rattle.std.specs.Ordering.{nat_cmp}
+use Rattle.kc_dotconfig.proofs.Groups.{items_put}
+use Rattle.kc_dotconfig.proofs.maps.add_item.Goals as goal
+
+pub returns : goal.returns
+returns g c =
+    let none : lookup (is_at (nat_cmp c.args.key)) c.args.groups.now.entries ≡ None = search rules in
+    on_ok_weaker c.put.result
+    (λ put. items_put _ c.args.groups.now.entries c.put.new.map.entries c.args.key c.in_ok-items.items c.args.item put c.in_ok-items.ensures none)
+    c.put.ensures

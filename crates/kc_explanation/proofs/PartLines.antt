@@ -1,0 +1,65 @@
+-- Lines of parts of conditions, and of selects and implies.
+use Rattle.std.proofs.Common.{◌≡◌, ℕ, List, [], ◌∷◌, ◌++◌, map, Option, Some, None, refl, ap, ◌∙◌}
+use Rattle.std.specs.Prelude.{codes, flat_map, slice_get}
+use Rattle.std.specs.Global.{Vec}
+use Rattle.std.proofs.lemmas.List.{append-nil}
+use Rattle.kc_expr.specs.Expr.{Environment}
+use Rattle.kc_expr.specs.between.Arena.{Exprs}
+use Rattle.kc_tree_model.specs.Trees.{Tree, ReverseDependency}
+use Rattle.kc_rules_model.specs.declared.values.UnitValue.{UnitValue}
+use Rattle.kc_dotconfig_model.specs.declared.format.Strings.{Strings}
+use Rattle.kc_reasons.specs.declared.low_parts.LowPart.{LowPart}
+use Rattle.kc_reasons.specs.between.Parts.{part_view, parts_view, alternatives_view}
+use Rattle.kc_located_reasons.specs.declared.located_parts.LocatedPart.{LocatedPart}
+use Rattle.kc_located_reasons.specs.between.PartsView.{located_part_view, located_parts_view, located_alternatives_view}
+use Rattle.kc_explanation.specs.Explained.{inner_line, low_part_text, low_parts_text, alternative_lines, forcing_text, forcing_line, forcing_lines}
+use Rattle.kc_explanation.specs.Located.{located_part_text, located_parts_text, located_alternative_lines, located_forcing_line, located_forcing_lines}
+use Rattle.kc_explanation.specs.checker.PartLines.{joined_parts, part_lines}
+
+module _ (strings : Strings) (names : Environment) (exprs : Exprs) where
+  abbrev pub low_texts : List LowPart → List (List ℕ)
+  low_texts ps = map (λ p. low_part_text strings names (part_view exprs p)) ps
+
+  abbrev pub each_low : List (Vec LowPart) → List (List (List ℕ))
+  each_low vs = map (λ (v : Vec LowPart). low_texts v.items) vs
+
+  low_parts : (word : List ℕ) (ps : List LowPart) → joined_parts word (low_texts ps) ≡ low_parts_text strings names word (parts_view exprs ps)
+  low_parts word [] = refl
+  low_parts word (p ∷ ps) = ap (λ x. word ++ (low_part_text strings names (part_view exprs p) ++ x)) (low_parts (codes " and ") ps)
+
+  pub low_lines : (word : List ℕ) (vs : List (Vec LowPart)) → part_lines word (each_low vs) ≡ alternative_lines strings names word (alternatives_view exprs vs)
+  low_lines word [] = refl
+  low_lines word (v ∷ vs) =
+      ap (λ x. inner_line x ++ part_lines (codes "or ") (each_low vs)) (low_parts word v.items)
+      ∙ ap (λ x. inner_line (low_parts_text strings names word (parts_view exprs v.items)) ++ x) (low_lines (codes "or ") vs)
+
+module _ (strings : Strings) (names : Environment) (exprs : Exprs) (paths : List (List ℕ)) where
+  abbrev pub located_texts : List LocatedPart → List (List ℕ)
+  located_texts ps = map (λ p. located_part_text strings names paths (located_part_view exprs p)) ps
+
+  abbrev pub each_located : List (Vec LocatedPart) → List (List (List ℕ))
+  each_located vs = map (λ (v : Vec LocatedPart). located_texts v.items) vs
+
+  located_parts : (word : List ℕ) (ps : List LocatedPart)
+      → joined_parts word (located_texts ps) ≡ located_parts_text strings names paths word (located_parts_view exprs ps)
+  located_parts word [] = refl
+  located_parts word (p ∷ ps) = ap (λ x. word ++ (located_part_text strings names paths (located_part_view exprs p) ++ x)) (located_parts (codes " and ") ps)
+
+  pub located_lines : (word : List ℕ) (vs : List (Vec LocatedPart))
+      → part_lines word (each_located vs) ≡ located_alternative_lines strings names paths word (located_alternatives_view exprs vs)
+  located_lines word [] = refl
+  located_lines word (v ∷ vs) =
+      ap (λ x. inner_line x ++ part_lines (codes "or ") (each_located vs)) (located_parts word v.items)
+      ∙ ap (λ x. inner_line (located_parts_text strings names paths word (located_parts_view exprs v.items)) ++ x) (located_lines (codes "or ") vs)
+
+-- without their places
+module _ (strings : Strings) (paths : List (List ℕ)) (tree : Tree) (values : List UnitValue) (word : List ℕ) (fs : List ReverseDependency) where
+  without_place : (o : Option ReverseDependency) → located_forcing_line strings paths tree values word o None ≡ forcing_line strings tree values word o
+  without_place None = refl
+  without_place (Some f) = ap (λ x. inner_line (word ++ x)) (append-nil (forcing_text strings tree values f))
+
+  pub without_places : (numbers : List ℕ) → located_forcing_lines strings paths tree values word fs [] numbers ≡ forcing_lines strings tree values word fs numbers
+  without_places [] = refl
+  without_places (n ∷ ns) =
+      ap (λ x. x ++ located_forcing_lines strings paths tree values word fs [] ns) (without_place (slice_get fs n))
+      ∙ ap (λ x. forcing_line strings tree values word (slice_get fs n) ++ x) (without_places ns)
