@@ -15,7 +15,7 @@ use Rattle.kc_value.specs.declared.limits.TheConstants.{MAX_ANSWER_BYTES, MAX_AN
 use Rattle.kc_macros_model.specs.Programs.{Answer}
 use Rattle.kc_macros_model.specs.AnswerFiles.{RecordedAnswers, AnswerLine, comment, answer, command, malformed, meaning_of_line, is_same_answer, LinesSoFar, fault_at, one_line_more, with_answer, malformed_line, with_meaning, fault_of_size, fault_of_line, with_line, FileEnd, complete, cut_by, unless_waiting, cut_line, and_then, recorded_from, first_line, answers_read}
 use Rattle.kc_answers.specs.checker.AnswerFaults.{no_memory}
-use Rattle.kc_answers.specs.ReadAnswers.{ReadsToEnd, end_of_file, AreRecorded, IsRefused}
+use Rattle.kc_answers.specs.ReadAnswers.{ReadsToEnd, end_of_file, AreRecorded, AreAnswersRefused}
 
 -- a file that a fault cuts isn't recorded
 cut_is_refused : (kind : AnswersKind) (lines : LinesSoFar) (ls : List PhysicalLine) (r : RecordedAnswers) → recorded_from (cut_by kind) lines ls ≡ Ok r → ⊥
@@ -151,7 +151,7 @@ module _ (before after : Option (List ℕ)) (failed failed_after : ℕ) (bytes :
   file_unfailed (Some kind) ends recorded e = absurd (cut_is_refused kind (first_line earlier) (split_at_newlines (take MAX_ANSWER_BYTES bytes)) recorded e)
 
   pub file_refused : (cut : Option AnswersKind) → ReadsToEnd after failed failed_after bytes cut → (f : AnswersFault) → Reads cut (Err f)
-      → IsRefused before after failed failed_after earlier f
+      → AreAnswersRefused before after failed failed_after earlier f
   file_refused None ends f e = record { bytes = bytes; consumed = consumed; cut = None; ended = ends; read = small_file complete bytes earlier ends.1 ∙ e }
   file_refused (Some Read) ends f e = record {
     bytes = bytes;

@@ -4,7 +4,7 @@ ghost use Rattle.std.specs.declared.alloc.Global.{Global};
 ghost use Rattle.std.specs.Io.KnownBytes.{Consumes};
 ghost use Rattle.kc_tree_model.specs.Keywords.{keyword_in_table};
 ghost use Rattle.kc_answers.specs.RunStates.{questions_of};
-ghost use Rattle.kc_answers.specs.ReadAnswers.{ReadsToEnd, AreRecorded, IsRefused};
+ghost use Rattle.kc_answers.specs.ReadAnswers.{ReadsToEnd, AreRecorded, AreAnswersRefused};
 
 use super::answer_table::AnswerTable;
 use super::file_records::record_lines;
@@ -127,7 +127,7 @@ impl Answers {
     pub fn read<R: Source>(&mut self, source: &mut R) -> Result<(), AnswersFault>
         ensures ok { OnOk result (AreRecorded (R.left source.old) (R.left source.new) self.old self.new) }
         ensures unfailed { OnOk result (R.failures source.new ≡ R.failures source.old) }
-        ensures fault { IfErr result (λ f. (f.kind ≡ AnswersKind.OutOfMemory) ⊎ IsRefused (R.left source.old) (R.left source.new) (R.failures source.old) (R.failures source.new) self.old f) }
+        ensures fault { IfErr result (λ f. (f.kind ≡ AnswersKind.OutOfMemory) ⊎ AreAnswersRefused (R.left source.old) (R.left source.new) (R.failures source.old) (R.failures source.new) self.old f) }
         ensures no_memory { IfErr result (λ f. f.kind ≡ AnswersKind.OutOfMemory → f.line ≡ 0) }
         ensures err { OnErr result (self.new ≡ self.old) }
     {

@@ -15,14 +15,14 @@ use Rattle.kc_expr.specs.between.Names.{name_alone}
 use Rattle.kc_statements.specs.between.StatementViews.{attribute_in, default_in, AttributeNodesExist}
 use Rattle.kc_statements.specs.declared.statement.Attribute.{Attribute as CodeAttribute}
 use Rattle.kc_statements.specs.declared.statement.Attribute.TheVariants as attributes
-use Rattle.kc_listing.specs.declared.listing.Line.{Line as CodeLine}
-use Rattle.kc_listing.specs.declared.listing.SymbolTable.{SymbolTable}
-use Rattle.kc_listing.specs.between.SymbolTable.{number_in, HasNames}
-use Rattle.kc_listing.specs.between.ListingView.{line_in, RepresentsListing, RepresentsHead}
-use Rattle.kc_listing.specs.declared.listing.Listing.{Listing}
-use Rattle.kc_listing.specs.declared.listing.GroupHead.{GroupHead as CodeHead}
-use Rattle.kc_listing.specs.declared.listing.GroupHead.TheVariants as codes
-use Rattle.kc_listing.proofs.NameLemmas.{as_many_names}
+use Rattle.kc_parser.specs.declared.listing.Line.{Line as CodeLine}
+use Rattle.kc_parser.specs.declared.listing.SymbolTable.{SymbolTable}
+use Rattle.kc_parser.specs.between.SymbolTable.{number_in, HasNames}
+use Rattle.kc_parser.specs.between.ListingView.{line_in, RepresentsListing, RepresentsHead}
+use Rattle.kc_parser.specs.declared.listing.Listing.{Listing}
+use Rattle.kc_parser.specs.declared.listing.GroupHead.{GroupHead as CodeHead}
+use Rattle.kc_parser.specs.declared.listing.GroupHead.TheVariants as codes
+use Rattle.kc_parser.proofs.NameLemmas.{as_many_names}
 use Rattle.kc_tree_model.specs.Limits.{names_defined}
 use Rattle.kc_tree_model.specs.Trees as tree
 use Rattle.kc_tree_model.specs.declared.fault.TreeKind.{TreeKind}

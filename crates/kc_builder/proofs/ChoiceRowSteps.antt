@@ -13,9 +13,9 @@ use Rattle.kc_statements.specs.declared.statement.Attribute.TheVariants as attri
 use Rattle.kc_tree_model.specs.Statements.{prompt_of, is_optional}
 use Rattle.kc_tree_model.specs.Blocks.{Group, Line, open_blocks}
 use Rattle.kc_tree_model.specs.Conditions.{context_of, GroupInContext, group_in_context, groups_in_context, prompt_condition, prompts_of}
-use Rattle.kc_listing.specs.declared.listing.Line.{Line as CodeLine}
-use Rattle.kc_listing.specs.declared.listing.Listing.{Listing}
-use Rattle.kc_listing.specs.between.ListingView.{RepresentsListing, line_in, RepresentsGroup}
+use Rattle.kc_parser.specs.declared.listing.Line.{Line as CodeLine}
+use Rattle.kc_parser.specs.declared.listing.Listing.{Listing}
+use Rattle.kc_parser.specs.between.ListingView.{RepresentsListing, line_in, RepresentsGroup}
 use Rattle.kc_tree_model.specs.Limits.{names_defined}
 use Rattle.kc_builder.specs.checker.ChoiceRows.{is_optional_line, choice_row, group_rows, opens, IsChoiceRow, AreChoiceRows}
 use Rattle.kc_conditions.specs.between.GroupConditions.{conditions_at, own_conditions}

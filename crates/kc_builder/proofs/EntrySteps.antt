@@ -16,10 +16,10 @@ use Rattle.kc_tree_model.specs.Conditions.{context_of, GroupInContext, group_in_
 use Rattle.kc_tree_model.specs.Contents.{Contents, contents_of, choice_number, entry_of_head, menu_end_of}
 use Rattle.kc_tree_model.specs.Limits.{names_defined}
 use Rattle.kc_tree_model.proofs.Consistency.Lists.{Differ, Differ-once, get_below, number-get}
-use Rattle.kc_listing.specs.declared.listing.Listing.{Listing}
-use Rattle.kc_listing.specs.declared.listing.GroupHead.{GroupHead as CodeHead}
-use Rattle.kc_listing.specs.declared.listing.GroupHead.TheVariants as codes
-use Rattle.kc_listing.specs.between.ListingView.{RepresentsListing, RepresentsHead}
+use Rattle.kc_parser.specs.declared.listing.Listing.{Listing}
+use Rattle.kc_parser.specs.declared.listing.GroupHead.{GroupHead as CodeHead}
+use Rattle.kc_parser.specs.declared.listing.GroupHead.TheVariants as codes
+use Rattle.kc_parser.specs.between.ListingView.{RepresentsListing, RepresentsHead}
 use Rattle.kc_builder.specs.checker.ChoiceDefaults.{IsWalkOf}
 use Rattle.kc_builder.specs.checker.Entries.{entry_row}
 use Rattle.kc_tree.specs.between.StoredParts.{EntryRowFits}

@@ -7,12 +7,12 @@ use Rattle.kc_tree_model.specs.Blocks.{Group}
 use Rattle.kc_tree_model.specs.Conditions.{groups_in_context}
 use Rattle.kc_tree_model.specs.Contents.{contents_of, tree_of_groups}
 use Rattle.kc_tree_model.specs.Limits.{names_defined}
-use Rattle.kc_listing.specs.declared.listing.Group.{Group as CodeGroup}
-use Rattle.kc_listing.specs.declared.listing.Line.{Line as CodeLine}
-use Rattle.kc_listing.specs.declared.listing.Listing.{Listing}
-use Rattle.kc_listing.specs.declared.listing.SymbolTable.{SymbolTable}
-use Rattle.kc_listing.specs.between.ListingView.{LineNodesExist, RepresentsListing}
-use Rattle.kc_listing.proofs.NameLemmas.{as_many_names}
+use Rattle.kc_parser.specs.declared.listing.Group.{Group as CodeGroup}
+use Rattle.kc_parser.specs.declared.listing.Line.{Line as CodeLine}
+use Rattle.kc_parser.specs.declared.listing.Listing.{Listing}
+use Rattle.kc_parser.specs.declared.listing.SymbolTable.{SymbolTable}
+use Rattle.kc_parser.specs.between.ListingView.{LineNodesExist, RepresentsListing}
+use Rattle.kc_parser.proofs.NameLemmas.{as_many_names}
 use Rattle.kc_tree.specs.between.PartsView.{entry_from_row}
 use Rattle.kc_tree.specs.between.StoredParts.{EntryRowFits}
 use Rattle.kc_checks.specs.between.FaultSearch.{choices_before, HasNoFaults}

@@ -4,10 +4,10 @@ use Rattle.std.specs.Prelude.{map, option_to_list, option_map, option_and_then, 
 use Rattle.std.specs.List.{cons_option, list_any}
 use Rattle.std.proofs.Math.Seq.{drop-cons, drop-length}
 use Rattle.kc_statements.specs.between.StatementViews.{target_given}
-use Rattle.kc_listing.specs.declared.listing.Line.{Line as CodeLine}
+use Rattle.kc_parser.specs.declared.listing.Line.{Line as CodeLine}
 use Rattle.kc_tree.specs.declared.items_with_keys.ItemsWithKeys.{ItemsWithKeys}
-use Rattle.kc_listing.specs.declared.listing.SymbolTable.{SymbolTable}
-use Rattle.kc_listing.specs.between.SymbolTable.{number_in, text_of_name}
+use Rattle.kc_parser.specs.declared.listing.SymbolTable.{SymbolTable}
+use Rattle.kc_parser.specs.between.SymbolTable.{number_in, text_of_name}
 use Rattle.kc_tree.specs.declared.symbol.ReverseDependency.{ReverseDependency}
 use Rattle.kc_statements.specs.declared.statement.ReverseKind.{ReverseKind}
 use Rattle.kc_statements.specs.declared.statement.ReverseKind.TheVariants.{Select, Imply}

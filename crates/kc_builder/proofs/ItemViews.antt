@@ -17,10 +17,10 @@ use Rattle.kc_tree_model.specs.Statements.{Attribute, DefaultAttribute, RangeAtt
 use Rattle.kc_tree_model.specs.Blocks.{Line}
 use Rattle.kc_tree_model.specs.Conditions.{context_of, GroupInContext, prompt_condition, attribute_condition}
 use Rattle.kc_tree_model.proofs.Consistency.Lists.{get_below, place-get}
-use Rattle.kc_listing.specs.declared.listing.Line.{Line as CodeLine}
-use Rattle.kc_listing.specs.declared.listing.SymbolTable.{SymbolTable}
-use Rattle.kc_listing.specs.between.SymbolTable.{HasNames, number_in, text_of_name}
-use Rattle.kc_listing.specs.between.ListingView.{LineNodesExist, line_in}
+use Rattle.kc_parser.specs.declared.listing.Line.{Line as CodeLine}
+use Rattle.kc_parser.specs.declared.listing.SymbolTable.{SymbolTable}
+use Rattle.kc_parser.specs.between.SymbolTable.{HasNames, number_in, text_of_name}
+use Rattle.kc_parser.specs.between.ListingView.{LineNodesExist, line_in}
 use Rattle.kc_tree.specs.between.Views.{DefaultFits, RangeFits, HasOperands, ReverseDependencyFits}
 use Rattle.kc_tree.specs.between.Views as views
 use Rattle.kc_builder.specs.checker.GatheredItems.{gathered_prompt, gathered_default, gathered_range, gathered_target, gathered_reverse_dependency, own_key, target_key, gathered_items}

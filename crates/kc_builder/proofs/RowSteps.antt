@@ -10,13 +10,13 @@ use Rattle.kc_tree_model.specs.Contents.{contents_of, defines, definitions_of, k
 use Rattle.kc_tree_model.specs.Limits.{names_defined}
 use Rattle.kc_tree_model.proofs.Consistency.Lists.{Has, has-filter}
 use Rattle.kc_tree_model.proofs.Consistency.Places.{group-placed}
-use Rattle.kc_listing.specs.declared.listing.Group.{Group as CodeGroup}
-use Rattle.kc_listing.specs.declared.listing.Line.{Line as CodeLine}
-use Rattle.kc_listing.specs.between.SymbolTable.{text_of_name}
-use Rattle.kc_listing.specs.between.ListingView.{RepresentsGroups, RepresentsLists, RepresentsListing}
-use Rattle.kc_listing.specs.declared.listing.Listing.{Listing}
-use Rattle.kc_listing.proofs.NameLemmas.{as_many_names}
-use Rattle.kc_listing.proofs.ListingGrowth.{get_more, get_last}
+use Rattle.kc_parser.specs.declared.listing.Group.{Group as CodeGroup}
+use Rattle.kc_parser.specs.declared.listing.Line.{Line as CodeLine}
+use Rattle.kc_parser.specs.between.SymbolTable.{text_of_name}
+use Rattle.kc_parser.specs.between.ListingView.{RepresentsGroups, RepresentsLists, RepresentsListing}
+use Rattle.kc_parser.specs.declared.listing.Listing.{Listing}
+use Rattle.kc_parser.proofs.NameLemmas.{as_many_names}
+use Rattle.kc_parser.proofs.ListingGrowth.{get_more, get_last}
 use Rattle.kc_builder.specs.checker.Rows.{place_of_group, place_of_group_number, row_of_symbol, rows_of_symbols, IsRowOf, AreRowsOf}
 use Rattle.kc_checks.specs.between.Summaries.{summary_in, symbol_summaries, number_at, AreSymbolSummaries, IsRepresented}
 use Rattle.kc_tree.specs.declared.parts.SymbolRow.{SymbolRow}

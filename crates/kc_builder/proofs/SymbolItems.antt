@@ -13,13 +13,13 @@ use Rattle.kc_tree_model.specs.Conditions.{context_of, GroupInContext, group_in_
 use Rattle.kc_tree_model.specs.Contents.{contents_of}
 use Rattle.kc_tree_model.specs.Limits.{names_defined}
 use Rattle.kc_tree_model.proofs.Consistency.Lists.{Differ-once, get_below}
-use Rattle.kc_listing.specs.declared.listing.Group.{Group as CodeGroup}
-use Rattle.kc_listing.specs.declared.listing.Line.{Line as CodeLine}
-use Rattle.kc_listing.specs.declared.listing.SymbolTable.{SymbolTable}
-use Rattle.kc_listing.specs.declared.listing.GroupHead.{GroupHead as CodeHead}
-use Rattle.kc_listing.specs.declared.listing.GroupHead.TheVariants as codes
-use Rattle.kc_listing.specs.between.SymbolTable.{HasNames}
-use Rattle.kc_listing.specs.between.ListingView.{RepresentsGroups, RepresentsHead, LineNodesExist, line_in}
+use Rattle.kc_parser.specs.declared.listing.Group.{Group as CodeGroup}
+use Rattle.kc_parser.specs.declared.listing.Line.{Line as CodeLine}
+use Rattle.kc_parser.specs.declared.listing.SymbolTable.{SymbolTable}
+use Rattle.kc_parser.specs.declared.listing.GroupHead.{GroupHead as CodeHead}
+use Rattle.kc_parser.specs.declared.listing.GroupHead.TheVariants as codes
+use Rattle.kc_parser.specs.between.SymbolTable.{HasNames}
+use Rattle.kc_parser.specs.between.ListingView.{RepresentsGroups, RepresentsHead, LineNodesExist, line_in}
 use Rattle.kc_tree.specs.between.Views.{DefaultFits, ReverseDependencyFits}
 use Rattle.kc_tree.specs.between.Views as views
 use Rattle.kc_conditions.specs.between.GroupConditions.{conditions_at, own_conditions}

@@ -8,8 +8,8 @@ use Rattle.kc_tree_model.specs.TreeFiles.{Files}
 use Rattle.kc_tree_model.specs.TreeReading.{Outcome, reading}
 use Rattle.kc_tree_model.specs.TreesOfFiles.{origin_of, IsTreeOfFiles}
 use Rattle.kc_tree_model.proofs.ReadingLaws.ReadingCompleteness.{whole_read}
-use Rattle.kc_listing.specs.declared.listing.Listing.{Listing}
-use Rattle.kc_listing.specs.between.ListingView.{RepresentsListing}
+use Rattle.kc_parser.specs.declared.listing.Listing.{Listing}
+use Rattle.kc_parser.specs.between.ListingView.{RepresentsListing}
 use Rattle.kc_tree.specs.TreeModel.{TreeModel}
 use Rattle.kc_builder.specs.between.TreeLines.{HasLines, IsTreeWithLines}
 use Rattle.kc_builder.specs.declared.tree_lines.TreeLines.{TreeLines}

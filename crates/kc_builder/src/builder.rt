@@ -20,7 +20,7 @@ use super::tree_lines::{TreeLines, TreeWithLines};
 use kc_checks::{Summary, out_of_memory};
 use kc_conditions::{WalkedListing, walk_all};
 use kc_expr::Arena;
-use kc_listing::{Listing, SymbolTable};
+use kc_parser::{Listing, SymbolTable};
 use kc_tokens::Language;
 use kc_tree::{ItemsWithKeys, SymbolRow, Tree, TreeLists};
 use kc_tree_model::{Sym, TreeFault, Unit};

@@ -1,12 +1,12 @@
 //! The defaults of choices.
 ghost use Rattle.std.specs.Prelude.{◌≡◌, ◌++◌, All, OnOk, map};
-ghost use Rattle.kc_listing.specs.between.ListingView.{LineNodesExist};
+ghost use Rattle.kc_parser.specs.between.ListingView.{LineNodesExist};
 ghost use Rattle.kc_builder.specs.checker.ChoiceDefaults.{group_default_rows, member_default_row, member_default_rows};
 
 use super::group_attributes::{GroupAttributes, push_optional};
 use kc_checks::begins_choice;
 use kc_expr::ExprId;
-use kc_listing::{GroupHead, Line, SymbolTable};
+use kc_parser::{GroupHead, Line, SymbolTable};
 use kc_tree::{ItemsWithKeys, MemberDefault};
 use kc_tree_model::Sym;
 use std::alloc::AllocError;

@@ -6,7 +6,7 @@ ghost use Rattle.kc_builder.specs.checker.ChoiceRows.{is_optional_line, choice_r
 use kc_checks::begins_choice;
 use kc_conditions::first_condition;
 use kc_expr::ExprId;
-use kc_listing::{Group, Line};
+use kc_parser::{Group, Line};
 use kc_tree::ChoiceRow;
 use std::alloc::AllocError;
 

@@ -1,14 +1,14 @@
 //! The prompts, defaults, ranges and reverse dependencies that a definition's attributes give.
 ghost use Rattle.std.specs.Prelude.{◌≡◌, All, OnOk};
 ghost use Rattle.std.specs.List.{list_any};
-ghost use Rattle.kc_listing.specs.between.ListingView.{LineNodesExist};
+ghost use Rattle.kc_parser.specs.between.ListingView.{LineNodesExist};
 ghost use Rattle.kc_statements.specs.declared.statement.ReverseKind.TheVariants.{Select, Imply};
 ghost use Rattle.kc_builder.specs.checker.Definitions.{HasLine, HasOwn};
 ghost use Rattle.kc_builder.specs.checker.GatheredItems.{has_target, target_key, gathered_prompt, gathered_default, gathered_range, gathered_target, gathered_reverse_dependency, HasAppended};
 
 use super::group_attributes::{GroupAttributes, push_optional};
 use kc_expr::ExprId;
-use kc_listing::{Line, SymbolTable};
+use kc_parser::{Line, SymbolTable};
 use kc_statements::{Attribute, ReverseKind};
 use kc_tree::{Attributes, Default, ItemsWithKeys, Range, ReverseDependency};
 use kc_tree_model::Sym;

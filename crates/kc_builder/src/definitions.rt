@@ -1,12 +1,12 @@
 //! The attributes of symbols, from all their definitions.
 ghost use Rattle.std.specs.Prelude.{◌≡◌, [], All, OnOk};
-ghost use Rattle.kc_listing.specs.between.ListingView.{LineNodesExist};
+ghost use Rattle.kc_parser.specs.between.ListingView.{LineNodesExist};
 ghost use Rattle.kc_builder.specs.checker.Definitions.{HasDefinition, HasStatement};
 
 use super::definition_attributes::{push_own, push_targets};
 use super::group_attributes::GroupAttributes;
 use kc_expr::ExprId;
-use kc_listing::GroupHead;
+use kc_parser::GroupHead;
 use kc_tree::{Attributes, ItemsWithKeys};
 use std::alloc::{AllocError, Global};
 

@@ -3,7 +3,7 @@ ghost use Rattle.std.specs.Prelude.{◌≡◌, ◌++◌, IfOk, OnOk, option_to_l
 ghost use Rattle.kc_builder.specs.checker.Entries.{entry_row};
 
 use kc_conditions::GroupConditions;
-use kc_listing::GroupHead;
+use kc_parser::GroupHead;
 use kc_tree::EntryRow;
 use kc_tree_model::{Block, Sym};
 use std::alloc::AllocError;

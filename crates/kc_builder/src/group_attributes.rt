@@ -2,7 +2,7 @@
 ghost use Rattle.std.specs.Prelude.{◌≡◌, ◌++◌, OnOk, length, map, option_to_list};
 
 use kc_expr::ExprId;
-use kc_listing::{Line, SymbolTable};
+use kc_parser::{Line, SymbolTable};
 use kc_tree::ItemsWithKeys;
 use std::alloc::AllocError;
 

@@ -21,8 +21,8 @@ use Rattle.kc_tree_model.specs.TreeFaults.{is_added_attribute, is_again_in_choic
 use Rattle.kc_statements.specs.between.StatementViews.{attribute_in}
 use Rattle.kc_statements.specs.declared.statement.Attribute.{Attribute as CodeAttribute}
 use Rattle.kc_statements.specs.declared.statement.Attribute.TheVariants as attributes
-use Rattle.kc_listing.specs.declared.listing.Line.{Line as CodeLine}
-use Rattle.kc_listing.specs.between.ListingView.{line_in}
+use Rattle.kc_parser.specs.declared.listing.Line.{Line as CodeLine}
+use Rattle.kc_parser.specs.between.ListingView.{line_in}
 use Rattle.kc_checks.specs.checker.Kinds.{is_added_code, is_added_line, may_follow_code, definition_kind, typed_kind, choice_kind}
 use Rattle.kc_checks.specs.declared.summary.SymbolSummary.{SymbolSummary}
 use Rattle.kc_checks.proofs.SymbolSummaries.{first_of_both}

@@ -19,13 +19,13 @@ use Rattle.kc_tree_model.specs.Contents.{Contents, contents_of, choice_number, c
 use Rattle.kc_tree_model.specs.Limits.{names_defined}
 use Rattle.kc_tree_model.specs.TreeFaults.{is_again_in_choice, is_no_member_kind, is_same_choice, may_follow_member, attribute_faults, choice_faults, definition_faults, faults_at, faults_of_group, faults_of_head, faults_of_lines, kind_of, tree_faults}
 use Rattle.kc_tree_model.proofs.Consistency.Lists.{Has, Differ-once, at-has, get-map, get_below, has-at, has-filter, map-get, number-get}
-use Rattle.kc_listing.specs.declared.listing.Group.{Group as CodeGroup}
-use Rattle.kc_listing.specs.declared.listing.Line.{Line as CodeLine}
-use Rattle.kc_listing.specs.declared.listing.GroupHead.{GroupHead as CodeHead}
-use Rattle.kc_listing.specs.declared.listing.GroupHead.TheVariants as codes
-use Rattle.kc_listing.specs.between.SymbolTable.{HasNames, text_of_name}
-use Rattle.kc_listing.specs.declared.listing.Listing.{Listing}
-use Rattle.kc_listing.specs.between.ListingView.{RepresentsGroups, RepresentsHead, RepresentsListing, line_in}
+use Rattle.kc_parser.specs.declared.listing.Group.{Group as CodeGroup}
+use Rattle.kc_parser.specs.declared.listing.Line.{Line as CodeLine}
+use Rattle.kc_parser.specs.declared.listing.GroupHead.{GroupHead as CodeHead}
+use Rattle.kc_parser.specs.declared.listing.GroupHead.TheVariants as codes
+use Rattle.kc_parser.specs.between.SymbolTable.{HasNames, text_of_name}
+use Rattle.kc_parser.specs.declared.listing.Listing.{Listing}
+use Rattle.kc_parser.specs.between.ListingView.{RepresentsGroups, RepresentsHead, RepresentsListing, line_in}
 use Rattle.kc_tree.specs.between.GroupedItems.{items_at, IsGrouped}
 use Rattle.kc_tree_model.proofs.Consistency.Units.{first_of_choice}
 use Rattle.kc_checks.specs.checker.Kinds.{choice_around, definition_kind}

@@ -7,9 +7,9 @@ use Rattle.std.proofs.lemmas.List.{get_or-reverse, length-reverse}
 use Rattle.kc_expr.specs.between.Arena.{Exprs}
 use Rattle.kc_tree_model.specs.Blocks.{Group, open_blocks}
 use Rattle.kc_tree_model.specs.Conditions.{GroupInContext, group_in_context, groups_in_context}
-use Rattle.kc_listing.specs.declared.listing.Group.{Group as CodeGroup}
-use Rattle.kc_listing.specs.declared.listing.Line.{Line as CodeLine}
-use Rattle.kc_listing.specs.between.ListingView.{RepresentsGroup, RepresentsGroups}
+use Rattle.kc_parser.specs.declared.listing.Group.{Group as CodeGroup}
+use Rattle.kc_parser.specs.declared.listing.Line.{Line as CodeLine}
+use Rattle.kc_parser.specs.between.ListingView.{RepresentsGroup, RepresentsGroups}
 use Rattle.kc_checks.specs.between.Summaries.{read_before, group_at, attributes_end, no_group}
 
 -- the stored group `i` represents the group that was read with this number, and its lines lie within the list

@@ -8,12 +8,12 @@ use Rattle.kc_tree_model.specs.TreeFiles.{Files}
 use Rattle.kc_tree_model.specs.Statements.{path_of_head}
 use Rattle.kc_tree_model.specs.Blocks.{Group, GroupHead, from_head, sourced_path}
 use Rattle.kc_tree_model.specs.Limits.{without_repeats, names_defined}
-use Rattle.kc_listing.specs.declared.listing.Group.{Group as CodeGroup}
-use Rattle.kc_listing.specs.declared.listing.Line.{Line as CodeLine}
-use Rattle.kc_listing.specs.declared.listing.Listing.{Listing}
-use Rattle.kc_listing.specs.declared.listing.GroupHead.{GroupHead as CodeHead}
-use Rattle.kc_listing.specs.declared.listing.GroupHead.TheVariants as codes
-use Rattle.kc_listing.specs.between.ListingView.{RepresentsListing, RepresentsHead, RepresentsGroups}
+use Rattle.kc_parser.specs.declared.listing.Group.{Group as CodeGroup}
+use Rattle.kc_parser.specs.declared.listing.Line.{Line as CodeLine}
+use Rattle.kc_parser.specs.declared.listing.Listing.{Listing}
+use Rattle.kc_parser.specs.declared.listing.GroupHead.{GroupHead as CodeHead}
+use Rattle.kc_parser.specs.declared.listing.GroupHead.TheVariants as codes
+use Rattle.kc_parser.specs.between.ListingView.{RepresentsListing, RepresentsHead, RepresentsGroups}
 use Rattle.kc_checks.specs.checker.MissingPaths.{is_absent, with_absent, path_in, with_all}
 use Rattle.kc_checks.proofs.MissingPaths.{once_kept}
 

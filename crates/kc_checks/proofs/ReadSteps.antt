@@ -10,9 +10,9 @@ use Rattle.kc_tree_model.specs.TreeReading.{Outcome, reading, lenient_reading, w
 use Rattle.kc_tree_model.specs.TreeFaults.{tree_faults, first_tree_fault, first_fault_after}
 use Rattle.kc_tree_model.specs.TreesOfFiles.{IsReportedFault, AreWanted}
 use Rattle.kc_tree_model.proofs.ReadingLaws.TreesOfRelation.{reported_related, wanted_related}
-use Rattle.kc_listing.specs.declared.listing.Listing.{Listing}
-use Rattle.kc_listing.specs.between.ListingView.{RepresentsListing}
-use Rattle.kc_listing.specs.between.MemoryFaults.{no_memory}
+use Rattle.kc_parser.specs.declared.listing.Listing.{Listing}
+use Rattle.kc_parser.specs.between.ListingView.{RepresentsListing}
+use Rattle.kc_parser.specs.between.MemoryFaults.{no_memory}
 use Rattle.kc_checks.specs.between.Summaries.{IsRepresented}
 use Rattle.kc_checks.specs.between.Surface.{IsOfTree}
 use Rattle.kc_checks.specs.checker.MissingPaths.{is_absent}

@@ -13,11 +13,11 @@ use Rattle.kc_tree_model.proofs.NestedTrees.OpenBlocks.{open_inside, popped, pus
 use Rattle.kc_tree_model.proofs.Consistency.Lists.{Has, filter-has, has-number, has-filter, number_of_more}
 use Rattle.kc_tree_model.proofs.Consistency.Places.{choice_read, group-placed}
 use Rattle.kc_tree_model.proofs.Consistency.Units.{has_mapped, mapped_has}
-use Rattle.kc_listing.specs.declared.listing.GroupHead.{GroupHead as CodeHead}
-use Rattle.kc_listing.specs.declared.listing.GroupHead.TheVariants as codes
-use Rattle.kc_listing.specs.declared.listing.Group.{Group as CodeGroup}
-use Rattle.kc_listing.specs.declared.listing.Line.{Line as CodeLine}
-use Rattle.kc_listing.specs.between.ListingView.{RepresentsHead, RepresentsGroups}
+use Rattle.kc_parser.specs.declared.listing.GroupHead.{GroupHead as CodeHead}
+use Rattle.kc_parser.specs.declared.listing.GroupHead.TheVariants as codes
+use Rattle.kc_parser.specs.declared.listing.Group.{Group as CodeGroup}
+use Rattle.kc_parser.specs.declared.listing.Line.{Line as CodeLine}
+use Rattle.kc_parser.specs.between.ListingView.{RepresentsHead, RepresentsGroups}
 use Rattle.kc_checks.specs.between.Summaries.{read_before, group_at, innermost_choice, choices_opened_after, is_choice_code, open_choices}
 use Rattle.kc_checks.proofs.GroupPlaces.{AreNumbers, all_before, none_before, placed_before, shown_at}
 

@@ -19,11 +19,11 @@ use Rattle.kc_tree_model.specs.Contents.{Contents, begins_symbol, contents_of, c
 use Rattle.kc_tree_model.specs.Limits.{names_defined}
 use Rattle.kc_tree_model.proofs.Consistency.Lists.{Has, Differ-once, has-filter, map-get, text_same}
 use Rattle.kc_tree_model.proofs.Consistency.Places.{group-placed}
-use Rattle.kc_listing.specs.declared.listing.Group.{Group as CodeGroup}
-use Rattle.kc_listing.specs.declared.listing.Line.{Line as CodeLine}
-use Rattle.kc_listing.specs.declared.listing.GroupHead.{GroupHead as CodeHead}
-use Rattle.kc_listing.specs.declared.listing.GroupHead.TheVariants as codes
-use Rattle.kc_listing.specs.between.ListingView.{RepresentsGroups, RepresentsHead}
+use Rattle.kc_parser.specs.declared.listing.Group.{Group as CodeGroup}
+use Rattle.kc_parser.specs.declared.listing.Line.{Line as CodeLine}
+use Rattle.kc_parser.specs.declared.listing.GroupHead.{GroupHead as CodeHead}
+use Rattle.kc_parser.specs.declared.listing.GroupHead.TheVariants as codes
+use Rattle.kc_parser.specs.between.ListingView.{RepresentsGroups, RepresentsHead}
 use Rattle.kc_tree.specs.declared.items_with_keys.ItemsWithKeys.{ItemsWithKeys}
 use Rattle.kc_checks.specs.between.Summaries.{attributes_end, choice_begun, choices_opened_after, enclosing_choice, first_summary, group_at, innermost_choice, is_choice_code, member_in, member_key, member_keys_at, members_at, number_at, open_choices, own_choice, own_unit, read_before, summary_in, symbol_summaries, type_in, AreMembers, IsSummary, IsSummaryOf}
 use Rattle.kc_checks.specs.checker.SummarySteps.{choice_if_first, nothing_known, summary_at, unit_if_first, HasMember, IsSummaryTo}

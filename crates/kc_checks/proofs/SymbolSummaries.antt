@@ -15,7 +15,7 @@ use Rattle.kc_tree_model.specs.Blocks.{Line, of_head, from_head, defined_name}
 use Rattle.kc_tree_model.specs.Conditions.{GroupInContext, attribute_values}
 use Rattle.kc_tree_model.specs.Contents.{Contents, defines}
 use Rattle.kc_tree_model.proofs.Consistency.Lists.{same_text, text_same, Differ, at_most_once}
-use Rattle.kc_listing.specs.declared.listing.Line.{Line as CodeLine}
+use Rattle.kc_parser.specs.declared.listing.Line.{Line as CodeLine}
 use Rattle.kc_checks.specs.between.Summaries.{first_in_definitions, first_is, number_at, choices_at, enclosing_choice, summary_in, first_summary, symbol_summaries, type_in}
 use Rattle.kc_checks.specs.declared.summary.SymbolSummary.{SymbolSummary}
 

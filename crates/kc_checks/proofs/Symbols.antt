@@ -20,11 +20,11 @@ use Rattle.kc_value.specs.Kinds.{is_tri_kind}
 use Rattle.kc_tree_model.proofs.Consistency.Definitions.{defined}
 use Rattle.kc_tree_model.proofs.Consistency.Lists.{Has, Differ, at_most_once, has-at, get_below, has-filter, has-place, map-get, place-get, once-has, filter_map-has}
 use Rattle.kc_tree_model.proofs.Consistency.Places.{group-placed}
-use Rattle.kc_listing.specs.declared.listing.Group.{Group as CodeGroup}
-use Rattle.kc_listing.specs.declared.listing.Line.{Line as CodeLine}
-use Rattle.kc_listing.specs.declared.listing.GroupHead.{GroupHead as CodeHead}
-use Rattle.kc_listing.specs.declared.listing.GroupHead.TheVariants as codes
-use Rattle.kc_listing.specs.between.ListingView.{RepresentsGroups, RepresentsHead, line_in}
+use Rattle.kc_parser.specs.declared.listing.Group.{Group as CodeGroup}
+use Rattle.kc_parser.specs.declared.listing.Line.{Line as CodeLine}
+use Rattle.kc_parser.specs.declared.listing.GroupHead.{GroupHead as CodeHead}
+use Rattle.kc_parser.specs.declared.listing.GroupHead.TheVariants as codes
+use Rattle.kc_parser.specs.between.ListingView.{RepresentsGroups, RepresentsHead, line_in}
 use Rattle.kc_statements.specs.between.StatementViews.{target_of}
 use Rattle.kc_checks.specs.between.Summaries.{summary_in, symbol_summaries, choices_at, group_at, read_before, type_in}
 use Rattle.kc_checks.specs.declared.summary.SymbolSummary.{SymbolSummary}

@@ -6,14 +6,14 @@ ghost use Rattle.kc_tree_model.specs.Contents.{contents_of};
 ghost use Rattle.kc_tree_model.specs.Limits.{names_defined};
 ghost use Rattle.kc_tree_model.specs.TreeFaults.{attribute_faults, choice_faults, faults_of_lines};
 ghost use Rattle.kc_statements.specs.between.StatementViews.{attribute_in, AttributeNodesExist};
-ghost use Rattle.kc_listing.specs.between.ListingView.{RepresentsListing, line_in, LineNodesExist};
+ghost use Rattle.kc_parser.specs.between.ListingView.{RepresentsListing, line_in, LineNodesExist};
 ghost use Rattle.kc_checks.specs.checker.Marks.{AreMarked};
 ghost use Rattle.kc_checks.specs.between.Summaries.{AreSymbolSummaries, IsRepresented};
 
 use super::fault_kinds::{choice_attribute_kind, typed_attribute_fault};
 use super::name_checks::{is_wrong_reverse_dependency, names_member};
 use super::summary::SymbolSummary;
-use kc_listing::{Line, Listing};
+use kc_parser::{Line, Listing};
 use kc_statements::Attribute;
 use kc_tree_model::{TreeFault, TreeKind};
 use kc_value::Kind;

@@ -6,12 +6,12 @@ ghost use Rattle.kc_tree_model.specs.Limits.{names_defined};
 ghost use Rattle.kc_tree_model.specs.TreeFaults.{is_selectable as selectable, is_wrong_reverse_dependency as wrong};
 ghost use Rattle.kc_expr.specs.Lookup.{index_of_name};
 ghost use Rattle.kc_statements.specs.between.StatementViews.{attribute_in, AttributeNodesExist, default_in, DefaultNodesExist};
-ghost use Rattle.kc_listing.specs.between.ListingView.{RepresentsListing};
+ghost use Rattle.kc_parser.specs.between.ListingView.{RepresentsListing};
 ghost use Rattle.kc_checks.specs.between.Summaries.{AreSymbolSummaries, IsRepresented};
 ghost use Rattle.kc_checks.specs.checker.Marks.{AreMarked};
 
 use super::summary::SymbolSummary;
-use kc_listing::Listing;
+use kc_parser::Listing;
 use kc_statements::{Attribute, DefaultAttribute};
 use kc_tree::is_tri_kind;
 use kc_value::Kind;

@@ -11,8 +11,8 @@ use Rattle.kc_statements.specs.declared.statement.Attribute.{Attribute as CodeAt
 use Rattle.kc_statements.specs.declared.statement.Attribute.TheVariants as attributes
 use Rattle.kc_statements.proofs.ArenaGrowth.{grows_on}
 use Rattle.kc_statements.proofs.GrownArenas.{node_held, node_same}
-use Rattle.kc_listing.specs.declared.listing.Line.{Line as CodeLine}
-use Rattle.kc_listing.specs.between.ListingView.{LineNodesExist}
+use Rattle.kc_parser.specs.declared.listing.Line.{Line as CodeLine}
+use Rattle.kc_parser.specs.between.ListingView.{LineNodesExist}
 use Rattle.kc_tree_model.specs.Conditions.{conjunction_of, visible_conjunct}
 use Rattle.kc_conditions.specs.checker.Conjunctions.{Conjoins, conjunct}
 use Rattle.kc_conditions.specs.checker.Conjuncts.{conjunct_views, AreJoined, AreAppended, condition_view, line_condition}

@@ -10,13 +10,13 @@ use Rattle.kc_expr.specs.Expr.{Expr}
 use Rattle.kc_statements.specs.between.StatementViews.{attribute_in, AttributeNodesExist, is_prompt, conjunct_given}
 use Rattle.kc_statements.specs.declared.statement.Attribute.{Attribute as CodeAttribute}
 use Rattle.kc_statements.specs.declared.statement.Attribute.TheVariants as attributes
-use Rattle.kc_listing.specs.declared.listing.Line.{Line as CodeLine}
-use Rattle.kc_listing.specs.declared.listing.GroupHead.{GroupHead as CodeHead}
-use Rattle.kc_listing.specs.declared.listing.GroupHead.TheVariants as codes
-use Rattle.kc_listing.specs.between.ListingView.{LineNodesExist, RepresentsHead, line_in}
-use Rattle.kc_listing.proofs.ListingGrowth.{lines_held}
+use Rattle.kc_parser.specs.declared.listing.Line.{Line as CodeLine}
+use Rattle.kc_parser.specs.declared.listing.GroupHead.{GroupHead as CodeHead}
+use Rattle.kc_parser.specs.declared.listing.GroupHead.TheVariants as codes
+use Rattle.kc_parser.specs.between.ListingView.{LineNodesExist, RepresentsHead, line_in}
+use Rattle.kc_parser.proofs.ListingGrowth.{lines_held}
 use Rattle.kc_statements.proofs.GrownArenas.{attribute_same, node_held, node_same}
-use Rattle.kc_listing.proofs.AppendSteps.{grows_same}
+use Rattle.kc_parser.proofs.AppendSteps.{grows_same}
 use Rattle.kc_tree_model.specs.Trees as tree
 use Rattle.kc_tree_model.specs.Statements.{Attribute, choice, condition, menu, source, depends_of, visible_of, prompt_of}
 use Rattle.kc_tree_model.specs.Blocks.{Group, Line, Side, GroupHead, of_head, opening, closing, inside, side_of, open_blocks}

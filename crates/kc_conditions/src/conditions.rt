@@ -4,14 +4,14 @@ ghost use Rattle.kc_expr.specs.between.Arena.{Grows, Represents};
 ghost use Rattle.kc_expr.specs.Expr.{Expr};
 ghost use Rattle.kc_tokens.specs.declared.fault.ExprKind.TheVariants.{OutOfMemory};
 ghost use Rattle.kc_statements.specs.between.StatementViews.{AttributeNodesExist};
-ghost use Rattle.kc_listing.specs.between.ListingView.{LineNodesExist};
+ghost use Rattle.kc_parser.specs.between.ListingView.{LineNodesExist};
 ghost use Rattle.kc_tree_model.specs.Conditions.{conjunction_of};
 ghost use Rattle.kc_conditions.specs.checker.Conjunctions.{Conjoins, conjunct};
 ghost use Rattle.kc_conditions.specs.checker.Conjuncts.{conjunct_views, condition_view, AreJoined, AreAppended};
 ghost use Rattle.kc_statements.specs.declared.statement.Conjuncts.TheVariants.{Dependencies, Visibles};
 
 use kc_expr::{Arena, ExprId};
-use kc_listing::Line;
+use kc_parser::Line;
 use kc_statements::{Attribute, Conjuncts};
 use kc_tokens::ExprFault;
 

@@ -1,8 +1,8 @@
 -- The state of a configuration after a change.
 use Rattle.std.proofs.Common.{◌≡◌, inl, inr, ℕ, ◌<◌, IsTrue, List, [], ◌++◌, length, Option, Some, None, refl, sym, ◌∙◌, ap, subst, arith}
 use Rattle.std.specs.Prelude.{Contains, filter, is_none, replicate}
-use Rattle.kc_system.specs.Changes.{changed_users}
-use Rattle.kc_system.specs.Solutions.{user_of, UniquelySolves, FitsUsers, FitsValues}
+use Rattle.kc_solver.specs.Changes.{changed_users}
+use Rattle.kc_solver.specs.Solutions.{user_of, UniquelySolves, FitsUsers, FitsValues}
 use Rattle.kc_rules_model.specs.declared.values.UserValue.{UserValue}
 use Rattle.kc_rules_model.specs.Rule.{rule}
 use Rattle.kc_rules_model.specs.Shapes.{user_fits, value_fits}

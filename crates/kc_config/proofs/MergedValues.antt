@@ -7,8 +7,8 @@ use Rattle.std.specs.Ordering.{nat_cmp}
 use Rattle.std.specs.List.Sorted.{IsStrictlyIncreasing}
 use Rattle.std.proofs.lemmas.Bool.{cases_eq}
 use Rattle.kc_tree_model.specs.Trees.{Tree}
-use Rattle.kc_system.specs.Changes.{changed_users}
-use Rattle.kc_system.specs.Solutions.{user_of, FitsUsers}
+use Rattle.kc_solver.specs.Changes.{changed_users}
+use Rattle.kc_solver.specs.Solutions.{user_of, FitsUsers}
 use Rattle.kc_rules_model.specs.declared.values.UserValue.{UserValue}
 use Rattle.kc_rules_model.specs.Shapes.{user_fits}
 use Rattle.kc_dotconfig_model.specs.ConfigFiles.{over, overlay, empty_assignment}

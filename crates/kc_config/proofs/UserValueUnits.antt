@@ -4,10 +4,10 @@ use Rattle.std.specs.Prelude.{slice_get, slice_set, slice_index_or, replicate, C
 use Rattle.std.proofs.lemmas.Bool.{cases_eq}
 use Rattle.std.proofs.lemmas.List.{get_or-set_other, length-set}
 use Rattle.kc_tree_model.specs.Trees.{Tree}
-use Rattle.kc_system.specs.Changes.{changed_users, FitsChanges}
-use Rattle.kc_system.specs.Solutions.{user_of, FitsUsers}
-use Rattle.kc_system.proofs.Lists.{none_fits}
-use Rattle.kc_system.proofs.UserChanges.{changed_fits}
+use Rattle.kc_solver.specs.Changes.{changed_users, FitsChanges}
+use Rattle.kc_solver.specs.Solutions.{user_of, FitsUsers}
+use Rattle.kc_solver.proofs.Lists.{none_fits}
+use Rattle.kc_solver.proofs.UserChanges.{changed_fits}
 use Rattle.kc_rules_model.specs.declared.values.UserValue.{UserValue}
 use Rattle.kc_rules_model.specs.Shapes.{user_fits}
 use Rattle.kc_dotconfig_model.specs.ConfigFiles.{empty_assignment, overlay}

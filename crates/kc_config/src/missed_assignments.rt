@@ -1,7 +1,7 @@
 //! Symbols whose user value isn't their value.
 ghost use Rattle.std.specs.Prelude.{◌≡◌, ◌<◌, Some, true, length, map, slice_get, IfOk, if◌then◌else◌};
 ghost use Rattle.std.specs.Option.{option_copied};
-ghost use Rattle.kc_system.specs.Solutions.{user_of};
+ghost use Rattle.kc_solver.specs.Solutions.{user_of};
 ghost use Rattle.kc_rules_model.specs.MemberLines.{last_y};
 ghost use Rattle.kc_rules_model.specs.Equality.{value_is};
 ghost use Rattle.kc_rules_model.specs.declared.values.UnitValue.TheVariants.{Member as MemberValue};

@@ -2,7 +2,7 @@
 use super::test_trees::{are_same, merged_twice, settled};
 use kc_config::Config;
 use kc_rules::{Profile, Settled, Steps};
-use kc_system::solve;
+use kc_solver::solve;
 use kmin_fakes::{and_drop, twice};
 use std::alloc::{AllocError, Global};
 use std::test::Fail;

@@ -8,7 +8,7 @@ use kc_builder::read_tree;
 use kc_config::Config;
 use kc_dotconfig::{Format, Fragment, read_config};
 use kc_rules::{Profile, Settled, UnitValue, UserValue, settle};
-use kc_system::{Report, System};
+use kc_solver::{ChangedUnits, System};
 use kc_tree::{Texts, Tree};
 use kc_value::FromRead;
 use kmin_fakes::{and_drop, twice, twice_on};
@@ -59,7 +59,7 @@ pub(crate) fn merged(
     alloc: Global,
     config: &mut Config<'_>,
     file: &str,
-) -> Result<Report, AllocError> {
+) -> Result<ChangedUnits, AllocError> {
     let fragment = fragment_of(alloc, config.settled(), file)?;
     config.merge(&fragment)
 }
@@ -70,7 +70,7 @@ pub(crate) fn merged_twice(
     alloc: Global,
     config: &mut Config<'_>,
     file: &str,
-) -> Result<Report, AllocError> {
+) -> Result<ChangedUnits, AllocError> {
     and_drop!(
         fragment = fragment_twice(alloc, config.settled(), file)?;
         laid_over_itself(config, &fragment)
@@ -89,7 +89,7 @@ pub(crate) fn fragment_twice(
 }
 
 /// Lays a fragment over a configuration. Where memory runs out at the first try, the configuration has to stay as it was.
-fn laid_over_itself(config: &mut Config<'_>, fragment: &Fragment) -> Result<Report, AllocError>
+fn laid_over_itself(config: &mut Config<'_>, fragment: &Fragment) -> Result<ChangedUnits, AllocError>
     requires { FitsTree (tree_in config.old) fragment.now.assigns.items }
 {
     and_drop!(before = twice!(config.copy()); laid_over(config, &before, fragment))
@@ -100,7 +100,7 @@ fn laid_over(
     config: &mut Config<'_>,
     before: &Config<'_>,
     fragment: &Fragment,
-) -> Result<Report, AllocError>
+) -> Result<ChangedUnits, AllocError>
     requires { FitsTree (tree_in config.old) fragment.now.assigns.items }
 {
     Ok(twice_on!(are_equal(config, before), config.merge(fragment)))
@@ -139,7 +139,7 @@ pub(crate) fn replaced(
     alloc: Global,
     config: &mut Config<'_>,
     file: &str,
-) -> Result<Report, AllocError> {
+) -> Result<ChangedUnits, AllocError> {
     let fragment = fragment_of(alloc, config.settled(), file)?;
     config.replace(&fragment)
 }

@@ -2,11 +2,11 @@
 ghost use Rattle.std.specs.Prelude.{◌<◌, IfSome, IsTrue, length};
 ghost use Rattle.kc_rules.specs.between.SettledViews.{tree_of_settled};
 ghost use Rattle.kc_rules_model.specs.Shapes.{user_fits};
-ghost use Rattle.kc_system.specs.Changes.{FitsChanges};
+ghost use Rattle.kc_solver.specs.Changes.{FitsChanges};
 
 use super::test_trees::settled;
 use kc_rules::{Profile, Settled, Steps, UserValue};
-use kc_system::{Report, Session};
+use kc_solver::{ChangedUnits, Session};
 use kc_value::Tri;
 use kmin_fakes::twice;
 use std::alloc::{AllocError, Global};
@@ -62,7 +62,7 @@ fn report_of(
     alloc: Global,
     tree: &Settled,
     changes: &[(u32, Option<UserValue>); 2],
-) -> Result<Option<Report>, AllocError> {
+) -> Result<Option<ChangedUnits>, AllocError> {
     if !fit_tree(tree, changes) {
         return Ok(None);
     }

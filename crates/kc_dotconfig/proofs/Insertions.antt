@@ -10,8 +10,8 @@ use Rattle.std.specs.declared.cmp.Ordering.TheVariants.{Less, Equal, Greater}
 use Rattle.std.specs.BTreeMap.{insert_entry}
 use Rattle.std.proofs.lemmas.Bool.{cases_eq, ne_eqb}
 use Rattle.std.proofs.lemmas.List.{set_comm, get_or-set_same, get_or-set_other, length-set}
-use Rattle.kc_system.specs.Solutions.{user_of}
-use Rattle.kc_system.specs.Changes.{changed_users}
+use Rattle.kc_solver.specs.Solutions.{user_of}
+use Rattle.kc_solver.specs.Changes.{changed_users}
 use Rattle.kc_rules_model.specs.declared.values.MemberLine.{MemberLine}
 use Rattle.kc_rules_model.specs.declared.values.UserValue.{UserValue}
 use Rattle.kc_rules_model.specs.declared.values.UserValue.TheVariants.{Tri as TriUser, Text as TextUser, Member as MemberUser, Lines as LinesUser}

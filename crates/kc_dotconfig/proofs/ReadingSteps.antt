@@ -17,7 +17,7 @@ use Rattle.kc_tree_model.specs.LogicalLines.{without_white_end}
 use Rattle.kc_dotconfig_model.specs.ConfigFiles.{FileMeans}
 use Rattle.kc_value.specs.declared.limits.TheConstants.{MAX_CONFIG_BYTES, MAX_CONFIG_LINES, MAX_LINE_BYTES}
 use Rattle.kc_dotconfig_model.specs.LoadFaults.{complete, IsFirstFault}
-use Rattle.kc_dotconfig_model.specs.between.PartialFiles.{IsSound, IsCut}
+use Rattle.kc_dotconfig_model.specs.between.PartialFiles.{IsSound, IsCutFile}
 use Rattle.kc_dotconfig.specs.checker.Accumulation.{IsGathered, Holds, GoesOn, StopsIn, AcceptsBytes, Refuses, EndsWell, EndsBadly}
 use Rattle.kc_dotconfig_model.proofs.FaultsAtCuts.{too_many, too_long, too_large, not_utf8, malformed, held, line_ended, accepted, file_means}
 
@@ -123,7 +123,7 @@ line_taken format tree old g piece line g_new is short one few (text, meaning) k
     let e = length-append known piece in
     let done = line_ended format tree (known ++ piece) (old ++ piece) meanings kept meaning.0 sound (omega arith) (omega arith) in (
       meanings ++ meaning.0 ∷ [],
-      subst (λ b. IsCut format tree b [] (meanings ++ meaning.0 ∷ [])) (append_assoc known piece (10 ∷ [])) done,
+      subst (λ b. IsCutFile format tree b [] (meanings ++ meaning.0 ∷ [])) (append_assoc known piece (10 ∷ [])) done,
       meaning.2 meanings
           gathered,
     )
@@ -150,7 +150,7 @@ line_refused format tree old g piece line kind lines is short one few same odd b
   under known room = let n = length-append piece (10 ∷ []) in let e = length-append known piece in omega arith
 
   kept : (known : List ℕ) → (h : Holds format tree known old g) → length known + length (piece ++ 10 ∷ []) ≤ MAX_CONFIG_BYTES
-      → IsCut format tree (known ++ piece) (old ++ piece) h.0
+      → IsCutFile format tree (known ++ piece) (old ++ piece) h.0
   kept known h room =
       let n = length-append piece (10 ∷ []) in
       let counted = h.2.counted in

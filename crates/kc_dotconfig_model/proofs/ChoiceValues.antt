@@ -14,7 +14,7 @@ use Rattle.kc_tokens.specs.Languages.{is_linux_6_12}
 use Rattle.kc_tree_model.specs.Trees.{Tree, Choice}
 use Rattle.kc_tree_model.specs.TreeLookup.{IsConsistent}
 use Rattle.kc_tree_model.specs.declared.ids.Unit.TheVariants.{Choice as of_choice}
-use Rattle.kc_system.specs.Solutions.{user_of}
+use Rattle.kc_solver.specs.Solutions.{user_of}
 use Rattle.kc_rules_model.specs.declared.profile.Profile.{Profile}
 use Rattle.kc_rules_model.specs.declared.values.MemberLine.{MemberLine}
 use Rattle.kc_rules_model.specs.declared.values.UnitValue.{UnitValue}

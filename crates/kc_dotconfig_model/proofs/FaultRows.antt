@@ -11,7 +11,7 @@ use Rattle.kc_dotconfig_model.specs.Formats.{FileFormat}
 use Rattle.kc_dotconfig_model.specs.ConfigLines.{LineMeaning, assigns}
 use Rattle.kc_dotconfig_model.specs.LoadFaults.{complete, cut_short, IsFirstFault}
 use Rattle.kc_dotconfig_model.specs.between.LineMeanings.{line_meaning}
-use Rattle.kc_dotconfig_model.specs.between.PartialFiles.{IsSound, IsCut}
+use Rattle.kc_dotconfig_model.specs.between.PartialFiles.{IsSound, IsCutFile}
 use Rattle.kc_dotconfig_model.proofs.LineLaws.{line_read}
 use Rattle.kc_dotconfig_model.proofs.TrimmedLines.{low_utf8}
 use Rattle.kc_dotconfig_model.proofs.FirstFaults.{failed_reads}
@@ -38,7 +38,7 @@ first_sound = record {
   has_meaning = (line_read plain tree_a (codes "CONFIG_A=y") (assigns 0 (TriUser Y)) refl).0 first_read;
 }
 
-known_front : IsCut plain tree_a front [] first
+known_front : IsCutFile plain tree_a front [] first
 known_front = record {
   front = front;
   whole = refl;
@@ -52,7 +52,7 @@ known_front = record {
 }
 
 -- after it a line that isn't whole
-known_more : (line : List ℕ) → length line ≤ 8 → has_no_byte 10 line ≡ true → IsCut plain tree_a (front ++ line) ([] ++ line) first
+known_more : (line : List ℕ) → length line ≤ 8 → has_no_byte 10 line ≡ true → IsCutFile plain tree_a (front ++ line) ([] ++ line) first
 known_more line few one = held plain tree_a front [] first known_front line one (omega arith) (omega arith) (omega arith)
 
 none_read : line_meaning plain tree_a (codes "CON") ≡ None

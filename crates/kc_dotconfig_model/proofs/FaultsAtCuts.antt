@@ -17,14 +17,14 @@ use Rattle.kc_tree_model.specs.LogicalLines.{without_white_end}
 use Rattle.kc_dotconfig_model.specs.ConfigFiles.{file_lines, FileMeans}
 use Rattle.kc_value.specs.declared.limits.TheConstants.{MAX_CONFIG_BYTES, MAX_CONFIG_LINES, MAX_LINE_BYTES}
 use Rattle.kc_dotconfig_model.specs.LoadFaults.{complete, IsLineAt, OccursAt, rank_of, IsFirstFault, IsAccepted}
-use Rattle.kc_dotconfig_model.specs.between.PartialFiles.{IsSound, IsCut}
+use Rattle.kc_dotconfig_model.specs.between.PartialFiles.{IsSound, IsCutFile}
 use Rattle.kc_dotconfig_model.proofs.Cuts.{split, LinePlace, earlier, this, later, line_place, Ends, no_shorter, no_longer, same_front, a_line, newlines_append, none_in_line, first_of_lines, last_of_lines, lines_after_ended, one_of, zip_length, zip_append, ended_count}
 
 abbrev Part : FileFormat → Tree → List ℕ → List ℕ → List LineMeaning → List ℕ → List ℕ → Type 0
-Part format tree known line meanings more bytes = IsCut format tree known line meanings × (bytes ≡ known ++ more)
+Part format tree known line meanings more bytes = IsCutFile format tree known line meanings × (bytes ≡ known ++ more)
 
 -- A known part of a file, and the bytes after it.
-module _ (format : FileFormat) (tree : Tree) (known line : List ℕ) (meanings : List LineMeaning) (c : IsCut format tree known line meanings) where
+module _ (format : FileFormat) (tree : Tree) (known line : List ℕ) (meanings : List LineMeaning) (c : IsCutFile format tree known line meanings) where
   whole_is : (more : List ℕ) → known ++ more ≡ c.front ++ (line ++ more)
   whole_is more = ap (λ t. t ++ more) c.whole ∙ append_assoc c.front line more
 
@@ -394,7 +394,7 @@ module _ (format : FileFormat) (tree : Tree) (known line : List ℕ) (meanings :
 
   -- with more bytes of its last line, without a newline and within the limits, the known part of a file stays without a fault
   pub held : (piece : List ℕ) → has_no_byte 10 piece ≡ true → length line + length piece ≤ MAX_LINE_BYTES → length meanings < MAX_CONFIG_LINES
-      → length known + length piece ≤ MAX_CONFIG_BYTES → IsCut format tree (known ++ piece) (line ++ piece) meanings
+      → length known + length piece ≤ MAX_CONFIG_BYTES → IsCutFile format tree (known ++ piece) (line ++ piece) meanings
   held piece one short room small = record {
     front = c.front;
     whole = ap (λ t. t ++ piece) c.whole ∙ append_assoc c.front line piece;
@@ -409,7 +409,7 @@ module _ (format : FileFormat) (tree : Tree) (known line : List ℕ) (meanings :
 
   -- with the newline after its last line, which is sound, the known part of a file stays without a fault, within the limits
   pub line_ended : (x : LineMeaning) → IsSound format tree line x → length meanings < MAX_CONFIG_LINES → length known < MAX_CONFIG_BYTES
-      → IsCut format tree (known ++ 10 ∷ []) [] (meanings ++ x ∷ [])
+      → IsCutFile format tree (known ++ 10 ∷ []) [] (meanings ++ x ∷ [])
   line_ended x sound room small =
       let lines : file_lines (known ++ 10 ∷ []) ≡ file_lines c.front ++ line ∷ [] = ap file_lines (whole_is (10 ∷ []))
       ∙ lines_after_ended c.front (line ++ 10 ∷ []) c.ended ∙ ap (λ ls. file_lines c.front ++ ls) (first_of_lines line [] c.one_line) in
@@ -426,7 +426,7 @@ module _ (format : FileFormat) (tree : Tree) (known line : List ℕ) (meanings :
         short = omega arith;
       }
 
-pub empty_cut : (format : FileFormat) (tree : Tree) → IsCut format tree [] [] []
+pub empty_cut : (format : FileFormat) (tree : Tree) → IsCutFile format tree [] [] []
 empty_cut format tree =
     record {
       front = [];

@@ -4,7 +4,7 @@ use Rattle.std.specs.Prelude.{slice_set, replicate}
 use Rattle.std.proofs.lemmas.List.{length-set}
 use Rattle.std.proofs.lemmas.List.Elements.{filter-append}
 use Rattle.std.proofs.lemmas.Bool.{eqb-true}
-use Rattle.kc_system.specs.Solutions.{user_of}
+use Rattle.kc_solver.specs.Solutions.{user_of}
 use Rattle.kc_rules_model.specs.declared.values.MemberLine.{MemberLine}
 use Rattle.kc_rules_model.specs.MemberLines.{is_listed, laid_over}
 use Rattle.kc_rules_model.specs.declared.values.UserValue.TheVariants.{Tri as TriUser, Text as TextUser, Member as MemberUser, Lines as LinesUser}

@@ -10,7 +10,7 @@ mod laws;
 mod line_places;
 mod line_steps;
 mod open_files;
-mod reading_state;
+mod tree_expander;
 mod same_lines;
 mod source_faults;
 mod source_lines;
@@ -19,7 +19,7 @@ mod source_reads;
 mod tree_reading;
 mod written_file;
 
-pub use expansion::{Expansion, expand, unused, wants};
+pub use expansion::{ExpansionOutcome, expand, unused, wants};
 pub use kc_files::{ExpandedText, ExpandedTree};
 pub use kc_value::{MAX_FILES, MAX_LINE_BYTES, MAX_LISTED_NAMES, MAX_OPEN_FILES, MAX_TREE_BYTES};
 pub use laws::{accepted_lines_stay, accepted_trees_stay, expanded_trees_stay};

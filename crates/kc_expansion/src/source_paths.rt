@@ -14,9 +14,9 @@ ghost use Rattle.kc_expansion.specs.checker.ReadingViews.{state_of, file_run_of,
 ghost use Rattle.kc_files.specs.TreeContents.{StaysKnown};
 
 use super::faults::fault;
-use super::reading_state::Reading;
+use super::tree_expander::TreeExpander;
 use kc_files::{
-    FoundPaths, PatternStop, Store, TreeFiles, files_of_pattern, is_pattern, paths_with_files,
+    FoundPaths, PatternStop, FileCache, TreeFiles, files_of_pattern, is_pattern, paths_with_files,
 };
 use kc_macro_forms::SourceSort;
 use kc_macros::{MacroKind, Place, Stop};
@@ -32,7 +32,7 @@ fn lacks_files(paths: &[Vec<u8>], optional: bool) -> bool
 /// The files that a pattern matches, also those that can't be read; a pattern without files is a fault, unless they may be
 /// missing, and so is a folder that is there and can't be listed.
 fn pattern_paths<F: TreeFiles>(
-    reading: &mut Reading<'_>,
+    reading: &mut TreeExpander<'_>,
     files: &mut F,
     at: Place<'_>,
     sort: SourceSort,
@@ -63,7 +63,7 @@ fn pattern_paths<F: TreeFiles>(
 /// A list of one path, or of none where no file is at it.
 fn path_if_there<F: TreeFiles>(
     alloc: Global,
-    store: &mut Store,
+    store: &mut FileCache,
     files: &mut F,
     path: &[u8],
 ) -> Result<Vec<Vec<u8>>, AllocError>
@@ -80,7 +80,7 @@ fn path_if_there<F: TreeFiles>(
 /// The files that a `source` line reads as a list: those of a pattern, or one that may be missing; `None` where it reads the
 /// one file of its path.
 pub(crate) fn paths_to_read<F: TreeFiles>(
-    reading: &mut Reading<'_>,
+    reading: &mut TreeExpander<'_>,
     files: &mut F,
     at: Place<'_>,
     sort: SourceSort,

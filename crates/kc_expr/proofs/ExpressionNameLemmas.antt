@@ -11,7 +11,7 @@ use Rattle.std.proofs.lemmas.List.Elements.{Contains-append_left, Contains-appen
 use Rattle.kc_expr.specs.declared.node.Leaf.{Leaf}
 use Rattle.kc_expr.specs.declared.node.Node.{Node}
 use Rattle.kc_expr.specs.declared.node.Node.TheVariants.{Alone, Related, Negated, Both, Either, Shown}
-use Rattle.kc_expr.specs.declared.store.Store.{Store}
+use Rattle.kc_expr.specs.declared.node_store.NodeStore.{NodeStore}
 use Rattle.kc_expr.specs.between.Arena.{Exprs, node_expr}
 use Rattle.kc_expr.specs.Expr.{Expr, alone, related, negated, both, either, shown}
 use Rattle.kc_expr.specs.ExpressionNames.{names_in}
@@ -32,7 +32,7 @@ not_alone names texts es (Either i j) h = refl
 not_alone names texts es (Shown i) h = refl
 
 -- the operand of an arena's expression, by its node
-module _ (a : Exprs) (s : Store) (i index : ℕ) (found : Node) (view : exprs_in s ≡ a) (same : index ≡ i) (sound : IsSound s) (within : i < length a.nodes)
+module _ (a : Exprs) (s : NodeStore) (i index : ℕ) (found : Node) (view : exprs_in s ≡ a) (same : index ≡ i) (sound : IsSound s) (within : i < length a.nodes)
     (here : found ≡ get_or s.nodes.items index some_node) where
   operand_alone_is : (n : Node) → found ≡ n → operand_alone (node_expr a i) ≡ operand_alone (expr_of (stored_names s) s.texts.items (exprs_in s).nodes n)
   operand_alone_is n e =
@@ -109,7 +109,7 @@ none_held : (P : ℕ → Type 0) (xs : List ℕ) → xs ≡ [] → All P xs
 none_held P xs e = rw e (search rules)
 
 -- what was met is kept through sorting and taking out repeats, and it is what callers see
-module _ (a : Exprs) (s : Store) (view : exprs_in s ≡ a) (id index : ℕ) (same : index ≡ id) (sound : IsSound s) (none found sorted last : List ℕ)
+module _ (a : Exprs) (s : NodeStore) (view : exprs_in s ≡ a) (id index : ℕ) (same : index ≡ id) (sound : IsSound s) (none found sorted last : List ℕ)
     (empty : none ≡ [])
     (names_are : map (λ i. slice_index_or (stored_names s) i []) found ≡ map (λ i. slice_index_or (stored_names s) i []) none ++ names_in_reverse
     (node_expr (exprs_in s) index))

@@ -3,7 +3,7 @@ use Rattle.std.proofs.Common.{◌≡◌, ℕ, Bool, true, false, List, [], ◌�
 use Rattle.kc_value.specs.declared.tri.Tri.TheVariants.{N, M, Y}
 use Rattle.kc_expr.specs.declared.node.Leaf.{Leaf}
 use Rattle.kc_expr.specs.declared.node.Leaf.TheVariants.{Constant, Name, Quoted as Text}
-use Rattle.kc_expr.specs.declared.store.Store.{Store}
+use Rattle.kc_expr.specs.declared.node_store.NodeStore.{NodeStore}
 use Rattle.kc_tokens.specs.declared.token.Relop.{Relop}
 use Rattle.kc_expr.specs.between.Arena.{Represents, node_expr}
 use Rattle.kc_expr.specs.Expr.{Expr, Operand, alone, related, negated}
@@ -37,11 +37,11 @@ alone_names false (Name i) names texts = refl
 alone_names false (Text i) names texts = refl
 
 -- no name is added for a constant that isn't `m`, nor outside a condition
-module _ (old new : Store) (id : ℕ) where
+module _ (old new : NodeStore) (id : ℕ) where
   of_expr : (e : Expr) → Represents (exprs_in new) id e → stored_names new ≡ with_names (names_in e) (stored_names old) → HasNamesOf old new id
   of_expr e s h = h ∙ ap (λ x. with_names (names_in x) (stored_names old)) (sym s.is)
 
-  pub read_alone : (s : Store) (condition : Bool) (leaf : Leaf) → stored_names s ≡ with_names (operand_names (operand_of (stored_names s) s.texts.items leaf))
+  pub read_alone : (s : NodeStore) (condition : Bool) (leaf : Leaf) → stored_names s ≡ with_names (operand_names (operand_of (stored_names s) s.texts.items leaf))
       (stored_names old) → stored_names new ≡ with_names (names_of_m condition leaf) (stored_names s)
       → Represents (exprs_in new) id (as_condition condition (alone (operand_of (stored_names s) s.texts.items leaf))) → HasNamesOf old new id
   read_alone s condition leaf e f h =
@@ -49,7 +49,7 @@ module _ (old new : Store) (id : ℕ) where
       (both_added (operand_names (operand_of (stored_names s) s.texts.items leaf)) (names_of_m condition leaf) (stored_names old) (stored_names s)
       (stored_names new) e f ∙ ap (λ ws. with_names ws (stored_names old)) (alone_names condition leaf (stored_names s) s.texts.items))
 
-  pub read_related : (one two : Store) (op : Relop) (a0 a b : Operand) → stored_names one ≡ with_names (operand_names a0) (stored_names old)
+  pub read_related : (one two : NodeStore) (op : Relop) (a0 a b : Operand) → stored_names one ≡ with_names (operand_names a0) (stored_names old)
       → stored_names two ≡ with_names (operand_names b) (stored_names one) → stored_names new ≡ stored_names two → a ≡ a0
       → Represents (exprs_in new) id (related op a b) → HasNamesOf old new id
   read_related one two op a0 a b e f g same h =
@@ -57,12 +57,12 @@ module _ (old new : Store) (id : ℕ) where
       (g ∙ both_added (operand_names a) (operand_names b) (stored_names old) (stored_names one) (stored_names two)
       (e ∙ ap (λ o. with_names (operand_names o) (stored_names old)) (sym same)) f)
 
-  pub read_negated : (s : Store) (part : ℕ) → HasNamesOf old s part → stored_names new ≡ stored_names s
+  pub read_negated : (s : NodeStore) (part : ℕ) → HasNamesOf old s part → stored_names new ≡ stored_names s
       → Represents (exprs_in new) id (negated (node_expr (exprs_in s) part)) → HasNamesOf old new id
   read_negated s part e f h = of_expr (negated (node_expr (exprs_in s) part)) h (f ∙ e)
 
   pub read_joined : (joined : Expr → Expr → Expr) → ((a b : Expr) → names_in (joined a b) ≡ names_in a ++ names_in b)
-      → (s0 s1 : Store) (left right : ℕ) (e : Expr) → HasNamesOf old s0 left → IsSound s0 → Extends s0 s1 → Represents (exprs_in s0) left e
+      → (s0 s1 : NodeStore) (left right : ℕ) (e : Expr) → HasNamesOf old s0 left → IsSound s0 → Extends s0 s1 → Represents (exprs_in s0) left e
       → HasNamesOf s0 s1 right
       → stored_names new ≡ stored_names s1 → Represents (exprs_in new) id (joined (node_expr (exprs_in s1) left) (node_expr (exprs_in s1) right))
       → HasNamesOf old new id

@@ -5,7 +5,7 @@ use Rattle.std.proofs.lemmas.List.{take-map, drop-take}
 use Rattle.kc_tokens.specs.declared.fault.ExprFault.{ExprFault}
 use Rattle.kc_tokens.specs.declared.fault.ExprKind.{ExprKind}
 use Rattle.kc_tokens.specs.MemoryFaults.{IsOutOfMemory}
-use Rattle.kc_expr.specs.declared.store.Store.{Store}
+use Rattle.kc_expr.specs.declared.node_store.NodeStore.{NodeStore}
 use Rattle.kc_tokens.specs.declared.token.Token.{Token as CodeToken}
 use Rattle.kc_expr.specs.Expr.{Expr}
 use Rattle.kc_expr.specs.Grammar.{extent, is_operand_kind, is_close, read_expr, IsExpr, ors, fault_of}
@@ -52,7 +52,7 @@ middle_pieces ts at end e =
 
 -- from the results over a line's front to those over the line
 module _ (ts line : List CodeToken) (at end : ℕ) (is_line : line ≡ take end ts) (is_end : end ≡ expr_end (lexemes_of ts) at) where
-  pub line_read : (s : Store) (condition : Bool) (id : ℕ) → IsParsedToEnd s condition (read_all_tokens 64 (drop at (lexemes_of line))) id
+  pub line_read : (s : NodeStore) (condition : Bool) (id : ℕ) → IsParsedToEnd s condition (read_all_tokens 64 (drop at (lexemes_of line))) id
       → ReadsExpr (exprs_in s) id condition (expr_tokens (lexemes_of ts) at)
   line_read s condition id p =
       let middle = ap (λ l. drop at (lexemes_of l)) is_line ∙ middle_pieces ts at end is_end in

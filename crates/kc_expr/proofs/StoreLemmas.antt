@@ -8,7 +8,7 @@ use Rattle.kc_expr.specs.declared.node.Leaf.{Leaf}
 use Rattle.kc_expr.specs.declared.node.Leaf.TheVariants.{Constant, Name, Quoted}
 use Rattle.kc_expr.specs.declared.node.Node.{Node}
 use Rattle.kc_expr.specs.declared.node.Node.TheVariants.{Alone, Related, Negated, Both, Either, Shown}
-use Rattle.kc_expr.specs.declared.store.Store.{Store}
+use Rattle.kc_expr.specs.declared.node_store.NodeStore.{NodeStore}
 use Rattle.kc_expr.specs.between.Arena.{Exprs, node_expr, Represents, Grows}
 use Rattle.kc_expr.specs.Expr.{Expr, alone, related, constant, named, quoted}
 use Rattle.kc_expr.specs.Lookup.{AreDistinct}
@@ -17,12 +17,12 @@ use Rattle.kc_expr.specs.checker.Store.{stored_names, exprs_in, IsSound, Extends
 use Rattle.kc_expr.proofs.NodeLemmas.{at_node, nodes_push, represents_last, length-exprs}
 
 -- the expression that a sound store represents at a number is that of the node with this number
-pub node_of : (s : Store) (i : ℕ) (found n : Node) → IsSound s → i < length s.nodes.items → found ≡ get_or s.nodes.items i some_node → found ≡ n
+pub node_of : (s : NodeStore) (i : ℕ) (found n : Node) → IsSound s → i < length s.nodes.items → found ≡ get_or s.nodes.items i some_node → found ≡ n
     → node_expr (exprs_in s) i ≡ expr_of (stored_names s) s.texts.items (exprs_in s).nodes n
 node_of s i found n sound h e f = at_node (stored_names s) s.texts.items (length (stored_names s)) (length s.texts.items) s.nodes.items i n sound.nodes h
     (sym e ∙ f)
 
-pub fits_at : (s : Store) (i : ℕ) (found n : Node) → IsSound s → i < length s.nodes.items → found ≡ get_or s.nodes.items i some_node → found ≡ n
+pub fits_at : (s : NodeStore) (i : ℕ) (found n : Node) → IsSound s → i < length s.nodes.items → found ≡ get_or s.nodes.items i some_node → found ≡ n
     → NodeFits (length (stored_names s)) (length s.texts.items) i n
 fits_at s i found n sound h e f = subst (NodeFits (length (stored_names s)) (length s.texts.items) i) (sym e ∙ f) (sound.nodes i h)
 
@@ -48,10 +48,10 @@ prefix_map f xs ys e =
     ∙ ap (take (length (map f xs))) (map-append f xs (drop (length xs) ys))
     ∙ take-append_seam (map f xs) (map f (drop (length xs) ys))
 
-pub extends_self : (s : Store) → Extends s s
+pub extends_self : (s : NodeStore) → Extends s s
 extends_self s = record { names = take-length s.names.keys; texts = take-length s.texts.items; nodes = take-length s.nodes.items }
 
-pub extends_on : (a b c : Store) → Extends a b → Extends b c → Extends a c
+pub extends_on : (a b c : NodeStore) → Extends a b → Extends b c → Extends a c
 extends_on a b c e f = record {
   names = prefix_trans a.names.keys b.names.keys c.names.keys e.names f.names;
   texts = prefix_trans a.texts.items b.texts.items c.texts.items e.texts f.texts;
@@ -109,7 +109,7 @@ module _ (names texts : List (List ℕ)) where
       (expr_of names texts es n ∷ rest, e ∙ append_assoc es (expr_of names texts es n ∷ []) rest)
 
 -- an extended store represents each expression that it represented before
-pub grows : (old new : Store) → IsSound old → Extends old new → Grows (exprs_in old) (exprs_in new)
+pub grows : (old new : NodeStore) → IsSound old → Extends old new → Grows (exprs_in old) (exprs_in new)
 grows old new sound e =
     let names_kept = prefix_map string_bytes old.names.keys new.names.keys e.names in
     let more = drop (length old.nodes.items) new.nodes.items in
@@ -133,11 +133,11 @@ represents_on old new id e g s = record {
   is = kept_get old.nodes new.nodes id (alone (constant N)) g.nodes s.within ∙ s.is;
 }
 
-pub represents_later : (old new : Store) (id : ℕ) (e : Expr) → IsSound old → Extends old new → Represents (exprs_in old) id e → Represents (exprs_in new) id e
+pub represents_later : (old new : NodeStore) (id : ℕ) (e : Expr) → IsSound old → Extends old new → Represents (exprs_in old) id e → Represents (exprs_in new) id e
 represents_later old new id e sound x s = represents_on (exprs_in old) (exprs_in new) id e (grows old new sound x) s
 
 -- one node more
-module _ (old new : Store) (node : Node) (sound : IsSound old) (nodes : new.nodes.items ≡ old.nodes.items ++ node ∷ [])
+module _ (old new : NodeStore) (node : Node) (sound : IsSound old) (nodes : new.nodes.items ≡ old.nodes.items ++ node ∷ [])
     (names : new.names.keys ≡ old.names.keys) (texts : new.texts.items ≡ old.texts.items) where
   pub push_extends : Extends old new
   push_extends = record {
@@ -159,15 +159,15 @@ module _ (old new : Store) (node : Node) (sound : IsSound old) (nodes : new.node
   push_represents id e = rw (nodes, names, texts) (represents_last (stored_names old) old.texts.items old.nodes.items node id e)
 
 -- a store has as many expressions as nodes
-pub length-nodes : (s : Store) → length (exprs_in s).nodes ≡ length s.nodes.items
+pub length-nodes : (s : NodeStore) → length (exprs_in s).nodes ≡ length s.nodes.items
 length-nodes s = omega (arith, length-exprs (stored_names s) s.texts.items [] s.nodes.items)
 
 -- the number of an expression that contracts see is that of a node of the store
-pub within_nodes : (a : Exprs) (s : Store) (i : ℕ) → exprs_in s ≡ a → i < length a.nodes → i < length s.nodes.items
+pub within_nodes : (a : Exprs) (s : NodeStore) (i : ℕ) → exprs_in s ≡ a → i < length a.nodes → i < length s.nodes.items
 within_nodes a s i e h = omega (arith, h, ap (λ (x : Exprs). length x.nodes) e, length-nodes s)
 
 -- a sound store is still sound after names and texts are appended, if no name is held twice and there aren't too many
-pub sound_on : (old new : Store) → IsSound old → Extends old new → new.nodes.items ≡ old.nodes.items → AreDistinct (stored_names new)
+pub sound_on : (old new : NodeStore) → IsSound old → Extends old new → new.nodes.items ≡ old.nodes.items → AreDistinct (stored_names new)
     → length new.names.keys ≤ 2 ^ 32 → IsSound new
 sound_on old new sound e same d few = record {
   nodes = rw same (λ k l. fits_kept (stored_names old) old.texts.items (stored_names new) new.texts.items
@@ -178,21 +178,21 @@ sound_on old new sound e same d few = record {
 }
 
 -- an operand means the same in an extended store
-pub operand_on : (old new : Store) (a : Leaf) → Extends old new → LeafFits (length (stored_names old)) (length old.texts.items) a
+pub operand_on : (old new : NodeStore) (a : Leaf) → Extends old new → LeafFits (length (stored_names old)) (length old.texts.items) a
     → operand_of (stored_names new) new.texts.items a ≡ operand_of (stored_names old) old.texts.items a
 operand_on old new a e h = operand_kept (stored_names old) old.texts.items (stored_names new) new.texts.items
     (prefix_map string_bytes old.names.keys new.names.keys e.names) e.texts a h
 
-pub leaf_on : (old new : Store) (a : Leaf) → Extends old new → LeafFits (length (stored_names old)) (length old.texts.items) a
+pub leaf_on : (old new : NodeStore) (a : Leaf) → Extends old new → LeafFits (length (stored_names old)) (length old.texts.items) a
     → LeafFits (length (stored_names new)) (length new.texts.items) a
 leaf_on old new a e h = leaf_kept (stored_names old) old.texts.items (stored_names new) new.texts.items
     (prefix_map string_bytes old.names.keys new.names.keys e.names) e.texts a h
 
 -- the number of a node is that of a node in an extended store too
-pub node_on : (old new : Store) (i : ℕ) → Extends old new → i < length old.nodes.items → i < length new.nodes.items
+pub node_on : (old new : NodeStore) (i : ℕ) → Extends old new → i < length old.nodes.items → i < length new.nodes.items
 node_on old new i e h = omega (arith, h, prefix_long old.nodes.items new.nodes.items e.nodes)
 
-pub represents_node : (s : Store) (i : ℕ) (e : Expr) → Represents (exprs_in s) i e → i < length s.nodes.items
+pub represents_node : (s : NodeStore) (i : ℕ) (e : Expr) → Represents (exprs_in s) i e → i < length s.nodes.items
 represents_node s i e h = omega (arith, h.within, length-nodes s)
 
 -- a list to which an element is appended, or none, begins with what it was

@@ -12,7 +12,7 @@ mod names;
 mod node;
 mod operand;
 mod parse;
-mod store;
+mod node_store;
 mod visited_set;
 
 pub use arena::Arena;

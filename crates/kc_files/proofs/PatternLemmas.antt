@@ -18,7 +18,7 @@ use Rattle.kc_files.specs.TreeContents.{TreeContents}
 use Rattle.kc_files.specs.TextViews.{items_of}
 use Rattle.kc_files.specs.between.KnownFiles.{KnownFiles, names, too_many, unlisted, Agrees, Grows}
 use Rattle.kc_files.specs.between.FileRuns.{Comes, HaveSameOutcome, missing_at, too_many_at}
-use Rattle.kc_files.specs.checker.PatternRuns.{found_of, slashed, IsCut, Finds, FindsMore, StopsAtFolder}
+use Rattle.kc_files.specs.checker.PatternRuns.{found_of, slashed, IsCutPattern, Finds, FindsMore, StopsAtFolder}
 use Rattle.kc_files.proofs.ProgramLemmas.{nothing_after, grouped, same_rest, same_then, fails_then, comes_at_once, fails_at_once, same_by, same_twice, comes_as, same_listed, same_later}
 
 -- a name that matches a piece comes, as a path in its folder, after the paths before it and before those of the names after it
@@ -318,7 +318,7 @@ module _ (at : Place) where
       (ap (λ ps. paths_below at ps folders listed) e)) h
 
 pub is_cut : (path : List ℕ) (n : ℕ) (front back : List ℕ) → n < length path → get_or path n 0 ≡ 47 → ((k : ℕ) → k < n → get_or path k 0 ≡ 47 → ⊥)
-    → front ≡ take n path → back ≡ drop (n + 1) path → IsCut path front back
+    → front ≡ take n path → back ≡ drop (n + 1) path → IsCutPattern path front back
 is_cut path n front back h e none f b = record {
   pieces = first_piece path n h e none ∙ ap (λ p. p ∷ path_pieces (drop (suc n) path)) (sym f) ∙ ap (λ p. front ∷ path_pieces p)
       (ap (λ k. drop k path) (let k : suc n ≡ n + 1 = omega arith in k) ∙ sym b);

@@ -133,7 +133,7 @@ impl ExpandedFiles {
     }
 
     /// Appends the text of a path under the path as its key, unless a file has that key; returns whether none had.
-    fn push_first(&mut self, path: &[u8], text: Rc<Vec<u8>>) -> Result<bool, AllocError>
+    fn insert_first(&mut self, path: &[u8], text: Rc<Vec<u8>>) -> Result<bool, AllocError>
         ensures first { IfOk result (λ first. first ≡ not (has_key self.old path.now)) }
         ensures ok { OnOk result (self.new ≡ with_file path.now path.now text.value.items self.old) }
         ensures err { OnErr result (self.new ≡ self.old) }
@@ -159,7 +159,7 @@ impl ExpandedFiles {
         if path == root {
             return Ok(false);
         }
-        self.push_first(path, text)
+        self.insert_first(path, text)
     }
 
     /// Appends the expanded text of a path, and returns its key: the path, or the path with `#` and a number. A text that is
@@ -168,7 +168,7 @@ impl ExpandedFiles {
     /// # Errors
     ///
     /// Where memory runs out, nothing is changed.
-    pub fn keep(
+    pub fn insert(
         &mut self,
         root: &[u8],
         path: &[u8],

@@ -11,7 +11,7 @@ mod name_matches;
 mod path_table;
 mod paths;
 mod patterns;
-mod store;
+mod file_cache;
 
 pub use expanded_files::ExpandedFiles;
 pub use expanded_tree::{ExpandedText, ExpandedTree};
@@ -20,4 +20,4 @@ pub use files::{FileStop, TreeFiles};
 pub use name_matches::is_utf8;
 pub use paths::{has_bracket, is_pattern, list_name, path_meant};
 pub use patterns::{FoundPaths, PatternStop, files_of_pattern, paths_with_files};
-pub use store::Store;
+pub use file_cache::FileCache;

@@ -7,13 +7,13 @@ ghost use Rattle.kc_files.specs.TextViews.{items_of, texts_of};
 ghost use Rattle.kc_files.specs.between.KnownFiles.{Grows};
 ghost use Rattle.kc_files.specs.between.FileRuns.{Comes};
 ghost use Rattle.kc_files.specs.checker.FileViews.{known_of};
-ghost use Rattle.kc_files.specs.checker.PatternRuns.{found_of, IsCut, Finds, FindsMore};
+ghost use Rattle.kc_files.specs.checker.PatternRuns.{found_of, IsCutPattern, Finds, FindsMore};
 ghost use Rattle.kc_files.specs.TreeContents.{StaysKnown};
 
 use super::files::TreeFiles;
 use super::name_matches::matches_name;
 use super::paths::is_pattern;
-use super::store::{Store, is_there};
+use super::file_cache::{FileCache, is_there};
 use kc_value::MAX_LISTED_NAMES;
 use std::alloc::{AllocError, Global};
 
@@ -74,7 +74,7 @@ fn push_matching(
 /// Lists a folder, and appends those of its names that match a piece, as paths.
 fn push_listed<F: TreeFiles>(
     alloc: Global,
-    store: &mut Store,
+    store: &mut FileCache,
     files: &mut F,
     piece: &[u8],
     folder: &[u8],
@@ -111,7 +111,7 @@ fn each_joined(alloc: Global, fronts: &[Vec<u8>], back: &[u8]) -> Result<Vec<Vec
 /// listed.
 fn paths_in_folders<F: TreeFiles>(
     alloc: Global,
-    store: &mut Store,
+    store: &mut FileCache,
     files: &mut F,
     piece: &[u8],
     folders: &[Vec<u8>],
@@ -157,7 +157,7 @@ struct CutPath<'a> {
 
 /// Cuts a path at its first slash, if it has one.
 fn cut_at_slash(path: &[u8]) -> Option<CutPath<'_>>
-    ensures some { IfSome result (λ c. IsCut path.now c.piece.now c.tail.now) }
+    ensures some { IfSome result (λ c. IsCutPattern path.now c.piece.now c.tail.now) }
     ensures none { IfNone result (path_pieces path.now ≡ path.now ∷ []) }
 {
     match place_of_slash(path) {
@@ -181,7 +181,7 @@ fn root_folder(alloc: Global) -> Result<Vec<Vec<u8>>, AllocError>
 /// The paths below some folders that match a pattern.
 fn paths_below<F: TreeFiles>(
     alloc: Global,
-    store: &mut Store,
+    store: &mut FileCache,
     files: &mut F,
     pattern: &[u8],
     mut found: FoundPaths,
@@ -221,7 +221,7 @@ fn push_if(
 /// Those paths of a list at which files are, in the order of the list, also those that can't be read. An `Err` means out of memory.
 pub fn paths_with_files<F: TreeFiles>(
     alloc: Global,
-    store: &mut Store,
+    store: &mut FileCache,
     files: &mut F,
     paths: &[Vec<u8>],
 ) -> Result<Vec<Vec<u8>>, AllocError>
@@ -240,7 +240,7 @@ pub fn paths_with_files<F: TreeFiles>(
 /// The files of a pattern: the paths that match it and at which files are, in ascending order of their bytes.
 pub fn files_of_pattern<F: TreeFiles>(
     alloc: Global,
-    store: &mut Store,
+    store: &mut FileCache,
     files: &mut F,
     pattern: &[u8],
     listed: usize,

@@ -1,6 +1,6 @@
 //! Trees in memory, expanded.
 use kc_answers::Answers;
-use kc_expansion::{ExpandedTree, Expansion, expand, wants};
+use kc_expansion::{ExpandedTree, ExpansionOutcome, expand, wants};
 use kc_files::{FileStop, TreeFiles};
 use kc_macros::{MacroFault, MacroKind};
 use kc_value::Seed;
@@ -201,7 +201,7 @@ fn memory_tree(
 }
 
 /// The expansion of the first tree, and how many paths were tried for it.
-fn expanded(alloc: Global) -> Result<(Expansion, usize), AllocError> {
+fn expanded(alloc: Global) -> Result<(ExpansionOutcome, usize), AllocError> {
     let mut files = memory_tree(TEXTS, NAMES);
     let answers = Answers::new(alloc, Seed::fixed());
     let expansion = expand(alloc, &mut files, b"Kconfig", &answers)?;
@@ -286,7 +286,7 @@ fn fault_where(
     let mut files = memory_tree(texts, &[("b/", "K1")]);
     files.failing = failing;
     let answers = Answers::new(alloc, Seed::fixed());
-    let Expansion { tree, .. } = expand(alloc, &mut files, b"Kconfig", &answers)?;
+    let ExpansionOutcome { tree, .. } = expand(alloc, &mut files, b"Kconfig", &answers)?;
     match tree {
         Ok(_) => Ok((None, files.failed)),
         Err(fault) => Ok((Some(fault), files.failed)),

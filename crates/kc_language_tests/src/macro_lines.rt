@@ -5,7 +5,7 @@ use kc_macro_forms::{
     quoted_text_token, source_line, with_bare_prompt, with_replacement, without_choice_name,
 };
 use kc_macro_lines::{LineContent, is_copied, read_line};
-use kc_macros::{Bindings, MacroNotice, MacroNoticeKind, Place, Run, Stop, assign, text_value};
+use kc_macros::{Bindings, MacroNotice, MacroNoticeKind, Place, ExpansionState, Stop, assign, text_value};
 use kc_value::Seed;
 use kmin_fakes::twice;
 use std::alloc::{AllocError, Global};
@@ -41,7 +41,7 @@ fn assigned(alloc: Global, lines: &[&[u8]]) -> Result<Bindings, AllocError> {
     let mut bindings = Bindings::new(alloc, Seed::fixed());
     let mut done: usize = 0;
     for line in lines {
-        let mut run = Run::new(alloc, Seed::fixed(), &answers, true);
+        let mut run = ExpansionState::new(alloc, Seed::fixed(), &answers, true);
         if let Ok(LineContent::Assigns(assignment)) = read_line(&mut run, AT, &bindings, line) {
             let outcome = assign(&mut run, AT, &mut bindings, assignment);
             if outcome.is_ok() {
@@ -58,7 +58,7 @@ fn assigned(alloc: Global, lines: &[&[u8]]) -> Result<Bindings, AllocError> {
 /// The value of a text, or what stops it.
 fn value(alloc: Global, bindings: &Bindings, text: &[u8]) -> Result<Vec<u8>, AllocError> {
     let answers = answers(alloc)?;
-    let mut run = Run::new(alloc, Seed::fixed(), &answers, true);
+    let mut run = ExpansionState::new(alloc, Seed::fixed(), &answers, true);
     match text_value(&mut run, AT, bindings, text) {
         Ok(Some(value)) => Ok(value.into_vec()),
         Ok(None) => Vec::from_slice(alloc, b"unknown"),
@@ -70,7 +70,7 @@ fn value(alloc: Global, bindings: &Bindings, text: &[u8]) -> Result<Vec<u8>, All
 fn tokens(alloc: Global, text: &[u8]) -> Result<Vec<WrittenToken>, AllocError> {
     let answers = answers(alloc)?;
     let bindings = Bindings::new(alloc, Seed::fixed());
-    let mut run = Run::new(alloc, Seed::fixed(), &answers, true);
+    let mut run = ExpansionState::new(alloc, Seed::fixed(), &answers, true);
     match read_line(&mut run, AT, &bindings, text) {
         Ok(LineContent::Tokens(tokens)) => Ok(tokens),
         Err(Stop::OutOfMemory) => Err(AllocError),
@@ -81,7 +81,7 @@ fn tokens(alloc: Global, text: &[u8]) -> Result<Vec<WrittenToken>, AllocError> {
 /// A line as it is written, or what stops it.
 fn written(alloc: Global, bindings: &Bindings, text: &[u8]) -> Result<Vec<u8>, AllocError> {
     let answers = answers(alloc)?;
-    let mut run = Run::new(alloc, Seed::fixed(), &answers, true);
+    let mut run = ExpansionState::new(alloc, Seed::fixed(), &answers, true);
     match read_line(&mut run, AT, bindings, text) {
         Ok(LineContent::Tokens(tokens)) => line_bytes(alloc, tokens.as_slice()),
         Ok(LineContent::Assigns(assignment)) => Ok(assignment.text.into_vec()),
@@ -146,7 +146,7 @@ fn listed(alloc: Global, notices: &[MacroNotice]) -> Result<Vec<u8>, AllocError>
 fn noticed(alloc: Global, text: &[u8]) -> Result<Vec<u8>, AllocError> {
     let answers = answers(alloc)?;
     let bindings = Bindings::new(alloc, Seed::fixed());
-    let mut run = Run::new(alloc, Seed::fixed(), &answers, true);
+    let mut run = ExpansionState::new(alloc, Seed::fixed(), &answers, true);
     match text_value(&mut run, AT, &bindings, text) {
         Err(Stop::OutOfMemory) => Err(AllocError),
         _ => listed(alloc, run.notices()),

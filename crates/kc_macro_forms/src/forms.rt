@@ -10,7 +10,7 @@ ghost use Rattle.kc_macro_forms.specs.checker.RealTokens.{is_decisive_word, form
 
 use super::form_words::{is_help_word, is_prompt_word, is_source_word};
 use super::keywords::is_among;
-use super::real_tokens::{is_empty_line, next_real};
+use super::significant_tokens::{is_empty_line, next_significant};
 use super::token_sorts::{is_bare_prompt, is_path, is_unknown, is_word};
 use super::written_tokens::WrittenToken;
 use kc_macros::is_text;
@@ -61,8 +61,8 @@ fn sort_of_source(word: &[u8]) -> SourceSort
 }
 
 /// The form of a line of two tokens, of which the first is this word.
-fn form_of_pair<'t>(word: &[u8], token: &'t WrittenToken) -> LineForm<'t>
-    ensures { form_view result ≡ form_of_pair word.now (token_of token.now) }
+fn form_of_two_words<'t>(word: &[u8], token: &'t WrittenToken) -> LineForm<'t>
+    ensures { form_view result ≡ form_of_two_words word.now (token_of token.now) }
 {
     let bytes = token.bytes.as_slice();
     if is_source_word(word) && is_path(token) {
@@ -81,14 +81,14 @@ fn form_of_pair<'t>(word: &[u8], token: &'t WrittenToken) -> LineForm<'t>
 }
 
 /// The form of a line by its first word, its second token, and whether no token comes after it.
-fn form_by<'t>(word: &[u8], token: &'t WrittenToken, alone: bool) -> LineForm<'t>
-    ensures { form_view result ≡ form_by word.now (token_of token.now) alone }
+fn form_of_words<'t>(word: &[u8], token: &'t WrittenToken, alone: bool) -> LineForm<'t>
+    ensures { form_view result ≡ form_of_words word.now (token_of token.now) alone }
 {
     if is_prompt_word(word) && is_bare_prompt(token) {
         return LineForm::BarePrompt(token.bytes.as_slice());
     }
     if alone {
-        return form_of_pair(word, token);
+        return form_of_two_words(word, token);
     }
     LineForm::Plain
 }
@@ -97,16 +97,16 @@ fn form_by<'t>(word: &[u8], token: &'t WrittenToken, alone: bool) -> LineForm<'t
 pub fn line_form(tokens: &[WrittenToken]) -> LineForm<'_>
     ensures { form_view result ≡ form_of (without_gaps (tokens_of tokens.now)) }
 {
-    let Some((first, after_first)) = next_real(tokens) else {
+    let Some((first, after_first)) = next_significant(tokens) else {
         return LineForm::Plain;
     };
-    let Some((second, after_second)) = next_real(after_first) else {
+    let Some((second, after_second)) = next_significant(after_first) else {
         return LineForm::Plain;
     };
     if !is_word(first) {
         return LineForm::Plain;
     }
-    form_by(first.bytes.as_slice(), second, is_empty_line(after_second))
+    form_of_words(first.bytes.as_slice(), second, is_empty_line(after_second))
 }
 
 /// Whether a token is `help` or `---help---`.
@@ -121,7 +121,7 @@ fn is_help_token(token: &WrittenToken) -> bool
 pub fn is_help_line(tokens: &[WrittenToken]) -> bool
     ensures { result ≡ is_help_line (without_gaps (tokens_of tokens.now)) }
 {
-    match next_real(tokens) {
+    match next_significant(tokens) {
         Some((first, after)) => is_empty_line(after) && is_help_token(first),
         None => false,
     }
@@ -153,7 +153,7 @@ fn has_unknown(tokens: &[WrittenToken]) -> bool
 pub fn is_undecided(tokens: &[WrittenToken]) -> bool
     ensures { result ≡ is_undecided (without_gaps (tokens_of tokens.now)) }
 {
-    match next_real(tokens) {
+    match next_significant(tokens) {
         Some((first, after)) => is_decisive(first) && has_unknown(after),
         None => false,
     }

@@ -11,8 +11,8 @@ use Rattle.kc_macros_model.specs.Worlds.{returned, stopped}
 use Rattle.kc_macro_forms.specs.declared.written_tokens.WrittenToken.{WrittenToken as CodeToken}
 use Rattle.kc_macros.specs.declared.assignments.Assignment.{Assignment}
 use Rattle.kc_macro_lines.specs.declared.line_content.LineFront.{LineFront}
-use Rattle.kc_macro_lines.specs.declared.line_content.LineStep.{LineStep}
-use Rattle.kc_macro_lines.specs.declared.line_content.LineStep.TheVariants as steps
+use Rattle.kc_macro_lines.specs.declared.line_content.ContentStep.{ContentStep}
+use Rattle.kc_macro_lines.specs.declared.line_content.ContentStep.TheVariants as steps
 use Rattle.kc_macros.specs.declared.stop.Stop.{Stop}
 use Rattle.kc_answers.specs.RunStates.{RunState}
 use Rattle.kc_macros.specs.Runs.{ends, end_of_stop, Runs}
@@ -176,7 +176,7 @@ found_assigned may_assign t ts name a may e h = sym (h ∙ ap (λ m. assignment_
 pub steps_same : {A X : Type 0} (s t : RunState) (p q : Program A) (next : X → Program A) (r : Result X Stop) → p ≡ q → Steps s t q next r → Steps s t p next r
 steps_same s t p q next r e a = subst (λ x. Steps s t x next r) (sym e) a
 
-module _ (at : Place) (b : Bindings) (first s t : RunState) (p q : Program LineContent) (l : Leads first p s q) (front : LineFront) (step : LineStep)
+module _ (at : Place) (b : Bindings) (first s t : RunState) (p q : Program LineContent) (l : Leads first p s q) (front : LineFront) (step : ContentStep)
     (k : Leads s q t (step_left at b front step)) where
   -- if the next step along a line finds an assignment, the program for the content of the line returns it
   pub content_assigned : (a : Assignment) → step ≡ steps.Assigns a → Runs first t p
@@ -191,5 +191,5 @@ module _ (at : Place) (b : Bindings) (first s t : RunState) (p q : Program LineC
   pub content_goes_on : (after : Bor (List ℕ)) → step ≡ steps.Rest after → Leads first p t (front_left at b front (line_tokens 0 after.now))
   content_goes_on after e = leads_then first s t p q (front_left at b front (line_tokens 0 after.now)) l (subst (λ x. Leads s q t (step_left at b front x)) e k)
 
-pub rest_shorter : (step : LineStep) (after : Bor (List ℕ)) (n : ℕ) → step ≡ steps.Rest after → IsShorter step n → length after.now < n
+pub rest_shorter : (step : ContentStep) (after : Bor (List ℕ)) (n : ℕ) → step ≡ steps.Rest after → IsShorter step n → length after.now < n
 rest_shorter step after n e h = subst (λ x. IsShorter x n) e h

@@ -102,7 +102,7 @@ pub(crate) fn assignment_at<'t>(
         return None;
     }
     match token {
-        LineToken::Run(name) => assignment_to(name, after),
+        LineToken::Word(name) => assignment_to(name, after),
         LineToken::Gap(_) | LineToken::Quoted(_, _) | LineToken::Other(_) | LineToken::Broken(_) =>
             None,
     }

@@ -11,7 +11,7 @@ ghost use Rattle.kc_macro_lines.specs.checker.LineTexts.{token_view, has_equals_
 use super::line_content::{LineContent, front_token, read_tokens};
 use super::line_tokens::LineToken;
 use kc_answers::is_environment_name;
-use kc_macros::{Bindings, Place, Run, Stop, is_text};
+use kc_macros::{Bindings, Place, ExpansionState, Stop, is_text};
 use std::alloc::{AllocError, Global};
 
 /// Whether a token is white or a comment.
@@ -53,7 +53,7 @@ fn is_run(word: &[u8], token: LineToken<'_>) -> bool
     ensures { result ≡ is_run word.now (token_view token.entry) }
 {
     match token {
-        LineToken::Run(text) => is_text(text, word),
+        LineToken::Word(text) => is_text(text, word),
         _ => false,
     }
 }
@@ -157,7 +157,7 @@ fn environment_line(alloc: Global, name: &[u8]) -> Result<Vec<u8>, AllocError>
 /// The first fault of the expansion; `Unanswered` where it isn't known whether the line is an assignment, or to which
 /// name; or memory ran out.
 pub fn read_line(
-    run: &mut Run<'_>,
+    run: &mut ExpansionState<'_>,
     at: Place<'_>,
     bindings: &Bindings,
     text: &[u8],

@@ -15,7 +15,7 @@ use super::line_tokens::{LineToken, first_token};
 use super::quoted_tokens::written_token;
 use super::token_values::run_value;
 use kc_macro_forms::{WrittenToken, is_gap, is_unknown, token_of_text};
-use kc_macros::{Assignment, Bindings, Bytes, Place, Run, Stop};
+use kc_macros::{Assignment, Bindings, Bytes, Place, ExpansionState, Stop};
 
 /// The content of a logical line: an assignment to a variable, or written tokens.
 #[derive(Drop)]
@@ -33,7 +33,7 @@ pub(crate) struct LineFront {
 
 /// What the reading of a token of a line gives: the bytes after the token, or the assignment that the line is.
 #[derive(Drop)]
-pub(crate) enum LineStep<'t> {
+pub(crate) enum ContentStep<'t> {
     Rest(&'t [u8]),
     Assigns(Assignment),
 }
@@ -45,7 +45,7 @@ fn token_length(token: LineToken<'_>) -> usize
 {
     match token {
         LineToken::Gap(text)
-        | LineToken::Run(text)
+        | LineToken::Word(text)
         | LineToken::Other(text)
         | LineToken::Broken(text) => text.len(),
         LineToken::Quoted(_, text) => text.len() + 2,
@@ -89,7 +89,7 @@ fn may_still_assign(may_assign: bool, written: &WrittenToken) -> bool
 
 /// Writes a token that is no name of an assignment, and appends it to those before it.
 fn push_token(
-    run: &mut Run<'_>,
+    run: &mut ExpansionState<'_>,
     at: Place<'_>,
     bindings: &Bindings,
     token: LineToken<'_>,
@@ -110,13 +110,13 @@ fn push_token(
 
 /// The assignment that a line is; a name whose value is empty is a gap, and the line goes on.
 fn assigned_or_gap<'t>(
-    run: &mut Run<'_>,
+    run: &mut ExpansionState<'_>,
     at: Place<'_>,
     bindings: &Bindings,
     found: FoundAssignment<'t>,
     after: &'t [u8],
     front: &mut LineFront,
-) -> Result<LineStep<'t>, Stop>
+) -> Result<ContentStep<'t>, Stop>
     requires found { assignment_to (name_token found.name.now) (line_tokens 0 after.now) ≡ Some (assigned_of found) }
     requires may_assign { front.old.may_assign ≡ true }
     ensures steps { Steps run.old run.new (front_left (place_of at.entry) (bindings_of bindings.now) front.old (name_token found.entry.name.now ∷ line_tokens 0 after.now)) (step_left (place_of at.entry) (bindings_of bindings.now) front.new) result }
@@ -128,10 +128,10 @@ fn assigned_or_gap<'t>(
     if name.as_slice().is_empty() {
         let gap = token_of_text(run.alloc(), b"")?;
         front.tokens.push(gap)?;
-        return Ok(LineStep::Rest(after));
+        return Ok(ContentStep::Rest(after));
     }
     let text = Bytes::copied(run.alloc(), found.text)?;
-    Ok(LineStep::Assigns(Assignment {
+    Ok(ContentStep::Assigns(Assignment {
         name,
         operator: found.operator,
         text,
@@ -140,12 +140,12 @@ fn assigned_or_gap<'t>(
 
 /// Reads the token at the front of the rest of a line.
 fn next_token<'t>(
-    run: &mut Run<'_>,
+    run: &mut ExpansionState<'_>,
     at: Place<'_>,
     bindings: &Bindings,
     text: &'t [u8],
     front: &mut LineFront,
-) -> Result<LineStep<'t>, Stop>
+) -> Result<ContentStep<'t>, Stop>
     requires not_empty { 0 < length text.now }
     ensures steps { Steps run.old run.new (front_left (place_of at.entry) (bindings_of bindings.now) front.old (line_tokens 0 text.now)) (step_left (place_of at.entry) (bindings_of bindings.now) front.new) result }
     ensures shorter { IfOk result (λ s. IsShorter s (length text.now)) }
@@ -155,14 +155,14 @@ fn next_token<'t>(
         Some(found) => assigned_or_gap(run, at, bindings, found, after, front),
         None => {
             push_token(run, at, bindings, token, after, front)?;
-            Ok(LineStep::Rest(after))
+            Ok(ContentStep::Rest(after))
         }
     }
 }
 
 /// The content of a logical line by its tokens: an assignment, or the tokens with the values of their references.
 pub(crate) fn read_tokens(
-    run: &mut Run<'_>,
+    run: &mut ExpansionState<'_>,
     at: Place<'_>,
     bindings: &Bindings,
     text: &[u8],
@@ -176,8 +176,8 @@ pub(crate) fn read_tokens(
     let mut rest = text;
     'tokens: while !rest.is_empty() {
         match next_token(run, at, bindings, rest, &mut front)? {
-            LineStep::Rest(after) => rest = after,
-            LineStep::Assigns(assignment) => return Ok(LineContent::Assigns(assignment)),
+            ContentStep::Rest(after) => rest = after,
+            ContentStep::Assigns(assignment) => return Ok(LineContent::Assigns(assignment)),
         }
     }
     Ok(LineContent::Tokens(front.tokens))

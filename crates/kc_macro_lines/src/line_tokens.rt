@@ -15,7 +15,7 @@ use kc_tokens::is_white;
 #[derive(Clone, Copy)]
 pub(crate) enum LineToken<'a> {
     Gap(&'a [u8]),
-    Run(&'a [u8]),
+    Word(&'a [u8]),
     Quoted(u8, &'a [u8]),
     Other(&'a [u8]),
     Broken(&'a [u8]),
@@ -134,7 +134,7 @@ fn run_token(text: &[u8]) -> LineToken<'_>
     if has_unterminated(run, false) {
         LineToken::Broken(run)
     } else {
-        LineToken::Run(run)
+        LineToken::Word(run)
     }
 }
 

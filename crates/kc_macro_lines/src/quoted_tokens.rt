@@ -10,22 +10,22 @@ ghost use Rattle.kc_macros.specs.checker.ProgramSteps.{Steps};
 ghost use Rattle.kc_macro_lines.specs.checker.LineTexts.{token_view};
 
 use super::line_tokens::{LineToken, is_pair};
-use super::token_values::{Body, push_byte, push_pair, push_reference, written_run};
+use super::token_values::{QuotedText, push_byte, push_pair, push_reference, written_word};
 use kc_macro_forms::{WrittenToken, new_token};
 use kc_macros::{
-    Bindings, Bytes, Place, Run, Stop, begins_reference_at, fault, reference_at_front, text_value,
+    Bindings, Bytes, Place, ExpansionState, Stop, begins_reference_at, fault, reference_at_front, text_value,
 };
 use kc_macros_model::{MacroKind, TokenSort};
 use std::alloc::{AllocError, Global};
 
 /// Appends the item at the front of a text between quotes to `out`, of a reference its value; returns the rest.
 fn next_item<'t>(
-    run: &mut Run<'_>,
+    run: &mut ExpansionState<'_>,
     at: Place<'_>,
     bindings: &Bindings,
     quote: u8,
     text: &'t [u8],
-    out: &mut Body,
+    out: &mut QuotedText,
 ) -> Result<&'t [u8], Stop>
     requires not_empty { 0 < length text.now }
     ensures steps { Steps run.old run.new (bodies_left (place_of at.entry) (bindings_of bindings.now) quote (body_of_code out.old) (items true 0 text.now)) (λ rest. bodies_left (place_of at.entry) (bindings_of bindings.now) quote (body_of_code out.new) (items true 0 rest.now)) result }
@@ -59,10 +59,10 @@ fn has_dollar_or_backslash(text: &[u8]) -> bool
 }
 
 /// Bytes between quotes that are written as they are.
-fn plain_body(alloc: Global, text: &[u8]) -> Result<Body, AllocError>
+fn plain_body(alloc: Global, text: &[u8]) -> Result<QuotedText, AllocError>
     ensures { IfOk result (λ body. body_of_code body ≡ body_of text.now text.now) }
 {
-    Ok(Body {
+    Ok(QuotedText {
         bytes: Vec::from_slice(alloc, text)?,
         meaning: Vec::from_slice(alloc, text)?,
         known: true,
@@ -70,10 +70,10 @@ fn plain_body(alloc: Global, text: &[u8]) -> Result<Body, AllocError>
 }
 
 /// No bytes between quotes, with room for `room` bytes.
-fn empty_body(alloc: Global, room: usize) -> Result<Body, AllocError>
+fn empty_body(alloc: Global, room: usize) -> Result<QuotedText, AllocError>
     ensures { IfOk result (λ body. body_of_code body ≡ body_of [] []) }
 {
-    Ok(Body {
+    Ok(QuotedText {
         bytes: Vec::with_capacity(alloc, room)?,
         meaning: Vec::with_capacity(alloc, room)?,
         known: true,
@@ -82,12 +82,12 @@ fn empty_body(alloc: Global, room: usize) -> Result<Body, AllocError>
 
 /// The bytes between quotes as they are written.
 fn written_body(
-    run: &mut Run<'_>,
+    run: &mut ExpansionState<'_>,
     at: Place<'_>,
     bindings: &Bindings,
     quote: u8,
     text: &[u8],
-) -> Result<Body, Stop>
+) -> Result<QuotedText, Stop>
     ensures { Runs run.old run.new (written_items (place_of at.entry) (bindings_of bindings.now) quote (items true 0 text.now)) (end_of body_of_code result) }
 {
     if !has_dollar_or_backslash(text) {
@@ -102,7 +102,7 @@ fn written_body(
 }
 
 /// Bytes between quotes as a token.
-fn token_of_body(alloc: Global, quote: u8, body: Body) -> Result<WrittenToken, AllocError>
+fn token_of_body(alloc: Global, quote: u8, body: QuotedText) -> Result<WrittenToken, AllocError>
     ensures { IfOk result (λ t. token_of t ≡ token_of_body quote (body_of_code body)) }
 {
     let mut bytes = Vec::with_capacity(alloc, body.bytes.len().saturating_add(2))?;
@@ -123,7 +123,7 @@ fn token_of_body(alloc: Global, quote: u8, body: Body) -> Result<WrittenToken, A
 
 /// A token of a line as the expansion writes it, with the values of its references.
 pub(crate) fn written_token(
-    run: &mut Run<'_>,
+    run: &mut ExpansionState<'_>,
     at: Place<'_>,
     bindings: &Bindings,
     token: LineToken<'_>,
@@ -132,7 +132,7 @@ pub(crate) fn written_token(
 {
     match token {
         LineToken::Gap(text) => Ok(new_token(run.alloc(), TokenSort::Gap, text, b"")?),
-        LineToken::Run(text) => written_run(run, at, bindings, text),
+        LineToken::Word(text) => written_word(run, at, bindings, text),
         LineToken::Quoted(quote, text) => {
             let body = written_body(run, at, bindings, quote, text)?;
             Ok(token_of_body(run.alloc(), quote, body)?)

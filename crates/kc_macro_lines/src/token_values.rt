@@ -13,7 +13,7 @@ ghost use Rattle.kc_macro_lines.specs.checker.LineTexts.{first_item_of};
 use super::line_tokens::item_length;
 use kc_macro_forms::{WrittenToken, new_token, push_escaped, token_of_value};
 use kc_macros::{
-    Bindings, Bytes, Place, Run, Stop, begins_reference_at, inside_length, text_value,
+    Bindings, Bytes, Place, ExpansionState, Stop, begins_reference_at, inside_length, text_value,
 };
 use kc_macros_model::TokenSort;
 use std::alloc::AllocError;
@@ -27,7 +27,7 @@ pub(crate) fn has_dollar(text: &[u8]) -> bool
 
 /// The value of a run, a token of word bytes and references; it is its own text if it has no `$`.
 pub(crate) fn run_value(
-    run: &mut Run<'_>,
+    run: &mut ExpansionState<'_>,
     at: Place<'_>,
     bindings: &Bindings,
     text: &[u8],
@@ -86,13 +86,13 @@ fn run_content(text: &[u8]) -> RunContent
 
 /// A run, a token of word bytes and references, as the expansion writes it: its value as one token. A run with a `$` that begins
 /// no reference is kept, so that the reader of the written line refuses it.
-pub(crate) fn written_run(
-    run: &mut Run<'_>,
+pub(crate) fn written_word(
+    run: &mut ExpansionState<'_>,
     at: Place<'_>,
     bindings: &Bindings,
     text: &[u8],
 ) -> Result<WrittenToken, Stop>
-    ensures { Runs run.old run.new (written_run (place_of at.entry) (bindings_of bindings.now) text.now) (end_of token_of result) }
+    ensures { Runs run.old run.new (written_word (place_of at.entry) (bindings_of bindings.now) text.now) (end_of token_of result) }
 {
     match run_content(text) {
         RunContent::PlainDollar => Ok(new_token(run.alloc(), TokenSort::Other, text, b"")?),
@@ -106,14 +106,14 @@ pub(crate) fn written_run(
 
 /// The bytes that are written between two quotes so far, and the text that they mean, if it is known.
 #[derive(Drop)]
-pub(crate) struct Body {
+pub(crate) struct QuotedText {
     pub(crate) bytes: Vec<u8>,
     pub(crate) meaning: Vec<u8>,
     pub(crate) known: bool,
 }
 
 /// Appends a byte to those written between two quotes; a `$` gets a backslash.
-pub(crate) fn push_byte(out: &mut Body, byte: u8) -> Result<(), AllocError>
+pub(crate) fn push_byte(out: &mut QuotedText, byte: u8) -> Result<(), AllocError>
     ensures { OnOk result (body_of_code out.new ≡ joined_bodies (body_of_code out.old) (body_of (if byte == 36 then 92 ∷ byte ∷ [] else byte ∷ []) (byte ∷ []))) }
 {
     if byte == b'$' {
@@ -125,7 +125,7 @@ pub(crate) fn push_byte(out: &mut Body, byte: u8) -> Result<(), AllocError>
 }
 
 /// Appends a backslash and another byte to those written between two quotes.
-pub(crate) fn push_pair(out: &mut Body, byte: u8) -> Result<(), AllocError>
+pub(crate) fn push_pair(out: &mut QuotedText, byte: u8) -> Result<(), AllocError>
     ensures { OnOk result (body_of_code out.new ≡ joined_bodies (body_of_code out.old) (body_of (92 ∷ byte ∷ []) (byte ∷ []))) }
 {
     out.bytes.push(b'\\')?;
@@ -136,7 +136,7 @@ pub(crate) fn push_pair(out: &mut Body, byte: u8) -> Result<(), AllocError>
 
 /// Appends the value of a reference to the bytes written between two quotes, with backslashes where they are needed.
 pub(crate) fn push_reference(
-    out: &mut Body,
+    out: &mut QuotedText,
     quote: u8,
     value: &Option<Bytes>,
 ) -> Result<(), AllocError>

@@ -8,7 +8,7 @@ ghost use Rattle.kc_macros.specs.between.Stops.{FailsWith};
 ghost use Rattle.kc_macros.specs.checker.Events.{spent};
 
 use super::bytes::Bytes;
-use super::run::Run;
+use super::expansion_state::ExpansionState;
 use super::stop::{MacroFault, MacroNotice, Place, Stop};
 use kc_macros_model::{MacroKind, MacroNoticeKind};
 use std::alloc::{AllocError, Global};
@@ -41,7 +41,7 @@ pub fn fault(alloc: Global, at: Place<'_>, kind: MacroKind, text: &[u8]) -> Stop
 }
 
 /// Takes this much work from what the run has left, or fails with `TooMany` if less is left.
-pub(crate) fn spend(run: &mut Run<'_>, at: Place<'_>, work: usize) -> Result<(), Stop>
+pub(crate) fn spend(run: &mut ExpansionState<'_>, at: Place<'_>, work: usize) -> Result<(), Stop>
     ensures { Runs run.old run.new (spent (place_of at.entry) work) (end_of (λ u. u) result) }
 {
     if run.left() < work {
@@ -53,7 +53,7 @@ pub(crate) fn spend(run: &mut Run<'_>, at: Place<'_>, work: usize) -> Result<(),
 
 /// Adds a notice to those of the run, and returns an empty value for the reference that reports it.
 pub(crate) fn report(
-    run: &mut Run<'_>,
+    run: &mut ExpansionState<'_>,
     at: Place<'_>,
     kind: MacroNoticeKind,
     text: &[u8],
@@ -82,7 +82,7 @@ fn answered_value(alloc: Global, answer: Option<&[u8]>) -> Result<Bytes, AllocEr
 
 /// The value of a question without an answer: unknown, or a fault where each question must have one.
 fn unanswered_value(
-    run: &mut Run<'_>,
+    run: &mut ExpansionState<'_>,
     at: Place<'_>,
     question: &[u8],
 ) -> Result<Option<Bytes>, Stop>
@@ -98,7 +98,7 @@ fn unanswered_value(
 
 /// The text of the answer to a question, empty for a name that isn't set. Without an answer it is `None`, or a fault where each
 /// question must have an answer.
-pub(crate) fn ask(run: &mut Run<'_>, at: Place<'_>, question: &[u8]) -> Result<Option<Bytes>, Stop>
+pub(crate) fn ask(run: &mut ExpansionState<'_>, at: Place<'_>, question: &[u8]) -> Result<Option<Bytes>, Stop>
     ensures { Runs run.old run.new (asked_value (place_of at.entry) question.now) (end_of (λ v. v) result) }
 {
     match run.answer(question) {

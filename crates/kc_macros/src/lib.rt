@@ -11,7 +11,7 @@ mod names;
 mod parameter;
 mod partial_value;
 mod references;
-mod run;
+mod expansion_state;
 mod steps;
 mod stop;
 mod text_values;
@@ -31,7 +31,7 @@ pub use kc_value::{
     MAX_TEXT_BYTES, MAX_WORK,
 };
 pub use references::{begins_reference_at, inside_length, reference_at_front};
-pub use run::Run;
+pub use expansion_state::ExpansionState;
 pub use stop::{MacroFault, MacroNotice, Place, Stop};
 pub use text_values::text_value;
 pub use variable::Variable;

@@ -10,7 +10,7 @@ use super::built_in_functions::{arity, built_in, is_text};
 use super::bytes::Bytes;
 use super::events::{ask, fault, report};
 use super::parameter::is_number;
-use super::run::Run;
+use super::expansion_state::ExpansionState;
 use super::stop::{Place, Stop};
 use itoa::Buffer;
 use kc_answers::{is_environment_name, without_white_end};
@@ -37,7 +37,7 @@ fn command_question(alloc: Global, command: &[u8]) -> Result<Vec<u8>, AllocError
 
 /// The value of `shell`: the answer to its command, if both are known.
 fn shell_value(
-    run: &mut Run<'_>,
+    run: &mut ExpansionState<'_>,
     at: Place<'_>,
     command: &Option<Bytes>,
 ) -> Result<Option<Bytes>, Stop>
@@ -74,7 +74,7 @@ fn known_text(text: &Option<Bytes>) -> Option<&[u8]>
 
 /// The value of `info` or `warning-if`, which is empty: reports a notice with this text, if there is one.
 fn notice_value(
-    run: &mut Run<'_>,
+    run: &mut ExpansionState<'_>,
     at: Place<'_>,
     kind: MacroNoticeKind,
     text: Option<&[u8]>,
@@ -88,7 +88,7 @@ fn notice_value(
 }
 
 /// The value of `error-if`: a fault with this text, if there is one, and else empty.
-fn error_value(run: &mut Run<'_>, at: Place<'_>, text: Option<&[u8]>) -> Result<Option<Bytes>, Stop>
+fn error_value(run: &mut ExpansionState<'_>, at: Place<'_>, text: Option<&[u8]>) -> Result<Option<Bytes>, Stop>
     ensures { Runs run.old run.new (message_value (fault_program (place_of at.entry) MacroKind.Error) (option_map (λ t. t.now) text.entry)) (end_of (λ v. v) result) }
 {
     match text {
@@ -99,7 +99,7 @@ fn error_value(run: &mut Run<'_>, at: Place<'_>, text: Option<&[u8]>) -> Result<
 
 /// The value of a built-in function; another count of arguments than it takes is a fault.
 fn built_in_value(
-    run: &mut Run<'_>,
+    run: &mut ExpansionState<'_>,
     at: Place<'_>,
     name: &[u8],
     function: BuiltIn,
@@ -129,7 +129,7 @@ fn built_in_value(
 
 /// The value of a name that is neither a variable nor built in.
 fn other_value(
-    run: &mut Run<'_>,
+    run: &mut ExpansionState<'_>,
     at: Place<'_>,
     name: &[u8],
     args: &[Option<Bytes>],
@@ -151,7 +151,7 @@ fn other_value(
 /// The value of a reference to a name that is no variable, with these arguments: that of a built-in function, of a parameter that
 /// wasn't given, or of a name of the environment.
 pub(crate) fn unbound_value(
-    run: &mut Run<'_>,
+    run: &mut ExpansionState<'_>,
     at: Place<'_>,
     name: &[u8],
     args: &[Option<Bytes>],

@@ -18,7 +18,7 @@ use super::frame::Frame;
 use super::names::unbound_value;
 use super::parameter::argument_of;
 use super::partial_value::{PartialValue, copied_value, empty_value, push_value, value_if_known};
-use super::run::Run;
+use super::expansion_state::ExpansionState;
 use super::steps::{inner_frame, names_within, next_reference, paid_value, reference_pieces};
 use super::stop::{Place, Stop};
 use super::variable::Variable;
@@ -27,7 +27,7 @@ use kc_value::MAX_OPEN_EXPANSIONS;
 
 /// The value of a text in a frame; a fault where too many expansions are open within each other.
 #[cycle(expansion)]
-fn expanded(run: &mut Run<'_>, frame: &Frame<'_>, text: &[u8]) -> Result<Option<Bytes>, Stop>
+fn expanded(run: &mut ExpansionState<'_>, frame: &Frame<'_>, text: &[u8]) -> Result<Option<Bytes>, Stop>
     ensures { Runs run.old run.new (frame_value frame.now text.now) (end_of (λ v. v) result) }
 {
     let inner = inner_frame(run, frame, text)?;
@@ -37,7 +37,7 @@ fn expanded(run: &mut Run<'_>, frame: &Frame<'_>, text: &[u8]) -> Result<Option<
 
 /// The values of the items of a text, one after the other.
 #[cycle(expansion)]
-fn text_items(run: &mut Run<'_>, frame: &Frame<'_>, text: &[u8]) -> Result<Option<Bytes>, Stop>
+fn text_items(run: &mut ExpansionState<'_>, frame: &Frame<'_>, text: &[u8]) -> Result<Option<Bytes>, Stop>
     ensures { Runs run.old run.new (frame_items frame.now text.now) (end_of (λ v. v) result) }
 {
     let mut out = empty_value(run.alloc());
@@ -52,7 +52,7 @@ fn text_items(run: &mut Run<'_>, frame: &Frame<'_>, text: &[u8]) -> Result<Optio
 /// Appends the value of a reference, by the bytes between its parentheses, to `out`.
 #[cycle(expansion)]
 fn push_reference(
-    run: &mut Run<'_>,
+    run: &mut ExpansionState<'_>,
     frame: &Frame<'_>,
     inside: &[u8],
     out: &mut PartialValue,
@@ -68,7 +68,7 @@ fn push_reference(
 /// The value of a reference, by the bytes between its parentheses.
 #[cycle(expansion)]
 fn reference_value(
-    run: &mut Run<'_>,
+    run: &mut ExpansionState<'_>,
     frame: &Frame<'_>,
     inside: &[u8],
 ) -> Result<Option<Bytes>, Stop>
@@ -85,7 +85,7 @@ fn reference_value(
 /// The values of the pieces of a reference, in order.
 #[cycle(expansion)]
 fn piece_values(
-    run: &mut Run<'_>,
+    run: &mut ExpansionState<'_>,
     frame: &Frame<'_>,
     pieces: &[&[u8]],
 ) -> Result<Vec<Option<Bytes>>, Stop>
@@ -102,7 +102,7 @@ fn piece_values(
 /// The value of a reference, by the values of its pieces: a name and its arguments.
 #[cycle(expansion)]
 fn call_value(
-    run: &mut Run<'_>,
+    run: &mut ExpansionState<'_>,
     frame: &Frame<'_>,
     values: &[Option<Bytes>],
 ) -> Result<Option<Bytes>, Stop>
@@ -120,7 +120,7 @@ fn call_value(
 /// The value of a name with these arguments: of a variable, or of a name that isn't one.
 #[cycle(expansion)]
 fn named_value(
-    run: &mut Run<'_>,
+    run: &mut ExpansionState<'_>,
     frame: &Frame<'_>,
     name: &[u8],
     args: &[Option<Bytes>],
@@ -139,7 +139,7 @@ fn named_value(
 /// The value of a recursive variable with this text, called with these arguments.
 #[cycle(expansion)]
 fn recursive_value(
-    run: &mut Run<'_>,
+    run: &mut ExpansionState<'_>,
     frame: &Frame<'_>,
     name: &[u8],
     args: &[Option<Bytes>],
@@ -165,7 +165,7 @@ fn recursive_value(
 ///
 /// The first fault of the expansion, or memory ran out.
 pub fn text_value(
-    run: &mut Run<'_>,
+    run: &mut ExpansionState<'_>,
     at: Place<'_>,
     bindings: &Bindings,
     text: &[u8],

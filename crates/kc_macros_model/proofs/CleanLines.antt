@@ -11,7 +11,7 @@ use Rattle.kc_macros_model.specs.Variables.{Value, value_length, joined_values, 
 use Rattle.kc_macros_model.specs.Expansion.{fault, spends, unless_too_long, text_value}
 use Rattle.kc_macros_model.specs.LineTokens.{LineToken, gap, run, quoted, other, broken, token_bytes, extent, is_run_byte, run_token, quoted_token, first_token, line_tokens, bytes_of_tokens}
 use Rattle.kc_macros_model.specs.declared.token_sort.TokenSort.TheVariants.{Word, Quoted, Other}
-use Rattle.kc_macros_model.specs.WrittenTokens.{is_bare_byte, is_keyword, escaped_text, in_quotes_of, WrittenToken, written_as, token_of_text, token_of_value, WrittenBody, body_of_value, joined_bodies, written_item, written_items, token_of_body, run_value, written_run, written_token}
+use Rattle.kc_macros_model.specs.WrittenTokens.{is_bare_byte, is_keyword, escaped_text, in_quotes_of, WrittenToken, written_as, token_of_text, token_of_value, WrittenQuotedText, body_of_value, joined_bodies, written_item, written_items, token_of_body, run_value, written_run, written_token}
 use Rattle.kc_macros_model.specs.declared.operator.Operator.{Operator}
 use Rattle.kc_macros_model.specs.declared.operator.Operator.TheVariants.{SetsNow, Appends, Sets}
 use Rattle.kc_macros_model.specs.Assignments.{AssignedText, assigned, without_front, is_blank_byte, operator_at, assignment_at, LineContent, assigns, tokens, with_token, is_gap, is_open_front, assignment_or, line_content, stored, stored_simple, stored_recursive, variable_assigned}
@@ -131,7 +131,7 @@ token_of_value_clean : {v : Value} → IsCleanValue v → IsCleanToken (token_of
 token_of_value_clean unknown_clean = record { bytes = clean_none; meaning = unknown_clean }
 token_of_value_clean (text_clean {s = s} h) = token_of_text_clean s h
 
-record IsCleanBody (x : WrittenBody) : Type 0 where
+record IsCleanBody (x : WrittenQuotedText) : Type 0 where
   bytes : IsClean x.bytes
   meaning : IsCleanValue x.meaning
 

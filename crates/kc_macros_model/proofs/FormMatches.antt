@@ -6,7 +6,7 @@ use Rattle.std.proofs.lemmas.Slice.Eq.{bytes_eq-Decides}
 use Rattle.kc_tree_model.specs.Limits.{is_in_list}
 use Rattle.kc_macros_model.specs.Variables.{Value}
 use Rattle.kc_macros_model.specs.declared.token_sort.TokenSort.TheVariants.{Word, Quoted}
-use Rattle.kc_macros_model.specs.WrittenTokens.{is_bare_byte, is_keyword, WrittenToken, written_as, in_quotes_of, token_of_value, token_of_body, WrittenBody}
+use Rattle.kc_macros_model.specs.WrittenTokens.{is_bare_byte, is_keyword, WrittenToken, written_as, in_quotes_of, token_of_value, token_of_body, WrittenQuotedText}
 use Rattle.kc_macros_model.specs.Assignments.{is_gap, is_unknown}
 use Rattle.kc_macros_model.specs.LineForms.{SourceSort, LineForm, plain, bare_prompt, replaced_by, named_choice, sources, prompt_words, source_words, help_words, sort_of_source, is_word, is_path, is_bare_prompt, form_of_pair, form_by_word, form_of, without_gaps, is_help_line, is_undecided}
 use Rattle.kc_macros_model.proofs.TextMatches.{NoLess, unknown, same}
@@ -84,7 +84,7 @@ no_effect t u ts us e f g h = record { form = no_source e f; help = h ∙ sym g 
 data KnownRest : List WrittenToken → List WrittenToken → Type 0 where
   none_known : KnownRest [] []
   next_same : {t : WrittenToken} {ts us : List WrittenToken} → KnownRest ts us → KnownRest (t ∷ ts) (t ∷ us)
-  next_quoted : (quote : ℕ) (x y : WrittenBody) {ts us : List WrittenToken} → NoLess x.meaning y.meaning → KnownRest ts us
+  next_quoted : (quote : ℕ) (x y : WrittenQuotedText) {ts us : List WrittenToken} → NoLess x.meaning y.meaning → KnownRest ts us
       → KnownRest (token_of_body quote x ∷ ts) (token_of_body quote y ∷ us)
 
 either_false : (x y : Bool) → (x || y) ≡ false → y ≡ false
@@ -127,7 +127,7 @@ any_form (named_choice s) = no_source refl refl
 any_form (sources sort v) = same_source sort (value_no_less v)
 
 -- quoted second tokens
-quoted_pair : (word : List ℕ) (quote : ℕ) (x y : WrittenBody) → NoLess x.meaning y.meaning → FormNoLess (form_of_pair word (token_of_body quote x))
+quoted_pair : (word : List ℕ) (quote : ℕ) (x y : WrittenQuotedText) → NoLess x.meaning y.meaning → FormNoLess (form_of_pair word (token_of_body quote x))
     (form_of_pair word (token_of_body quote y))
 quoted_pair word quote x y n = by_test (is_in_list word source_words) refl
   where
@@ -136,7 +136,7 @@ quoted_pair word quote x y n = by_test (is_in_list word source_words) refl
     by_test true e = subst (λ f. FormNoLess f (form_of_pair word (token_of_body quote y))) (sym (sourced x))
         (subst (λ f. FormNoLess (sources (sort_of_source word) x.meaning) f) (sym (sourced y)) (same_source (sort_of_source word) n))
       where
-        sourced : (z : WrittenBody) → form_of_pair word (token_of_body quote z) ≡ sources (sort_of_source word) z.meaning
+        sourced : (z : WrittenQuotedText) → form_of_pair word (token_of_body quote z) ≡ sources (sort_of_source word) z.meaning
         sourced z = ap (λ c. cond (c && true) (sources (sort_of_source word) z.meaning)
             (cond (bytes_eq word (codes "choice") && false) (named_choice (token_of_body quote z).bytes)
             (cond (bytes_eq word (codes "option") && bytes_eq (token_of_body quote z).bytes (codes "defconfig_list")) (replaced_by (codes "depends on n"))

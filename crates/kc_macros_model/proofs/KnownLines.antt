@@ -8,7 +8,7 @@ use Rattle.kc_macros_model.specs.Variables.{Value, value_length, joined_values, 
 use Rattle.kc_macros_model.specs.Expansion.{spends, text_value}
 use Rattle.kc_macros_model.specs.LineTokens.{LineToken, gap, run, quoted, other, broken, token_bytes}
 use Rattle.kc_macros_model.specs.declared.token_sort.TokenSort.TheVariants.{Word, Quoted, Other}
-use Rattle.kc_macros_model.specs.WrittenTokens.{is_bare_byte, is_keyword, in_quotes_of, WrittenToken, written_as, token_of_text, token_of_value, WrittenBody, body_of_value, joined_bodies, written_item, written_items, token_of_body, run_value, written_run, written_token}
+use Rattle.kc_macros_model.specs.WrittenTokens.{is_bare_byte, is_keyword, in_quotes_of, WrittenToken, written_as, token_of_text, token_of_value, WrittenQuotedText, body_of_value, joined_bodies, written_item, written_items, token_of_body, run_value, written_run, written_token}
 use Rattle.kc_macros_model.specs.declared.operator.Operator.{Operator}
 use Rattle.kc_macros_model.specs.declared.operator.Operator.TheVariants.{SetsNow, Appends, Sets}
 use Rattle.kc_macros_model.specs.Assignments.{AssignedText, assignment_at, LineContent, assigns, tokens, with_token, is_gap, is_unknown, is_gap_token, is_open_front, assignment_or, line_content, stored, stored_simple, stored_recursive, variable_assigned}
@@ -41,7 +41,7 @@ token_of_value_known : {v : Value} → IsKnown v → IsKnownToken (token_of_valu
 token_of_value_known (known {s = s}) = token_of_text_known s
 
 -- a body whose text is known
-record IsKnownBody (x : WrittenBody) : Type 0 where
+record IsKnownBody (x : WrittenQuotedText) : Type 0 where
   meaning : IsKnown x.meaning
 
 -- a token that is known leaves no front open

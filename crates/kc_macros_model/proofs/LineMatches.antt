@@ -9,7 +9,7 @@ use Rattle.kc_macros_model.specs.Variables.{Value, value_length, joined_values, 
 use Rattle.kc_macros_model.specs.Expansion.{fault, spends, text_value}
 use Rattle.kc_macros_model.specs.LineTokens.{LineToken, gap, run, quoted, other, broken, token_bytes}
 use Rattle.kc_macros_model.specs.declared.token_sort.TokenSort.TheVariants.{Gap, Word, Quoted, Other}
-use Rattle.kc_macros_model.specs.WrittenTokens.{WrittenToken, written_as, token_of_text, token_of_value, WrittenBody, body_of, body_of_value, joined_bodies, written_item, written_items, token_of_body, run_value, written_run, written_token, is_bare_byte, in_quotes_of, is_keyword}
+use Rattle.kc_macros_model.specs.WrittenTokens.{WrittenToken, written_as, token_of_text, token_of_value, WrittenQuotedText, body_of, body_of_value, joined_bodies, written_item, written_items, token_of_body, run_value, written_run, written_token, is_bare_byte, in_quotes_of, is_keyword}
 use Rattle.kc_macros_model.specs.declared.operator.Operator.{Operator}
 use Rattle.kc_macros_model.specs.declared.operator.Operator.TheVariants.{SetsNow, Appends, Sets}
 use Rattle.kc_macros_model.specs.Assignments.{AssignedText, assignment_at, LineContent, assigns, tokens, with_token, is_gap, is_unknown, is_gap_token, is_open_front, assignment_or, line_content, stored, stored_simple, stored_recursive, variable_assigned}
@@ -22,7 +22,7 @@ use Rattle.kc_macros_model.proofs.TextMatches.{NoLess, unknown, same, VariableNo
 -- of two written tokens the second is the same, or has the same quotes and no less known a meaning, or the first is unknown
 pub data TokenNoLess : WrittenToken → WrittenToken → Type 0 where
   same_token : {t : WrittenToken} → is_unknown t ≡ false → TokenNoLess t t
-  quoted_tokens : (quote : ℕ) (x y : WrittenBody) → NoLess x.meaning y.meaning → TokenNoLess (token_of_body quote x) (token_of_body quote y)
+  quoted_tokens : (quote : ℕ) (x y : WrittenQuotedText) → NoLess x.meaning y.meaning → TokenNoLess (token_of_body quote x) (token_of_body quote y)
   unknown_token : (v : Value) → TokenNoLess (token_of_value None) (token_of_value v)
 
 -- of two lists of written tokens of one length, each token of the second is no less known than that of the first
@@ -90,10 +90,10 @@ module _ (w more : World) (ext : Extends w more) (question : List ℕ) (unanswer
   value_matches s = text_matches w more ext question unanswered at b c bindings s
 
   -- bodies with no less a meaning
-  abbrev BodyNoLess : WrittenBody → WrittenBody → Type 0
+  abbrev BodyNoLess : WrittenQuotedText → WrittenQuotedText → Type 0
   BodyNoLess x y = NoLess x.meaning y.meaning
 
-  same_body : (x : WrittenBody) (s : List ℕ) → x.meaning ≡ Some s → M BodyNoLess (returns x) (returns x)
+  same_body : (x : WrittenQuotedText) (s : List ℕ) → x.meaning ≡ Some s → M BodyNoLess (returns x) (returns x)
   same_body x s e = match_return w more ext question unanswered BodyNoLess x x (subst (λ v. NoLess v v) (sym e) (same {s = s}))
 
   value_body : (quote : ℕ) {v u : Value} → NoLess v u → BodyNoLess (body_of_value quote v) (body_of_value quote u)

@@ -12,7 +12,7 @@ use Rattle.kc_macros_model.specs.Variables.{Bindings}
 use Rattle.kc_macros_model.specs.Expansion.{text_value}
 use Rattle.kc_macros_model.specs.LineTokens.{LineToken, gap, run, quoted, other, broken, token_bytes, extent, is_run_byte, run_token, quoted_token, first_token, bytes_of_tokens}
 use Rattle.kc_macros_model.specs.declared.token_sort.TokenSort.TheVariants.{Word, Other}
-use Rattle.kc_macros_model.specs.WrittenTokens.{WrittenToken, written_as, token_of_text, token_of_value, WrittenBody, body_of, joined_bodies, written_items, token_of_body, run_value, written_token}
+use Rattle.kc_macros_model.specs.WrittenTokens.{WrittenToken, written_as, token_of_text, token_of_value, WrittenQuotedText, body_of, joined_bodies, written_items, token_of_body, run_value, written_token}
 use Rattle.kc_macros_model.specs.Assignments.{AssignedText, assignment_to, LineContent, tokens, with_token, is_gap, is_open_front, assignment_or, line_content}
 use Rattle.kc_macros_model.specs.LineForms.{line_bytes}
 use Rattle.kc_macros_model.specs.PlainLines.{is_kept_item, has_dollar, LinesWithoutDollars, is_kept_token, text_of_items, token_as_it_is, is_assignment}
@@ -200,12 +200,12 @@ module _ (at : Place) (b : Bindings) where
   body_stays : (quote : ℕ) {s : List ℕ} {is : List Item} → ArePlainItems s is → written_items at b quote is ≡ returns (body_of s (text_of_items is))
   body_stays quote plain_none = refl
   body_stays quote (plain_byte {c = c} {is = is} e r) =
-      ap (λ x. let p : Program WrittenBody = returns (body_of (cond x (92 ∷ c ∷ []) (c ∷ [])) (c ∷ [])) in
+      ap (λ x. let p : Program WrittenQuotedText = returns (body_of (cond x (92 ∷ c ∷ []) (c ∷ [])) (c ∷ [])) in
       p >>= λ first. written_items at b quote is >>= λ rest. returns (joined_bodies first rest)) e
-      ∙ ap (λ (p : Program WrittenBody). p >>= λ rest. returns (joined_bodies (body_of (c ∷ []) (c ∷ [])) rest)) (body_stays quote r)
+      ∙ ap (λ (p : Program WrittenQuotedText). p >>= λ rest. returns (joined_bodies (body_of (c ∷ []) (c ∷ [])) rest)) (body_stays quote r)
   body_stays quote (plain_escaped {c = c} {d = d} {s = s} {is = is} e r) =
-      ap (λ (p : Program WrittenBody). p >>= λ rest. returns (joined_bodies (body_of (92 ∷ d ∷ []) (d ∷ [])) rest)) (body_stays quote r)
-      ∙ ap (λ x. let p : Program WrittenBody = returns (body_of (x ∷ d ∷ s) (d ∷ text_of_items is)) in p) (sym e)
+      ap (λ (p : Program WrittenQuotedText). p >>= λ rest. returns (joined_bodies (body_of (92 ∷ d ∷ []) (d ∷ [])) rest)) (body_stays quote r)
+      ∙ ap (λ x. let p : Program WrittenQuotedText = returns (body_of (x ∷ d ∷ s) (d ∷ text_of_items is)) in p) (sym e)
 
   run_stays : (s : List ℕ) (x y : Bool) → (x || not y) ≡ true
       → (elim x as (λ z. Program WrittenToken) [
@@ -222,7 +222,7 @@ module _ (at : Place) (b : Bindings) where
   pub token_stays : (t : LineToken) → is_kept_token t ≡ true → written_token at b t ≡ returns (token_as_it_is t)
   token_stays (gap s) e = refl
   token_stays (run s) e = run_stays s (list_any is_plain_dollar (items false 0 s)) (list_any is_reference (items false 0 s)) e
-  token_stays (quoted quote s) e = ap (λ (p : Program WrittenBody). p >>= λ body. returns (token_of_body quote body)) (body_stays quote (kept_items s e))
+  token_stays (quoted quote s) e = ap (λ (p : Program WrittenQuotedText). p >>= λ body. returns (token_of_body quote body)) (body_stays quote (kept_items s e))
   token_stays (other s) e = refl
   token_stays (broken s) e = let z : ⊥ = cc in absurd z
 

@@ -19,7 +19,7 @@ use Rattle.std.specs.Option.{option_map, option_or, option_and_then}
 use Rattle.std.proofs.lemmas.List.{append-nil, append_assoc, take_more, map-append, at_drop_more}
 use Rattle.std.proofs.lemmas.List.Elements.{filter-append}
 use Rattle.kc_dotconfig.proofs.GatheredLines.{at_same, at_other}
-use Rattle.kc_system.proofs.Lists.{get-some}
+use Rattle.kc_solver.proofs.Lists.{get-some}
 use Rattle.kc_tree_model.specs.Trees.{Tree, Choice}
 use Rattle.kc_tree_model.specs.declared.ids.Unit.{Unit as TreeUnit}
 use Rattle.kc_tree_model.specs.declared.ids.Unit.TheVariants.{Symbol as of_symbol, Choice as of_choice}

@@ -9,7 +9,7 @@ ghost use Rattle.kc_minimal.specs.checker.Values.{FitValues, AreGivenBy};
 use crate::symbol_line::{is_n, push_symbol};
 use kc_dotconfig_model::Format;
 use kc_rules::{Settled, Steps, UnitValue, UserValue};
-use kc_system::System;
+use kc_solver::System;
 use kc_tree::Sym;
 use std::alloc::{AllocError, Global};
 

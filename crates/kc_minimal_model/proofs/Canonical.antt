@@ -5,10 +5,10 @@ use Rattle.std.specs.List.{list_any, list_all, flat_map}
 use Rattle.std.proofs.lemmas.Bool.{cases_Bool, false≢true, and_from, and_parts, eqb-true, or_cases, or_left, or_right}
 use Rattle.kc_tree_model.specs.Trees.{Tree}
 use Rattle.kc_tree_model.specs.TreeLookup.{unit_of}
-use Rattle.kc_system.specs.Solutions.{user_of, Solves, FitsUsers}
-use Rattle.kc_system.specs.LeastAssignments.{IsKept, IsCutTo}
-use Rattle.kc_system.proofs.Least.{least_gives}
-use Rattle.kc_system.proofs.OneSolution as solving
+use Rattle.kc_solver.specs.Solutions.{user_of, Solves, FitsUsers}
+use Rattle.kc_solver.specs.LeastAssignments.{IsKept, IsCutTo}
+use Rattle.kc_solver.proofs.Least.{least_gives}
+use Rattle.kc_solver.proofs.OneSolution as solving
 use Rattle.kc_rules_model.specs.declared.profile.Profile.{Profile}
 use Rattle.kc_rules_model.specs.declared.values.UnitValue.{UnitValue}
 use Rattle.kc_rules_model.specs.declared.values.UserValue.{UserValue}

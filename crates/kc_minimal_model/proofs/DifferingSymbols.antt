@@ -3,7 +3,7 @@ use Rattle.std.proofs.Common.{◌≡◌, ◌≢◌, ℕ, IsTrue, List, [], ◌�
 use Rattle.std.specs.List.{filter_map, cons_option}
 use Rattle.kc_tree_model.specs.Trees.{Tree}
 use Rattle.kc_tree_model.specs.TreeLookup.{IsConsistent}
-use Rattle.kc_system.specs.Solutions.{FitsValues}
+use Rattle.kc_solver.specs.Solutions.{FitsValues}
 use Rattle.kc_rules_model.specs.declared.values.UnitValue.{UnitValue}
 use Rattle.kc_rules_model.specs.SymbolValues.{value_of_symbol}
 use Rattle.kc_rules_model.specs.Shapes.{value_fits}

@@ -5,8 +5,8 @@ use Rattle.std.specs.List.{list_any, IsDistinct, range_with_len, AllByRecursion}
 use Rattle.std.proofs.lemmas.Bool.{cases_Bool, cases_eq, false≢true, eqb-true, eq-eqb, or_left, or_right, or_cases}
 use Rattle.kc_tree_model.specs.Trees.{Tree}
 use Rattle.kc_tree_model.specs.TreeLookup.{unit_of}
-use Rattle.kc_system.specs.Solutions.{user_of, FitsUsers}
-use Rattle.kc_system.specs.LeastAssignments.{IsCutTo}
+use Rattle.kc_solver.specs.Solutions.{user_of, FitsUsers}
+use Rattle.kc_solver.specs.LeastAssignments.{IsCutTo}
 use Rattle.kc_rules_model.specs.declared.profile.Profile.{Profile}
 use Rattle.kc_rules_model.specs.declared.values.UnitValue.{UnitValue}
 use Rattle.kc_rules_model.specs.declared.values.UserValue.{UserValue}

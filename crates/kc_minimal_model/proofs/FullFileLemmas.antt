@@ -14,9 +14,9 @@ use Rattle.kc_tree_model.specs.declared.ids.Unit.TheVariants.{Symbol as of_symbo
 use Rattle.kc_value.specs.Lines.{has_newline}
 use Rattle.kc_tree_model.specs.TreeLookup.{unit_of, index_of_unit, title_of_entry}
 use Rattle.std.specs.Str.{is_utf8}
-use Rattle.kc_system.specs.Solutions.{user_of, Solves, FitsUsers}
-use Rattle.kc_system.proofs.Lists.{get-some}
-use Rattle.kc_system.proofs.OneSolution as solving
+use Rattle.kc_solver.specs.Solutions.{user_of, Solves, FitsUsers}
+use Rattle.kc_solver.proofs.Lists.{get-some}
+use Rattle.kc_solver.proofs.OneSolution as solving
 use Rattle.kc_rules_model.specs.declared.profile.Profile.{Profile}
 use Rattle.kc_rules_model.specs.declared.values.UnitValue.{UnitValue}
 use Rattle.kc_rules_model.specs.declared.values.UnitValue.TheVariants.{Tri as TriValue, Text as TextValue, Member as MemberValue}

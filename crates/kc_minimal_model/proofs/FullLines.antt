@@ -11,7 +11,7 @@ use Rattle.kc_dotconfig_model.proofs.TrimmedLines.{low_utf8}
 use Rattle.std.proofs.lemmas.Bool.{cases_Bool, false≢true, and_parts, and_from, or_left, or_right, or_parts, not-true, eq-eqb, eqb-true}
 use Rattle.kc_tree_model.specs.Trees.{Tree, Symbol, Entry, definition, choice_begins, menu_begins, menu_ends, comment}
 use Rattle.kc_tree_model.specs.TreeLookup.{unit_of, title_of_entry}
-use Rattle.kc_system.specs.Solutions.{Solves, FitsUsers, FitsValues}
+use Rattle.kc_solver.specs.Solutions.{Solves, FitsUsers, FitsValues}
 use Rattle.kc_rules_model.specs.declared.profile.Profile.{Profile}
 use Rattle.kc_rules_model.specs.declared.values.UnitValue.{UnitValue}
 use Rattle.kc_rules_model.specs.declared.values.UserValue.{UserValue}

@@ -6,7 +6,7 @@ use Rattle.kc_tree_model.specs.TreeLookup.{IsConsistent}
 use Rattle.kc_tree_model.specs.TreesOfFiles.{IsTreeOfFiles}
 use Rattle.kc_tree_model.proofs.Consistency.Consistent.{tree_is_consistent}
 use Rattle.kc_tree_model.proofs.ReadingLaws.TreesOfRelation.{tree_related}
-use Rattle.kc_system.specs.Dependencies.{HasNoCycle}
+use Rattle.kc_solver.specs.Dependencies.{HasNoCycle}
 use Rattle.kc_rules_model.specs.declared.profile.Profile.{Profile}
 use Rattle.kc_rules_model.specs.Dependencies.{dependencies}
 use Rattle.kc_rules_model.specs.SettledTrees.{IsSettledTree}

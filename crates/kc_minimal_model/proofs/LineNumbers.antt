@@ -6,8 +6,8 @@ use Rattle.std.proofs.lemmas.Bool.{cases_Bool, eqb-true, eq-eqb}
 use Rattle.std.proofs.lemmas.List.{length-map}
 use Rattle.kc_tree_model.specs.Trees.{Tree}
 use Rattle.kc_tree_model.specs.TreeLookup.{IsConsistent}
-use Rattle.kc_system.specs.Solutions.{Solves, FitsUsers}
-use Rattle.kc_system.proofs.Lists.{get-some}
+use Rattle.kc_solver.specs.Solutions.{Solves, FitsUsers}
+use Rattle.kc_solver.proofs.Lists.{get-some}
 use Rattle.kc_rules_model.specs.declared.profile.Profile.{Profile}
 use Rattle.kc_rules_model.specs.declared.values.UnitValue.{UnitValue}
 use Rattle.kc_rules_model.specs.declared.values.UserValue.{UserValue}

@@ -2,7 +2,7 @@
 use Rattle.std.proofs.Common.{◌≡◌, ◌↔◌, ℕ, ◌<◌, ◌≤◌, Bool, true, false, IsTrue, List, Option, length, filter, refl, sym, ap, subst, arith}
 use Rattle.std.specs.List.{list_all}
 use Rattle.kc_tree_model.specs.Trees.{Tree}
-use Rattle.kc_system.specs.Solutions.{FitsUsers, Solves}
+use Rattle.kc_solver.specs.Solutions.{FitsUsers, Solves}
 use Rattle.kc_rules_model.specs.declared.profile.Profile.{Profile}
 use Rattle.kc_rules_model.specs.declared.values.UnitValue.{UnitValue}
 use Rattle.kc_rules_model.specs.declared.values.UserValue.{UserValue}

@@ -5,9 +5,9 @@ use Rattle.std.specs.List.{list_any}
 use Rattle.std.proofs.lemmas.Bool.{false≢true, and_parts, or_cases, eqb-true}
 use Rattle.kc_tree_model.specs.Trees.{Tree}
 use Rattle.kc_tree_model.specs.TreeLookup.{unit_of}
-use Rattle.kc_system.specs.Solutions.{user_of, Solves, UniquelySolves, FitsUsers}
-use Rattle.kc_system.specs.LeastAssignments.{IsKept, IsCutTo}
-use Rattle.kc_system.proofs.Least.{cut_gives}
+use Rattle.kc_solver.specs.Solutions.{user_of, Solves, UniquelySolves, FitsUsers}
+use Rattle.kc_solver.specs.LeastAssignments.{IsKept, IsCutTo}
+use Rattle.kc_solver.proofs.Least.{cut_gives}
 use Rattle.kc_rules_model.specs.declared.profile.Profile.{Profile}
 use Rattle.kc_rules_model.specs.declared.values.UnitValue.{UnitValue}
 use Rattle.kc_rules_model.specs.declared.values.UserValue.{UserValue}

@@ -14,8 +14,8 @@ use Rattle.kc_expr.specs.Expr.{SymbolValue}
 use Rattle.kc_tree_model.specs.Trees.{Tree, Symbol}
 use Rattle.kc_tree_model.specs.declared.ids.Unit.TheVariants.{Symbol as of_symbol, Choice as of_choice}
 use Rattle.kc_tree_model.specs.TreeLookup.{IsConsistent, is_name_byte, unit_of, index_of_unit}
-use Rattle.kc_system.specs.Solutions.{FitsValues}
-use Rattle.kc_system.proofs.Lists.{get-some}
+use Rattle.kc_solver.specs.Solutions.{FitsValues}
+use Rattle.kc_solver.proofs.Lists.{get-some}
 use Rattle.kc_rules_model.specs.declared.values.UnitValue.{UnitValue}
 use Rattle.kc_rules_model.specs.declared.values.UnitValue.TheVariants.{Tri as TriValue, Text as TextValue, Member as MemberValue}
 use Rattle.kc_rules_model.specs.declared.values.UserValue.TheVariants.{Tri as TriUser, Text as TextUser, Lines as LinesUser}

@@ -1,6 +1,6 @@
 -- The headline's premises hold of a tree and files read from bytes.
 use Rattle.std.proofs.Common.{◌≡◌, true, ℕ, List, [], ◌∷◌, Some, None, refl, sym, ◌-◌, length, Contains, arith, ap, subst, ◌∙◌}
-use Rattle.kc_system.proofs.Lists.{get-some, get_from_Contains}
+use Rattle.kc_solver.proofs.Lists.{get-some, get_from_Contains}
 use Rattle.std.specs.Prelude.{codes}
 use Rattle.std.specs.Str.{is_utf8, chars}
 use Rattle.kc_tokens.specs.Token.{next_token}
@@ -15,7 +15,7 @@ use Rattle.kc_tree_model.specs.TreeFiles.{Files, strict_files}
 use Rattle.kc_tree_model.specs.Trees.{Tree}
 use Rattle.kc_tree_model.specs.TreesOfFiles.{IsTreeOfFiles}
 use Rattle.kc_tree_model.proofs.ReadingLaws.TreesOfRelation.{tree_related}
-use Rattle.kc_system.specs.Dependencies.{HasNoCycle}
+use Rattle.kc_solver.specs.Dependencies.{HasNoCycle}
 use Rattle.kc_rules_model.specs.Dependencies.{dependencies}
 use Rattle.kc_rules_model.specs.declared.profile.Profile.TheVariants.{Present}
 use Rattle.kc_rules_model.specs.declared.values.UserValue.TheVariants.{Tri as TriUser}

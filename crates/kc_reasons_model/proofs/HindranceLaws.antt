@@ -16,7 +16,7 @@ use Rattle.kc_tree_model.specs.Trees.{Tree, Symbol, Choice, Range}
 use Rattle.kc_tree_model.specs.TreeLookup.{unit_of, unit_in, unit_of_symbol, index_of_unit, is_same_unit}
 use Rattle.kc_tree_model.specs.declared.ids.Unit.{Unit as TreeUnit}
 use Rattle.kc_tree_model.specs.declared.ids.Unit.TheVariants.{Symbol as of_symbol, Choice as of_choice}
-use Rattle.kc_system.specs.Solutions.{user_of}
+use Rattle.kc_solver.specs.Solutions.{user_of}
 use Rattle.kc_rules_model.specs.declared.profile.Profile.{Profile}
 use Rattle.kc_rules_model.specs.declared.values.UnitValue.{UnitValue}
 use Rattle.kc_rules_model.specs.declared.values.UnitValue.TheVariants.{Tri as TriValue, Text as TextValue, Member as MemberValue}

@@ -11,7 +11,7 @@ use Rattle.kc_expr.specs.Expr.{Environment}
 use Rattle.kc_tree_model.specs.Trees.{Tree, Symbol, ReverseDependency}
 use Rattle.kc_tree_model.specs.TreeLookup.{unit_of}
 use Rattle.kc_tree_model.specs.Blocks.{Position}
-use Rattle.kc_system.specs.Solutions.{user_of}
+use Rattle.kc_solver.specs.Solutions.{user_of}
 use Rattle.kc_rules_model.specs.declared.profile.Profile.{Profile}
 use Rattle.kc_rules_model.specs.declared.values.UnitValue.{UnitValue}
 use Rattle.kc_rules_model.specs.declared.values.UnitValue.TheVariants.{Member as MemberValue}

@@ -10,9 +10,9 @@ use Rattle.kc_value.specs.declared.value.Kind.TheVariants.{Bool as Boolean, Tris
 use Rattle.kc_tree_model.specs.Trees.{Tree, Symbol}
 use Rattle.kc_tree_model.specs.declared.ids.Unit.{Unit as TreeUnit}
 use Rattle.kc_tree_model.specs.declared.ids.Unit.TheVariants.{Symbol as of_symbol, Choice as of_choice}
-use Rattle.kc_system.specs.Solutions.{user_of, Solves, FitsUsers, FitsValues}
-use Rattle.kc_system.proofs.Lists.{get-some, each_set}
-use Rattle.kc_system.proofs.OneSolution as solving
+use Rattle.kc_solver.specs.Solutions.{user_of, Solves, FitsUsers, FitsValues}
+use Rattle.kc_solver.proofs.Lists.{get-some, each_set}
+use Rattle.kc_solver.proofs.OneSolution as solving
 use Rattle.kc_rules_model.specs.declared.profile.Profile.{Profile}
 use Rattle.kc_rules_model.specs.declared.values.UnitValue.{UnitValue}
 use Rattle.kc_rules_model.specs.declared.values.UnitValue.TheVariants.{Tri as TriValue, Text as TextValue, Member as MemberValue}

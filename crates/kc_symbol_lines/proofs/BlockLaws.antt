@@ -3,9 +3,9 @@ use Rattle.std.proofs.Common.{◌≡◌, below_more, ℕ, zero, suc, ◌+◌, �
 use Rattle.std.specs.Prelude.{slice_get, unwrap_or, option_map, IfSome, All}
 use Rattle.std.proofs.lemmas.List.Elements.{All-nil, All-cons}
 use Rattle.kc_expr.specs.between.Arena.{Exprs}
-use Rattle.kc_listing.specs.declared.listing.GroupHead.{GroupHead as CodeHead}
-use Rattle.kc_listing.specs.declared.listing.GroupHead.TheVariants as codes
-use Rattle.kc_listing.specs.between.ListingView.{RepresentsHead}
+use Rattle.kc_parser.specs.declared.listing.GroupHead.{GroupHead as CodeHead}
+use Rattle.kc_parser.specs.declared.listing.GroupHead.TheVariants as codes
+use Rattle.kc_parser.specs.between.ListingView.{RepresentsHead}
 use Rattle.kc_tree_model.specs.Blocks.{Group, GroupHead, side_of, opening, closing, inside, open_blocks}
 use Rattle.kc_tree_model.proofs.NestedTrees.OpenBlocks.{pushed, popped, open_inside}
 use Rattle.kc_checks.specs.between.Summaries.{read_before}

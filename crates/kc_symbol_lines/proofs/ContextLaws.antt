@@ -6,11 +6,11 @@ use Rattle.std.proofs.lemmas.Option.{slice_get-map}
 use Rattle.kc_value.specs.declared.tri.Tri.TheVariants.{N}
 use Rattle.kc_expr.specs.Expr.{alone, constant}
 use Rattle.kc_expr.specs.between.Arena.{Exprs, node_expr}
-use Rattle.kc_listing.specs.declared.listing.Group.{Group as CodeGroup}
-use Rattle.kc_listing.specs.declared.listing.Line.{Line as CodeLine}
-use Rattle.kc_listing.specs.declared.listing.GroupHead.{GroupHead as CodeHead}
-use Rattle.kc_listing.specs.declared.listing.GroupHead.TheVariants as codes
-use Rattle.kc_listing.specs.between.ListingView.{RepresentsHead, RepresentsGroup, line_in}
+use Rattle.kc_parser.specs.declared.listing.Group.{Group as CodeGroup}
+use Rattle.kc_parser.specs.declared.listing.Line.{Line as CodeLine}
+use Rattle.kc_parser.specs.declared.listing.GroupHead.{GroupHead as CodeHead}
+use Rattle.kc_parser.specs.declared.listing.GroupHead.TheVariants as codes
+use Rattle.kc_parser.specs.between.ListingView.{RepresentsHead, RepresentsGroup, line_in}
 use Rattle.kc_tree_model.specs.Statements as model
 use Rattle.kc_tree_model.specs.Blocks.{Group, GroupHead, of_head}
 use Rattle.kc_tree_model.specs.Limits.{names_defined}

@@ -2,7 +2,7 @@
 use Rattle.std.proofs.Common.{◌≡◌, ℕ, ◌+◌, ◌<◌, List, [], ◌∷◌, ◌++◌, length, get_or, drop, map, refl, ap, sym, ◌∙◌, subst, append_assoc, append-nil, add-one, drop-cons}
 use Rattle.std.specs.Prelude.{flat_map}
 use Rattle.std.proofs.Math.Seq.{drop-length}
-use Rattle.kc_listing.specs.declared.listing.Line.{Line}
+use Rattle.kc_parser.specs.declared.listing.Line.{Line}
 use Rattle.kc_symbol_lines.specs.declared.symbol.DefinitionLines.{DefinitionLines}
 use Rattle.kc_symbol_lines.specs.checker.Definitions.{HasEntry}
 use Rattle.kc_symbol_lines.specs.checker.OwnLines.{EnclosingLists}

@@ -4,11 +4,11 @@ use Rattle.std.specs.Prelude.{slice_get, flat_map, All, IfSome}
 use Rattle.std.specs.Global.{Vec}
 use Rattle.std.proofs.lemmas.List.Elements.{All-nil, All-cons, All-append, All-map}
 use Rattle.kc_expr.specs.between.Arena.{Exprs}
-use Rattle.kc_listing.specs.declared.listing.Group.{Group as CodeGroup}
-use Rattle.kc_listing.specs.declared.listing.Line.{Line as CodeLine}
-use Rattle.kc_listing.specs.declared.listing.GroupHead.{GroupHead as CodeHead}
-use Rattle.kc_listing.specs.declared.listing.GroupHead.TheVariants as codes
-use Rattle.kc_listing.specs.between.ListingView.{RepresentsHead, LineNodesExist}
+use Rattle.kc_parser.specs.declared.listing.Group.{Group as CodeGroup}
+use Rattle.kc_parser.specs.declared.listing.Line.{Line as CodeLine}
+use Rattle.kc_parser.specs.declared.listing.GroupHead.{GroupHead as CodeHead}
+use Rattle.kc_parser.specs.declared.listing.GroupHead.TheVariants as codes
+use Rattle.kc_parser.specs.between.ListingView.{RepresentsHead, LineNodesExist}
 use Rattle.kc_tree_model.specs.Blocks.{Group, GroupHead}
 use Rattle.kc_tree_model.specs.Limits.{names_defined}
 use Rattle.kc_tree_model.proofs.Consistency.Lists.{Has}

@@ -7,8 +7,8 @@ use Rattle.kc_expr.specs.Expr.{Expr}
 use Rattle.kc_expr.specs.between.Arena.{Exprs, node_expr}
 use Rattle.kc_statements.specs.between.StatementViews.{attribute_in, if_in}
 use Rattle.kc_statements.specs.declared.statement.Attribute.{Attribute as CodeAttribute}
-use Rattle.kc_listing.specs.declared.listing.Line.{Line as CodeLine}
-use Rattle.kc_listing.specs.between.ListingView.{line_in}
+use Rattle.kc_parser.specs.declared.listing.Line.{Line as CodeLine}
+use Rattle.kc_parser.specs.between.ListingView.{line_in}
 use Rattle.kc_tree_model.specs.Statements as model
 use Rattle.kc_tree_model.specs.Statements.{Attribute}
 use Rattle.kc_tree_model.specs.Blocks.{Group, Line, Position}

@@ -6,7 +6,7 @@ use Rattle.kc_tree_model.specs.Blocks.{Group, Side, side_of, opening, closing, i
 use Rattle.kc_tree_model.specs.Conditions.{GroupInContext, group_in_context, groups_in_context}
 use Rattle.kc_tree_model.specs.Limits.{names_defined}
 use Rattle.kc_tree_model.proofs.Consistency.Lists.{Has, at-has, get_below}
-use Rattle.kc_listing.specs.between.ListingView.{RepresentsGroup}
+use Rattle.kc_parser.specs.between.ListingView.{RepresentsGroup}
 use Rattle.kc_checks.specs.between.Summaries.{read_before, group_at}
 use Rattle.kc_checks.proofs.GroupPlaces.{shown_at, count_is, placed_count, place_numbered}
 use Rattle.kc_builder.specs.between.TreeLines.{HasLines}

@@ -12,9 +12,9 @@ use Rattle.kc_tokens.specs.declared.language.Language.{Language}
 use Rattle.kc_statements.specs.between.StatementViews.{attribute_in, AttributeNodesExist}
 use Rattle.kc_statements.specs.declared.statement.Attribute.{Attribute as CodeAttribute}
 use Rattle.kc_statements.specs.declared.statement.Attribute.TheVariants as attributes
-use Rattle.kc_listing.specs.declared.listing.GroupHead.TheVariants as codes
-use Rattle.kc_listing.specs.declared.listing.Line.{Line as CodeLine}
-use Rattle.kc_listing.specs.between.ListingView.{RepresentsHead, LineNodesExist, line_in}
+use Rattle.kc_parser.specs.declared.listing.GroupHead.TheVariants as codes
+use Rattle.kc_parser.specs.declared.listing.Line.{Line as CodeLine}
+use Rattle.kc_parser.specs.between.ListingView.{RepresentsHead, LineNodesExist, line_in}
 use Rattle.kc_tree_model.specs.Trees.{Tree, Symbol}
 use Rattle.kc_tree_model.specs.TreeLookup.{symbol_named}
 use Rattle.kc_tree_model.specs.Statements.{Attribute, TargetAttribute, select_of, imply_of, config, name_of_head}

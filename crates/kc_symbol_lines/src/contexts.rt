@@ -11,7 +11,7 @@ use super::own_lines::{FileLines, push_located, push_parts, push_prompts};
 use kc_builder::TreeLines;
 use kc_checks::{end_of, part};
 use kc_expr::ExprId;
-use kc_listing::{Group, GroupHead, Line};
+use kc_parser::{Group, GroupHead, Line};
 use kc_statements::Conjuncts;
 use kc_tokens::Language;
 use std::alloc::{AllocError, Global};

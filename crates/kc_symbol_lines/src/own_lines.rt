@@ -9,7 +9,7 @@ ghost use Rattle.kc_symbol_lines.specs.checker.Lists.{each_items};
 use super::contexts::Enclosing;
 use super::located::{LocatedExpr, Position};
 use kc_expr::ExprId;
-use kc_listing::Line;
+use kc_parser::Line;
 use kc_statements::{Attribute, Conjuncts};
 use std::alloc::{AllocError, Global};
 

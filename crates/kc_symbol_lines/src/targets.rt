@@ -10,7 +10,7 @@ ghost use Rattle.kc_symbol_lines.specs.checker.Targets.{target_symbol, target_ke
 use super::contexts::lines_at;
 use super::located::Position;
 use kc_builder::TreeLines;
-use kc_listing::{GroupHead, Line};
+use kc_parser::{GroupHead, Line};
 use kc_statements::{Attribute, ReverseKind};
 use kc_tree::{ItemsWithKeys, Tree};
 use kc_tree_model::Sym;

@@ -1,11 +1,11 @@
 //! Sessions of a system, and what their changes report.
 ghost use Rattle.std.specs.Prelude.{◌≡◌, length, IfOk};
-ghost use Rattle.kc_system.specs.Dependencies.{IsOrder};
+ghost use Rattle.kc_solver.specs.Dependencies.{IsOrder};
 ghost use Rattle.kmin_base_tests.specs.Sums.{row_at};
 
 use super::sums::{Sums, Tally, fit_changes};
 use super::systems::{order_of, sums_of};
-use kc_system::{Order, Report, Session};
+use kc_solver::{Order, ChangedUnits, Session};
 use kmin_fakes::twice;
 use std::alloc::{AllocError, Global};
 use std::process::Abort;
@@ -43,7 +43,7 @@ fn change(
     system: &Sums,
     session: &mut Session<'_, Sums>,
     changes: &[(u32, Option<u32>)],
-) -> Result<Report, AllocError>
+) -> Result<ChangedUnits, AllocError>
     requires system { session.old.system ≡ system.now }
     ensures system { session.new.system ≡ system.now }
 {
@@ -88,7 +88,7 @@ fn reports_of(
     alloc: Global,
     system: &Sums,
     changes: &[(u32, Option<u32>)],
-) -> Result<(Report, Report), Fail> {
+) -> Result<(ChangedUnits, ChangedUnits), Fail> {
     let order = order_of(alloc, system)?;
     let mut session = session_of(alloc, system, &order)?;
     let first = change(rt, alloc, system, &mut session, changes)?;

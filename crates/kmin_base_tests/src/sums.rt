@@ -1,13 +1,13 @@
 //! A small system that keeps both laws, beside that of the rules of a tree.
 ghost use Rattle.std.specs.Prelude.{◌≡◌, ◌^◌, ◌<◌, Option, Some, [], length, nat_eq, IsTrue};
-ghost use Rattle.kc_system.specs.Changes.{FitsChanges};
-ghost use Rattle.kc_system.specs.Dependencies.{IsGraph};
-ghost use Rattle.kc_system.specs.Solutions.{FitsUsers};
+ghost use Rattle.kc_solver.specs.Changes.{FitsChanges};
+ghost use Rattle.kc_solver.specs.Dependencies.{IsGraph};
+ghost use Rattle.kc_solver.specs.Solutions.{FitsUsers};
 ghost use Rattle.kmin_base_tests.specs.Sums.{row_at, sum_rule, IsSmall, IsRow};
 ghost use Rattle.kmin_base_tests.specs.checker.SumLaws.{sums_keep_the_frame, sums_restore};
 ghost use Rattle.std.proofs.Common.{rules};
 
-use kc_system::{Graph, System};
+use kc_solver::{Graph, System};
 use std::alloc::{AllocError, Global};
 
 /// The largest value of a unit.

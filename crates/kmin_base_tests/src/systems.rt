@@ -1,11 +1,11 @@
 //! Orders and solutions of systems, and the texts of their faults.
 ghost use Rattle.std.specs.Prelude.{length, IfOk};
-ghost use Rattle.kc_system.specs.Dependencies.{IsOrder};
-ghost use Rattle.kc_system.specs.Solutions.{FitsUsers};
+ghost use Rattle.kc_solver.specs.Dependencies.{IsOrder};
+ghost use Rattle.kc_solver.specs.Solutions.{FitsUsers};
 ghost use Rattle.kmin_base_tests.specs.Sums.{IsSmall, row_at};
 
 use super::sums::{Sums, Tally, fit_users};
-use kc_system::{Order, OrderFault, kept_units, order, solve};
+use kc_solver::{Order, OrderFault, kept_units, order, solve};
 use kmin_fakes::{is_printed, twice};
 use std::alloc::{AllocError, Global};
 use std::test::Fail;

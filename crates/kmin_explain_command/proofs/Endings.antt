@@ -11,9 +11,9 @@ use Rattle.kmin_report.proofs.WriterLemmas.{lines_append}
 use Rattle.kmin_expansions.specs.JobTexts.{TreeTexts, AreTextsOfJob}
 use Rattle.kmin_trees.specs.LinedTrees.{IsLinedTree}
 use Rattle.kmin_trees.specs.declared.lined_trees.LinedTree.{LinedTree}
-use Rattle.kmin_answers.specs.Stops.{StopsBefore, among_files, at_choices}
-use Rattle.kmin_answers.specs.declared.verb_texts.AnswerText.{AnswerText}
-use Rattle.kmin_answers.specs.between.LoadStops.{StopsOverTree}
+use Rattle.kmin_outputs.specs.Stops.{StopsBefore, among_files, at_choices}
+use Rattle.kmin_outputs.specs.declared.verb_texts.JobOutput.{JobOutput}
+use Rattle.kmin_outputs.specs.between.LoadStops.{StopsOverTree}
 use Rattle.kmin_explain_command.specs.Explains.{Explains}
 use Rattle.kmin_explain_command.specs.Stops.{StopsExplaining, task_of, unknown_text}
 use Rattle.kmin_explain_command.specs.Stops as stops
@@ -24,7 +24,7 @@ use Rattle.kmin_explain_command.specs.between.Ends as ends
 module _ (known : Surroundings) (job : ExplainJob) (tree : LinedTree) (t : TreeTexts) (are : AreTextsOfJob known job.settings t)
     (lined : IsLinedTree t job.settings.tree tree) (taken middle after : SpelledBytes) (failed failed_middle failed_after : ℕ)
     (before : TakesLines taken failed t.lines middle failed_middle) where
-  pub job_answers : (r : Result AnswerText RunError)
+  pub job_answers : (r : Result JobOutput RunError)
       → IfOk r (λ answer. AnswersOver known.content job tree answer.text.items answer.status middle failed_middle after failed_after)
       → IfOk r (λ answer. (t : TreeTexts) × (lines : List ErrorLine) × AreTextsOfJob known job.settings t
       × Explains known.content job t answer.text.items answer.status lines × TakesLines taken failed lines after failed_after)
@@ -56,7 +56,7 @@ module _ (known : Surroundings) (job : ExplainJob) (tree : LinedTree) (t : TreeT
         (lines_append taken middle failed failed_middle t.lines _ after failed_after before h),
   )
 
-  pub job_stops : (counted counted_after : ℕ) (r : Result AnswerText RunError)
+  pub job_stops : (counted counted_after : ℕ) (r : Result JobOutput RunError)
       → IfErr r (λ stop. StopsOver known.content job tree (status_of stop) middle failed_middle after failed_after)
       → IfErr r (λ stop. (lines : List ErrorLine) × StopsExplaining known counted counted_after job (status_of stop) lines × TakesLines taken failed lines after failed_after)
   job_stops counted counted_after (Ok answer) h = tt

@@ -19,12 +19,12 @@ use Rattle.kc_config_reasons.specs.declared.file_lines.FileLines.{FileLines}
 use Rattle.kmin_report.specs.KnownBytes.{AreKnownBytes}
 use Rattle.kmin_report.specs.StandardError.{SpelledBytes, TakesLines}
 use Rattle.kmin_report.specs.StandardError as taking
-use Rattle.kmin_answers.specs.Answers.{none}
-use Rattle.kmin_answers.specs.Strictness.{AllowsNotices}
-use Rattle.kmin_answers.specs.between.LoadResults.{IsLoaded}
-use Rattle.kmin_answers.specs.between.LoadStops.{fragment_notices}
+use Rattle.kmin_outputs.specs.Outputs.{none}
+use Rattle.kmin_outputs.specs.Strictness.{AllowsNotices}
+use Rattle.kmin_outputs.specs.between.LoadResults.{IsLoaded}
+use Rattle.kmin_outputs.specs.between.LoadStops.{fragment_notices}
 use Rattle.kmin_tidy.specs.checker.Readings.{IsFragmentOf}
-use Rattle.kmin_answers.proofs.Sequences.{notices_are, loaded_one, read_one, loaded_append, read_append}
+use Rattle.kmin_outputs.proofs.Sequences.{notices_are, loaded_one, read_one, loaded_append, read_append}
 use Rattle.kmin_explain_command.specs.between.LinedFiles.{IsLinedFile, AreLined}
 
 -- a file whose bytes were read and accepted, and whose notices were reported, is loaded

@@ -18,13 +18,13 @@ use Rattle.kmin_report.specs.declared.run_error.RunError.{RunError}
 use Rattle.kmin_report.specs.between.RunErrors.{status_of}
 use Rattle.kmin_report.proofs.WriterLemmas.{lines_append}
 use Rattle.kmin_trees.specs.declared.lined_trees.LinedTree.{LinedTree}
-use Rattle.kmin_answers.specs.Stops.{StopsAmongFiles}
-use Rattle.kmin_answers.specs.declared.verb_texts.AnswerText.{AnswerText}
-use Rattle.kmin_answers.specs.between.Comparisons.{AreNoticed}
-use Rattle.kmin_answers.specs.between.LoadResults.{lists_of}
-use Rattle.kmin_answers.specs.between.LoadStops.{StopsOverTree}
-use Rattle.kmin_answers.proofs.ReadFailures.{noticing_unfailed}
-use Rattle.kmin_answers.proofs.JobOutputs.{noticed_are, stopped_noticing, stopped_after}
+use Rattle.kmin_outputs.specs.Stops.{StopsAmongFiles}
+use Rattle.kmin_outputs.specs.declared.verb_texts.JobOutput.{JobOutput}
+use Rattle.kmin_outputs.specs.between.Comparisons.{AreNoticed}
+use Rattle.kmin_outputs.specs.between.LoadResults.{lists_of}
+use Rattle.kmin_outputs.specs.between.LoadStops.{StopsOverTree}
+use Rattle.kmin_outputs.proofs.ReadFailures.{noticing_unfailed}
+use Rattle.kmin_outputs.proofs.JobOutputs.{noticed_are, stopped_noticing, stopped_after}
 use Rattle.kmin_explain_command.specs.Explains.{IsExplained}
 use Rattle.kmin_explain_command.specs.Stops.{task_of}
 use Rattle.kmin_explain_command.specs.between.Ends.{AnswersOver, StopsOver}
@@ -74,7 +74,7 @@ module _ (content_of : List ℕ → FileContent) (job : ExplainJob) (tree : Line
     reported = noted after failed_after n;
   }
 
-  pub answers_over : (r : Result AnswerText RunError)
+  pub answers_over : (r : Result JobOutput RunError)
       → IfOk r (λ answer. (read : List Group) (meanings : List (List LineMeaning)) → AreOfSources tree found read meanings
       → IsExplained (explain_job_view job) (sources_of job tree found read meanings) answer.text.items answer.status)
       → IfOk r (λ answer. AreNoticed job.settings.strict (paths_of_job job) found.read middle failed_middle after failed_after)
@@ -106,7 +106,7 @@ module _ (content_of : List ℕ → FileContent) (job : ExplainJob) (tree : Line
       by_lines status (stopped_after content_of (settings_view job.settings) Min found.read.config tree.settled (paths_of_job job)
       (lists_of found.read.chosen.items) taken middle failed failed_middle same p s l.read status after failed_after six n.allowed n.noticed)
 
-  pub stops_over : (r : Result AnswerText RunError) → IfErr r (λ stop. StopsAfterFiles job tree found (status_of stop) middle failed_middle after failed_after)
+  pub stops_over : (r : Result JobOutput RunError) → IfErr r (λ stop. StopsAfterFiles job tree found (status_of stop) middle failed_middle after failed_after)
       → IfErr r (λ stop. StopsOver content_of (explain_job_view job) tree (status_of stop) taken failed after failed_after)
   stops_over (Ok answer) h = tt
   stops_over (Err stop) h = stops_of (status_of stop) h

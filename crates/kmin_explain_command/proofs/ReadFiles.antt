@@ -9,11 +9,11 @@ use Rattle.kc_files.specs.TreeContents.{FileContent}
 use Rattle.kmin_report.specs.Reports.{ErrorLine}
 use Rattle.kmin_report.specs.StandardError.{SpelledBytes, TakesLines}
 use Rattle.kmin_report.specs.StandardError as taking
-use Rattle.kmin_answers.specs.Answers as answers
-use Rattle.kmin_answers.specs.Stops.{StopsAmongFiles}
-use Rattle.kmin_answers.specs.Stops as stops
-use Rattle.kmin_answers.specs.between.LoadStops.{StopsAtPath, at_file, for_memory, load_lines, load_status}
-use Rattle.kmin_answers.proofs.LoadLines.{load_lines_one, load_status_4}
+use Rattle.kmin_outputs.specs.Outputs as answers
+use Rattle.kmin_outputs.specs.Stops.{StopsAmongFiles}
+use Rattle.kmin_outputs.specs.Stops as stops
+use Rattle.kmin_outputs.specs.between.LoadStops.{StopsAtPath, at_file, for_memory, load_lines, load_status}
+use Rattle.kmin_outputs.proofs.LoadLines.{load_lines_one, load_status_4}
 use Rattle.kmin_tidy.specs.checker.Readings.{IsFaulty}
 use Rattle.kmin_tidy.specs.checker.Readings as readings
 

@@ -26,11 +26,11 @@ use Rattle.kmin_trees.specs.AcceptedTrees.{AreAccepted}
 use Rattle.kmin_expansions.specs.JobTexts.{TreeTexts}
 use Rattle.kmin_trees.specs.LinedTrees.{IsLinedTree}
 use Rattle.kmin_trees.specs.declared.lined_trees.LinedTree.{LinedTree}
-use Rattle.kmin_answers.specs.Answers.{Resolve}
-use Rattle.kmin_answers.specs.Strictness.{AllowsNotices}
-use Rattle.kmin_answers.specs.between.Comparisons.{AreNoticed}
-use Rattle.kmin_answers.specs.between.LoadResults.{lists_of}
-use Rattle.kmin_answers.proofs.JobOutputs.{resolved, allowed_are}
+use Rattle.kmin_outputs.specs.Outputs.{Resolve}
+use Rattle.kmin_outputs.specs.Strictness.{AllowsNotices}
+use Rattle.kmin_outputs.specs.between.Comparisons.{AreNoticed}
+use Rattle.kmin_outputs.specs.between.LoadResults.{lists_of}
+use Rattle.kmin_outputs.proofs.JobOutputs.{resolved, allowed_are}
 use Rattle.kmin_explain_command.specs.Explains.{AreSourcesOfJob}
 use Rattle.kmin_explain_command.specs.between.LinedFiles.{AreLined}
 use Rattle.kmin_explain_command.specs.between.Texts.{AreOfSources, paths_of_job, sources_of}

@@ -18,10 +18,10 @@ use Rattle.kmin_options.specs.declared.job.ExplainJob.{ExplainJob}
 use Rattle.kmin_records.specs.declared.output_form.OutputForm.{OutputForm}
 use Rattle.kmin_report.specs.StandardError.{SpelledBytes, TakesLines}
 use Rattle.kmin_trees.specs.declared.lined_trees.LinedTree.{LinedTree}
-use Rattle.kmin_answers.specs.Statuses.{status_of_list}
-use Rattle.kmin_answers.specs.between.Comparisons.{AreNoticed}
-use Rattle.kmin_answers.specs.declared.verb_texts.AnswerText.{AnswerText}
-use Rattle.kmin_answers.proofs.JobOutputs.{lines_kept}
+use Rattle.kmin_outputs.specs.Statuses.{status_of_list}
+use Rattle.kmin_outputs.specs.between.Comparisons.{AreNoticed}
+use Rattle.kmin_outputs.specs.declared.verb_texts.JobOutput.{JobOutput}
+use Rattle.kmin_outputs.proofs.JobOutputs.{lines_kept}
 use Rattle.kmin_explain_command.specs.Explains.{AreExplainedFor, explained_text, IsExplained, symbols_in, unknown_for}
 use Rattle.kmin_explain_command.specs.between.Texts.{AreOfSources, StopsAfterFiles, IsAnswerFor, IsAnswerOf, IsTextOf, paths_of_job, sources_of, status_by}
 use Rattle.kmin_explain_command.specs.between.Texts as after_files
@@ -108,7 +108,7 @@ pub no_status : (flags : ExplainFlags) (g : SourcesModel) (named : List ℕ) →
 no_status flags g named e = rw e refl
 
 -- and so of a result that has both
-pub both_answered : (form : OutputForm) (flags : ExplainFlags) (names : Option (List ℕ)) (by : Sources) (r : Result AnswerText AllocError) (named other : List ℕ) → named ≡ other
+pub both_answered : (form : OutputForm) (flags : ExplainFlags) (names : Option (List ℕ)) (by : Sources) (r : Result JobOutput AllocError) (named other : List ℕ) → named ≡ other
     → IfOk r (λ answer. (read : List Group) (meanings : List (List LineMeaning)) → AreSourcesOf by read meanings
     → IsTextOf form flags (sources_model by read meanings) named answer.text.items)
     → IfOk r (λ answer. (read : List Group) (meanings : List (List LineMeaning)) → AreSourcesOf by read meanings
@@ -120,7 +120,7 @@ both_answered form flags names by (Ok answer) named other is t s = λ read meani
     named_is form flags names (sources_model by read meanings) named other answer.text.items answer.status is (t read meanings are) (s read meanings are)
 
 -- a result that has the answer for the question of a job has that of the job
-pub question_answered : (job : ExplainJob) (question : Question) (by : Sources) (r : Result AnswerText AllocError) → question_view job.question ≡ question
+pub question_answered : (job : ExplainJob) (question : Question) (by : Sources) (r : Result JobOutput AllocError) → question_view job.question ≡ question
     → IfOk r (λ answer. (read : List Group) (meanings : List (List LineMeaning)) → AreSourcesOf by read meanings
     → IsAnswerFor job.settings.output_form question (sources_model by read meanings) (symbols_in (explain_job_view job) (tree_in (config_of by))) answer.text.items answer.status)
     → IfOk r (λ answer. (read : List Group) (meanings : List (List LineMeaning)) → AreSourcesOf by read meanings

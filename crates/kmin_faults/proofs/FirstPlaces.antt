@@ -14,12 +14,12 @@ use Rattle.kc_tree_model.specs.Statements.{name_of_head, type_of}
 use Rattle.kc_tree_model.specs.Blocks.{Group, GroupHead, Line, Position, defined_name, from_head}
 use Rattle.kc_tree_model.specs.Limits.{names_defined}
 use Rattle.kc_tree_model.proofs.Consistency.Lists.{Differ, Differ-once, at_most_once, same_text, text_same}
-use Rattle.kc_listing.specs.declared.listing.Group.{Group as CodeGroup}
-use Rattle.kc_listing.specs.declared.listing.Line.{Line as CodeLine}
-use Rattle.kc_listing.specs.declared.listing.Listing.{Listing}
-use Rattle.kc_listing.specs.declared.listing.GroupHead.{GroupHead as CodeHead}
-use Rattle.kc_listing.specs.declared.listing.GroupHead.TheVariants as codes
-use Rattle.kc_listing.specs.between.ListingView.{RepresentsListing, RepresentsHead, RepresentsGroup, RepresentsGroups, line_in}
+use Rattle.kc_parser.specs.declared.listing.Group.{Group as CodeGroup}
+use Rattle.kc_parser.specs.declared.listing.Line.{Line as CodeLine}
+use Rattle.kc_parser.specs.declared.listing.Listing.{Listing}
+use Rattle.kc_parser.specs.declared.listing.GroupHead.{GroupHead as CodeHead}
+use Rattle.kc_parser.specs.declared.listing.GroupHead.TheVariants as codes
+use Rattle.kc_parser.specs.between.ListingView.{RepresentsListing, RepresentsHead, RepresentsGroup, RepresentsGroups, line_in}
 use Rattle.kc_checks.specs.between.Summaries.{attributes_end, group_at, read_before}
 use Rattle.kc_checks.proofs.GroupPlaces.{IsShownAt, all_before, count_is, none_before, shown_at}
 use Rattle.kmin_faults.specs.FirstPlaces as model

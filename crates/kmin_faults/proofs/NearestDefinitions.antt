@@ -3,7 +3,7 @@ use Rattle.std.proofs.Common.{◌≡◌, inl, inr, ℕ, ◌+◌, ◌<◌, ◌≤
 use Rattle.std.specs.Prelude.{find, nat_le, option_and_then}
 use Rattle.std.proofs.lemmas.Bool.{cases_Bool, eq-eqb, leb-false, ne_eqb, false≢true}
 use Rattle.std.proofs.lemmas.List.{reverse-append, take_all, take_more}
-use Rattle.kc_listing.specs.declared.listing.Group.{Group}
+use Rattle.kc_parser.specs.declared.listing.Group.{Group}
 use Rattle.kmin_faults.specs.FirstPlaces.{later}
 use Rattle.kmin_faults.specs.declared.first_places.TextPlace.{TextPlace}
 use Rattle.kmin_faults.specs.between.StoredDefinitions.{begins_before, defined_by, definition_at, last_line}

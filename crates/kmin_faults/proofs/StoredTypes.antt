@@ -3,7 +3,7 @@ use Rattle.std.proofs.Common.{◌≡◌, ℕ, ◌≤◌, Bool, ◌&&◌, List, l
 use Rattle.std.specs.Prelude.{nat_le, slice_range}
 use Rattle.std.specs.List.{list_any}
 use Rattle.std.proofs.lemmas.Bool.{le-leb}
-use Rattle.kc_listing.specs.declared.listing.Line.{Line}
+use Rattle.kc_parser.specs.declared.listing.Line.{Line}
 use Rattle.kmin_faults.specs.between.StoredDefinitions.{gives_type, has_type}
 
 pub has_type_within : (lines : List Line) (begin end : ℕ) → begin ≤ end → end ≤ length lines

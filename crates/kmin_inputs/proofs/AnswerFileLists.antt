@@ -5,7 +5,7 @@ use Rattle.kc_macros_model.specs.declared.fault.AnswersKind.{AnswersKind}
 use Rattle.kc_macros_model.specs.declared.fault.AnswersKind.TheVariants.{Malformed, TwoAnswers, NotUtf8, LineTooLong, TooManyLines, TooLarge, Read, OutOfMemory}
 use Rattle.kc_macros_model.specs.declared.fault.AnswersFault.{AnswersFault}
 use Rattle.kc_macros_model.specs.AnswerFiles.{RecordedAnswers, complete, cut_by, answers_read}
-use Rattle.kc_answers.specs.ReadAnswers.{AreRecorded, IsRefused, ReadsToEnd, end_of_file}
+use Rattle.kc_answers.specs.ReadAnswers.{AreRecorded, AreAnswersRefused, ReadsToEnd, end_of_file}
 use Rattle.kc_files.specs.TreeContents.{FileContent}
 use Rattle.kmin_report.specs.KnownBytes.{AreKnownBytes}
 use Rattle.kmin_disk.specs.Contents.{OpensAs}
@@ -51,7 +51,7 @@ module _ (content : FileContent) (path : List ℕ) (before after : Option (List 
   refused_by failed failed_after bytes fault (Some TooManyLines) h e r = absurd e
   refused_by failed failed_after bytes fault (Some OutOfMemory) h e r = absurd e
 
-  refused_file : (failed failed_after : ℕ) (fault : AnswersFault) → IsRefused before after failed failed_after earlier fault
+  refused_file : (failed failed_after : ℕ) (fault : AnswersFault) → AreAnswersRefused before after failed failed_after earlier fault
       → answers_lines path fault.line fault.kind ≡ answers_line path fault.line fault.kind ∷ []
       → StopsAtAnswersPath content earlier path (answers_status fault.kind) (answers_lines path fault.line fault.kind)
   refused_file failed failed_after fault r l =
@@ -101,7 +101,7 @@ on_ok_map (Ok x) P Q f h = f h
 on_ok_map (Err e) P Q f h = tt
 
 pub reports_fault : (left left_after : Option (List ℕ)) (failed failed_after : ℕ) (earlier : RecordedAnswers) (fault : AnswersFault)
-    → (fault.kind ≡ OutOfMemory) ⊎ IsRefused left left_after failed failed_after earlier fault
+    → (fault.kind ≡ OutOfMemory) ⊎ AreAnswersRefused left left_after failed failed_after earlier fault
     → ReportsAnswersFault left left_after failed failed_after earlier fault
 reports_fault left left_after failed failed_after earlier fault (inl e) = steps.for_memory e
 reports_fault left left_after failed failed_after earlier fault (inr r) = steps.refused r

@@ -11,7 +11,7 @@ use Rattle.kc_macros_model.specs.declared.fault.AnswersKind.{AnswersKind}
 use Rattle.kc_macros_model.specs.declared.fault.AnswersKind.TheVariants.{Malformed, TwoAnswers, NotUtf8, LineTooLong, TooManyLines, TooLarge, Read, OutOfMemory}
 use Rattle.kc_macros_model.specs.declared.fault.AnswersFault.{AnswersFault}
 use Rattle.kc_macros_model.specs.AnswerFiles.{RecordedAnswers, AnswerLine, comment, answer, command, malformed, meaning_of_line, is_same_answer, LinesSoFar, fault_at, one_line_more, with_answer, malformed_line, with_meaning, fault_of_size, fault_of_line, with_line, FileEnd, complete, cut_by, unless_waiting, recorded_at_end, cut_line, and_then, recorded_from, first_line, answers_read}
-use Rattle.kc_answers.specs.ReadAnswers.{IsRefused, ReadsToEnd, end_of_file}
+use Rattle.kc_answers.specs.ReadAnswers.{AreAnswersRefused, ReadsToEnd, end_of_file}
 use Rattle.kc_files.specs.TreeContents.{HasRisen}
 use Rattle.kmin_inputs.specs.AnswerStops.{answers_status}
 
@@ -128,7 +128,7 @@ cut_rises after failed failed_after bytes (Some kind) h e =
 
 -- an answer file that is refused for a failed read had one
 pub refused_for_read : (before after : Option (List ℕ)) (failed failed_after : ℕ) (earlier : RecordedAnswers) (fault : AnswersFault)
-    → IsRefused before after failed failed_after earlier fault → fault.kind ≡ Read → HasRisen failed failed_after
+    → AreAnswersRefused before after failed failed_after earlier fault → fault.kind ≡ Read → HasRisen failed failed_after
 refused_for_read before after failed failed_after earlier fault r k =
     cut_rises after failed failed_after r.bytes r.cut r.ended (read_is_cut (end_of_file r.cut) r.bytes earlier fault r.read k)
 
@@ -144,7 +144,7 @@ status_of_read TooLarge e = absurd (omega arith)
 
 -- an answer file that ends a run with the status of a failed read had one
 pub ended_for_read : (before after : Option (List ℕ)) (failed failed_after : ℕ) (earlier : RecordedAnswers) (fault : AnswersFault) (status : ℕ)
-    → (fault.kind ≡ OutOfMemory) ⊎ IsRefused before after failed failed_after earlier fault → status ≡ answers_status fault.kind → status ≡ 5
+    → (fault.kind ≡ OutOfMemory) ⊎ AreAnswersRefused before after failed failed_after earlier fault → status ≡ answers_status fault.kind → status ≡ 5
     → HasRisen failed failed_after
 ended_for_read before after failed failed_after earlier fault status (inl e) s five =
     let read : fault.kind ≡ Read = status_of_read fault.kind (sym s ∙ five) in

@@ -9,7 +9,7 @@ use Rattle.kmin_report.specs.StandardError.{SpelledBytes, TakesLines}
 use Rattle.kmin_report.specs.Reports.{ErrorLine, last_lines}
 use Rattle.kmin_report.proofs.WriterLemmas.{lines_append}
 use Rattle.kmin_lines.specs.WordFiles.{files_of}
-use Rattle.kmin_words.specs.Inputs.{inputs_named, is_input}
+use Rattle.kmin_cli.specs.Inputs.{inputs_named, is_input}
 use Rattle.kmin_inputs.specs.ListFiles.{IsListRead, StopsReadingList, list_content}
 use Rattle.kmin_inputs.specs.WordFiles.{AreFilesRead, none, file, StopsAtWords, unread}
 use Rattle.kmin_inputs.specs.WordFiles as stops

@@ -5,7 +5,7 @@ mod file_names;
 mod messages;
 mod output;
 mod plain_messages;
-mod report;
+mod message;
 mod run_error;
 mod symbol_names;
 
@@ -13,6 +13,6 @@ pub use file_names::file_name;
 pub use messages::Messages;
 pub use output::{exit_status, write_answer};
 pub use plain_messages::PlainMessages;
-pub use report::{Report, write_plain_line};
+pub use message::{Message, write_plain_line};
 pub use run_error::RunError;
 pub use symbol_names::name_of;

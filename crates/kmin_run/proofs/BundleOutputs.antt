@@ -26,18 +26,18 @@ use Rattle.kmin_report.specs.declared.run_error.RunError.{RunError}
 use Rattle.kmin_report.specs.Reports.{ErrorLine, notice_lines, choice_notice_lines, last_lines}
 use Rattle.kmin_report.specs.StandardError.{SpelledBytes, TakesLines}
 use Rattle.kmin_trees.specs.AcceptedTrees.{AreAccepted}
-use Rattle.kmin_answers.specs.Answers.{Resolve, of_files}
-use Rattle.kmin_answers.specs.Stops.{StopsAmongFiles}
+use Rattle.kmin_outputs.specs.Outputs.{Resolve, of_files}
+use Rattle.kmin_outputs.specs.Stops.{StopsAmongFiles}
 use Rattle.kmin_run.specs.Bundles.{IsBundle}
-use Rattle.kmin_run.specs.BundleAnswers.{AnswersBundle, StopsInBundle, StopsOnBundle, at_tree, in_configuration, bundle_content, bundle_files, bundle_settings}
-use Rattle.kmin_run.specs.BundleAnswers as bundles
-use Rattle.kmin_answers.specs.between.LoadResults.{AreLoaded}
-use Rattle.kmin_answers.specs.between.LoadStops.{StopsLoad, fragment_notices}
+use Rattle.kmin_run.specs.BundleOutputs.{AnswersBundle, StopsInBundle, StopsOnBundle, at_tree, in_configuration, bundle_content, bundle_files, bundle_settings}
+use Rattle.kmin_run.specs.BundleOutputs as bundles
+use Rattle.kmin_outputs.specs.between.LoadResults.{AreLoaded}
+use Rattle.kmin_outputs.specs.between.LoadStops.{StopsLoad, fragment_notices}
 use Rattle.kmin_report.specs.between.RunErrors.{status_of}
 use Rattle.kmin_trees.specs.between.TreeStops.{StopsAtTexts, at_texts, for_memory}
 use Rattle.kmin_report.proofs.WriterLemmas.{lines_append}
-use Rattle.kmin_answers.proofs.Sequences.{stopped_at, stopped_path, loaded_from, loaded_one}
-use Rattle.kmin_answers.proofs.JobOutputs.{resolved}
+use Rattle.kmin_outputs.proofs.Sequences.{stopped_at, stopped_path, loaded_from, loaded_one}
+use Rattle.kmin_outputs.proofs.JobOutputs.{resolved}
 
 -- a tree has the language of the files in which it was read
 language_of_groups : (language : Language) (groups : List Group) → (tree_of_groups language groups).language ≡ language

@@ -19,18 +19,18 @@ use Rattle.kmin_report.specs.declared.run_error.RunError.{RunError}
 use Rattle.kmin_report.specs.declared.run_error.RunError.TheVariants.{Tree, Configuration, Failed, Memory}
 use Rattle.kmin_report.specs.between.RunErrors.{status_of}
 use Rattle.kmin_options.specs.Jobs.{ExplainJob, Settings, Questions, Task}
-use Rattle.kmin_words.specs.Parses.{AreParsedBeside, AreReadAs}
-use Rattle.kmin_words.specs.WordOrder.{command_first}
-use Rattle.kmin_words.specs.declared.command_line.ParsedWords.{ParsedWords}
+use Rattle.kmin_cli.specs.Parses.{AreParsedBeside, AreReadAs}
+use Rattle.kmin_cli.specs.WordOrder.{command_first}
+use Rattle.kmin_cli.specs.declared.command_line.ParsedWords.{ParsedWords}
 use Rattle.kmin_inputs.specs.FileContents.{Surroundings}
 use Rattle.kmin_expansions.specs.JobTexts.{TreeTexts, AreTextsOfJob}
 use Rattle.kmin_expansions.specs.WantedQuestions.{AreAsked, AsksInPart, StopsWanting, questions_text}
-use Rattle.kmin_answers.specs.Answers.{Answer}
+use Rattle.kmin_outputs.specs.Outputs.{Answer}
 use Rattle.kmin_explain_command.specs.Explains.{Explains}
 use Rattle.kmin_explain_command.specs.Stops.{ExplainsInPart, StopsExplaining}
-use Rattle.kmin_run.specs.PartialAnswers.{AnswersInPart}
-use Rattle.kmin_answers.specs.Statuses.{status_of_list}
-use Rattle.kmin_answers.specs.Stops.{Stops}
+use Rattle.kmin_run.specs.PartialOutputs.{AnswersInPart}
+use Rattle.kmin_outputs.specs.Statuses.{status_of_list}
+use Rattle.kmin_outputs.specs.Stops.{Stops}
 use Rattle.kmin_run.specs.TidyRuns.{Outputs}
 use Rattle.kmin_run.specs.Runs as runs
 use Rattle.kmin_run.specs.Runs.{AreReadForChanges, AreReadForTidying, AskForChanges, AskForTidying, BundleEnds, Ends, ExplainEnds, Input, JobEnds, MayChangeFiles, QuestionsEnd, ReadEnd, WordsEnd, IsOfFault, IsTidying}

@@ -5,10 +5,10 @@ use Rattle.kmin_disk.specs.Disks.{Disk}
 use Rattle.kmin_options.specs.Jobs.{Settings, Task}
 use Rattle.kmin_inputs.specs.FileContents.{Surroundings}
 use Rattle.kmin_expansions.specs.JobTexts.{TreeTexts, AreTextsOfJob}
-use Rattle.kmin_answers.specs.Answers.{Answer}
+use Rattle.kmin_outputs.specs.Outputs.{Answer}
 use Rattle.kmin_report.specs.Reports.{ErrorLine, last_lines}
 use Rattle.kmin_report.specs.StandardError.{SpelledBytes, TakesLines}
-use Rattle.kmin_answers.specs.Stops.{StopsBefore}
+use Rattle.kmin_outputs.specs.Stops.{StopsBefore}
 use Rattle.kmin_run.specs.Saves.{IsUnsaved, SaveEnds, at_file, before_answer, update_lines, update_status}
 use Rattle.kmin_report.specs.declared.run_error.RunError.{RunError}
 use Rattle.kmin_report.specs.between.RunErrors.{status_of}

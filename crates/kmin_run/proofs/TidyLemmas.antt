@@ -1,7 +1,7 @@
 -- Ends of runs over files: their statuses, their lines, and where nothing is written.
 use Rattle.std.proofs.Common.{◌≡◌, ◌≢◌, ℕ, ◌≤◌, ◌⊎◌, inl, inr, List, [], ◌∷◌, ◌++◌, Option, Some, None, refl, sym, ap, ◌∙◌, subst, max, arith, codes, option_map}
 use Rattle.std.specs.Prelude.{bytes_eq, Bool, true, false}
-use Rattle.kmin_tidy.specs.Options.{Settings, settings_of}
+use Rattle.kmin_tidy.specs.Options.{TidySettings, settings_of}
 use Rattle.kmin_disk.specs.Disks.{Disk}
 use Rattle.kmin_tidy.specs.Runs.{DoneFile, status_of, status_with}
 use Rattle.kmin_tidy.specs.Ends.{Ends, whole, part, stopped, Stops, before_write, at_write, at_left}
@@ -56,7 +56,7 @@ small n (inr (inl e)) = omega arith
 small n (inr (inr (inl e))) = omega arith
 small n (inr (inr (inr e))) = omega arith
 
-module _ (s : Settings) (old new : Disk) (paths : List (List ℕ)) (reports : List ErrorLine) (status : ℕ) where
+module _ (s : TidySettings) (old new : Disk) (paths : List (List ℕ)) (reports : List ErrorLine) (status : ℕ) where
   stops_small : Stops s old new paths reports status → status ≤ 6
   stops_small (before_write between front back text earlier made p t n r e) = omega arith
   stops_small (at_write between front back path text earlier made p t b u r e) = omega arith
@@ -123,7 +123,7 @@ module _ (taken middle taken_after : SpelledBytes) (failed failed_middle failed_
       let same = settings_are settled format settings flags options p q o in (
         accepted.0.lines ++ ends.0,
         over_files accepted.0 (tree_of_settled settled) ends.0 accepted.1 accepted.2
-            (subst (λ (s : Settings). GoesOver s old new paths ends.0 status) same run) refl,
+            (subst (λ (s : TidySettings). GoesOver s old new paths ends.0 status) same run) refl,
         lines_append taken middle failed failed_middle accepted.0.lines ends.0 taken_after failed_after accepted.3 ends.2,
       )
 

@@ -3,7 +3,7 @@ use Rattle.std.proofs.Common.{◌≡◌, ◌≢◌, ℕ, Bool, true, false, List
 use Rattle.std.proofs.Math.Seq.{take-append_seam}
 use Rattle.std.specs.Str.{bytes_eq}
 use Rattle.std.proofs.lemmas.Slice.Eq.{bytes_eq-Decides}
-use Rattle.kc_system.specs.Solutions.{UniquelySolves}
+use Rattle.kc_solver.specs.Solutions.{UniquelySolves}
 use Rattle.kc_rules_model.specs.declared.values.UnitValue.{UnitValue}
 use Rattle.kc_rules_model.specs.declared.values.UserValue.{UserValue}
 use Rattle.kc_rules_model.specs.Rule.{rule}
@@ -26,7 +26,7 @@ use Rattle.kmin_disk.specs.declared.kind.FileKind.{FileKind}
 use Rattle.kmin_disk.specs.declared.kind.FileKind.TheVariants.{NotRegular as KindNotRegular}
 use Rattle.kmin_disk.specs.declared.fault.ReplaceFault.{ReplaceFault}
 use Rattle.kmin_disk.specs.declared.fault.ReplaceFault.TheVariants.{NotRegular, Unchanged, NamesTaken, Left, FolderNotSynced, OutOfMemory}
-use Rattle.kmin_tidy.specs.Options.{Settings, Notices, settings_of, refuses_notices}
+use Rattle.kmin_tidy.specs.Options.{TidySettings, Notices, settings_of, refuses_notices}
 use Rattle.kc_tree_model.specs.Trees.{Tree}
 use Rattle.kc_dotconfig_model.specs.ConfigLines.{LineMeaning}
 use Rattle.kc_dotconfig_model.specs.ConfigFiles.{notices_from}
@@ -51,7 +51,7 @@ use Rattle.kmin_tidy.specs.declared.report.Problem.{Problem}
 use Rattle.kmin_tidy.specs.declared.report.Problem.TheVariants.{Fault, Write, NotRegular as ProblemNotRegular}
 use Rattle.kmin_tidy.specs.declared.report.FileReport.{FileReport}
 use Rattle.kmin_tidy.specs.declared.file_step.FileEnd.{FileEnd}
-use Rattle.kmin_tidy.specs.declared.stop.Stop.{Stop}
+use Rattle.kmin_tidy.specs.declared.stop.TidyStop.{TidyStop}
 use Rattle.kmin_tidy.proofs.RefusalLemmas.{refused_by, lines_of_problem, lines_of_notices}
 
 -- bytes for which the test `==` gives `false` differ
@@ -65,7 +65,7 @@ agree least bytes test e t = (bytes_eq-Decides least bytes).0 (sym e ∙ t)
 pub kind_not_special : (content : Option Content) (kind : FileKind) → IsOfKind content kind → kind ≢ KindNotRegular → content ≢ Some special
 kind_not_special content kind k other = λ e. other (subst (λ c. IsOfKind c kind) e k)
 
-module _ (s : Settings) (a : Disk) (path : List ℕ) (report : FileReport) where
+module _ (s : TidySettings) (a : Disk) (path : List ℕ) (report : FileReport) where
   -- under `write`, the step of a path that leads to a link, a folder, a pipe or a device is its refusal
   pub not_regular_step : s.options.write ≡ true → IsOfKind (content_at a.state path) KindNotRegular → report.notices.items ≡ []
       → report.problem ≡ Some ProblemNotRegular → report.outcome ≡ Failed → Step s a a path [] (report_lines s.tree path report) report.outcome
@@ -119,7 +119,7 @@ module _ (s : Settings) (a : Disk) (path : List ℕ) (report : FileReport) where
       (lines_with noted Write n (p ∙ q)) (r ∙ o)
 
 -- a run that ends at the comparison of a file with its minimal file, or at its replacement, ends at that file
-pub stops_rewrite : (s : Settings) (a b : Disk) (path bytes least : List ℕ) (notices : Notices) (stop : Stop) → Minimises s a.state path bytes least notices
+pub stops_rewrite : (s : TidySettings) (a b : Disk) (path bytes least : List ℕ) (notices : Notices) (stop : TidyStop) → Minimises s a.state path bytes least notices
     → StopsRewrite s.options.write a b path bytes least stop → StopsFile s a b path stop
 stops_rewrite s a b path bytes least notices stop m (inl h) = inl (h.0, inl h.1)
 stops_rewrite s a b path bytes least notices stop m (inr h) =
@@ -189,7 +189,7 @@ written_by a b path least (Left new_path) end l f k t h = absurd h
 written_by a b path least FolderNotSynced end l f k t h = results.not_synced (record { replaced = l; failures = f }) h.0 h.1 h.2
 written_by a b path least OutOfMemory end l f k t h = absurd h
 
-pub stopped_by : (a b : Disk) (path least : List ℕ) (fault : ReplaceFault) (stop : Stop) → FaultLeaves a.state b.state path least fault
+pub stopped_by : (a b : Disk) (path least : List ℕ) (fault : ReplaceFault) (stop : TidyStop) → FaultLeaves a.state b.state path least fault
     → b.failures ≡ failures_of_fault a.failures fault → IsStoppedBy fault stop → StopsWrite a b path stop
 stopped_by a b path least NotRegular stop l f h = absurd h
 stopped_by a b path least Unchanged stop l f h = absurd h

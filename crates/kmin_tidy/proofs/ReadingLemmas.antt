@@ -10,7 +10,7 @@ use Rattle.kc_dotconfig_model.specs.ConfigFiles.{FileMeans}
 use Rattle.kc_dotconfig_model.specs.LoadFaults.{IsAccepted, IsConsideredAt, IsFirstFault, complete, cut_short}
 use Rattle.kc_dotconfig.specs.declared.fragment.Fragment.{Fragment}
 use Rattle.kc_dotconfig.specs.Fragments.{FitsTree}
-use Rattle.kc_dotconfig.specs.ReadResults.{IsReadAs, IsRefused, ReportsFault}
+use Rattle.kc_dotconfig.specs.ReadResults.{IsReadAs, IsFileRefused, ReportsFault}
 use Rattle.kc_value.specs.declared.limits.TheConstants.{MAX_CONFIG_BYTES}
 use Rattle.kc_value.specs.declared.reader_bytes.ReadEnd.{ReadEnd}
 use Rattle.kc_value.specs.declared.reader_bytes.ReadEnd.TheVariants.{AtEnd, AtLimit, AtFailure}
@@ -51,7 +51,7 @@ module _ (format : FileFormat) (tree : Tree) (bytes : List ℕ) where
   whole_first None kind number known h (inr k) = absurd h
   whole_first (Some rest) kind number known h (inr k) = subst (λ b. IsFirstFault format tree complete b kind number) (sym h) (k rest)
 
-  refused_whole : (after : Option (List ℕ)) (kind : LoadKind) (number : ℕ) → kind ≢ Read → IsRefused format tree (Some bytes) after kind number
+  refused_whole : (after : Option (List ℕ)) (kind : LoadKind) (number : ℕ) → kind ≢ Read → IsFileRefused format tree (Some bytes) after kind number
       → IsFaultOf format tree bytes kind number
   refused_whole after kind number other r = inr (other, whole_first after kind number r.known r.consumed r.first)
 
@@ -86,7 +86,7 @@ module _ (format : FileFormat) (tree : Tree) (bytes : List ℕ) where
       subst (λ b. IsFirstFault format tree complete b kind number) (sym (append_assoc known rest more) ∙ ap (λ b. b ++ more) (sym e)) (k (rest ++ more))
 
   refused_part : (rest : List ℕ) (kind : LoadKind) (number : ℕ) → kind ≢ Read
-      → IsRefused format tree (Some (bytes ++ 0 ∷ [])) (Some (rest ++ 0 ∷ [])) kind number → IsFaultOfPart format tree bytes kind number
+      → IsFileRefused format tree (Some (bytes ++ 0 ∷ [])) (Some (rest ++ 0 ∷ [])) kind number → IsFaultOfPart format tree bytes kind number
   refused_part rest kind number other r =
       in_front other (part_first rest kind number r.known (part_front rest r.known r.consumed) r.first)
 

@@ -6,7 +6,7 @@ use Rattle.kc_dotconfig_model.specs.declared.fault.LoadKind.{LoadKind}
 use Rattle.kc_dotconfig_model.specs.declared.fault.LoadKind.TheVariants.{Read, OutOfMemory}
 use Rattle.kmin_disk.specs.Contents.{readable}
 use Rattle.kmin_disk.specs.Disks.{Disk, FailsOnce, MayFailOnce, content_at}
-use Rattle.kmin_tidy.specs.Options.{Settings}
+use Rattle.kmin_tidy.specs.Options.{TidySettings}
 use Rattle.kmin_tidy.specs.MinimalFiles.{MayBeRead}
 use Rattle.kmin_report.specs.Reports.{fault_line}
 use Rattle.kmin_tidy.specs.Reports.{notice_lines}
@@ -23,7 +23,7 @@ use Rattle.kmin_tidy.specs.declared.report.FileReport.{FileReport}
 abbrev pub IsOutcomeOf : LoadKind → FileOutcome → Type 0
 IsOutcomeOf kind outcome = ((kind ≡ Read) × (outcome ≡ Failed)) ⊎ ((kind ≢ Read) × (kind ≢ OutOfMemory) × (outcome ≡ Refused))
 
-module _ (s : Settings) (a b : Disk) (path : List ℕ) (kind : LoadKind) (number : ℕ) (outcome : FileOutcome) (failed : kind ≡ Read → FailsOnce a b)
+module _ (s : TidySettings) (a b : Disk) (path : List ℕ) (kind : LoadKind) (number : ℕ) (outcome : FileOutcome) (failed : kind ≡ Read → FailsOnce a b)
     (once : MayFailOnce a b) where
   -- a file that can't be read or isn't accepted is refused, with the line of its fault on standard error
   pub refused_by : MayBeRead s a.state path → IsFaulty s.format s.tree (readable (content_at a.state path)) kind number → IsOutcomeOf kind outcome

@@ -4,7 +4,7 @@ use Rattle.std.specs.Prelude.{◌≢◌, ◌++◌, bytes_eq, nat_lt, filter_map,
 use Rattle.std.specs.List.{All}
 use Rattle.std.specs.Map.{lookup}
 use Rattle.std.proofs.lemmas.Bool.Decides.{nat_tests}
-use Rattle.kc_listing.specs.between.MemoryFaults.{no_memory}
+use Rattle.kc_parser.specs.between.MemoryFaults.{no_memory}
 use Rattle.std.proofs.lemmas.List.Elements.{All-more, All-weaker, All-same, filter_passes}
 use Rattle.kc_value.specs.declared.reader_bytes.ReadEnd.{ReadEnd}
 use Rattle.kc_value.specs.declared.reader_bytes.ReadEnd.TheVariants.{AtFailure}

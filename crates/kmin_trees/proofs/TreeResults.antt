@@ -11,7 +11,7 @@ use Rattle.kc_rules.specs.declared.fault.SettleFault.TheVariants.{Cycle, OutOfMe
 use Rattle.kc_rules.specs.SettleFaults.{ReportsTreeCycle}
 use Rattle.kc_tree.specs.TreeModel.{TreeModel}
 use Rattle.kc_tree_model.specs.declared.fault.TreeKind.TheVariants.{OutOfMemory}
-use Rattle.kc_listing.specs.between.MemoryFaults.{no_memory}
+use Rattle.kc_parser.specs.between.MemoryFaults.{no_memory}
 use Rattle.kmin_report.specs.declared.run_error.RunError.{RunError}
 use Rattle.kmin_trees.specs.AcceptedTrees.{AreAccepted}
 use Rattle.kmin_trees.specs.Stops.{cyclic}

@@ -4,10 +4,10 @@ use Rattle.kc_tokens.specs.declared.language.Language.{Language}
 use Rattle.kc_expr.specs.between.Arena.{Exprs, node_expr}
 use Rattle.kc_tree_model.specs.Conditions.{GroupInContext, context_of, dependency_of}
 use Rattle.kc_tree_model.specs.Contents.{Contents, definitions_of, symbol_of}
-use Rattle.kc_listing.specs.declared.listing.GroupHead.{GroupHead as CodeHead}
-use Rattle.kc_listing.specs.declared.listing.GroupHead.TheVariants as codes
-use Rattle.kc_listing.specs.declared.listing.Line.{Line as CodeLine}
-use Rattle.kc_listing.specs.declared.listing.SymbolTable.{SymbolTable}
+use Rattle.kc_parser.specs.declared.listing.GroupHead.{GroupHead as CodeHead}
+use Rattle.kc_parser.specs.declared.listing.GroupHead.TheVariants as codes
+use Rattle.kc_parser.specs.declared.listing.Line.{Line as CodeLine}
+use Rattle.kc_parser.specs.declared.listing.SymbolTable.{SymbolTable}
 use Rattle.kc_tree.specs.between.Views.{default_view, range_view, reverse_dependency_view, DefaultFits, RangeFits, HasOperands, ReverseDependencyFits}
 use Rattle.kc_tree.specs.between.GatheredAttributes.{HaveKeys}
 use Rattle.kc_builder.specs.checker.GatheredItems.{gathered_prompt, gathered_default, gathered_range, own_key, target_key, gathered_reverse_dependency, HasAppended}

@@ -4,9 +4,9 @@ use Rattle.std.specs.List.{cons_option}
 use Rattle.kc_statements.specs.declared.statement.Attribute.{Attribute as CodeAttribute}
 use Rattle.kc_statements.specs.declared.statement.Attribute.TheVariants as attributes
 use Rattle.kc_statements.specs.between.StatementViews.{is_prompt, default_given, target_given}
-use Rattle.kc_listing.specs.declared.listing.Line.{Line as CodeLine}
-use Rattle.kc_listing.specs.declared.listing.SymbolTable.{SymbolTable}
-use Rattle.kc_listing.specs.between.SymbolTable.{number_in, text_of_name}
+use Rattle.kc_parser.specs.declared.listing.Line.{Line as CodeLine}
+use Rattle.kc_parser.specs.declared.listing.SymbolTable.{SymbolTable}
+use Rattle.kc_parser.specs.between.SymbolTable.{number_in, text_of_name}
 use Rattle.kc_statements.specs.declared.statement.ReverseKind.{ReverseKind}
 use Rattle.kc_statements.specs.declared.statement.ReverseKind.TheVariants.{Select, Imply}
 use Rattle.kc_tree.specs.declared.items_with_keys.ItemsWithKeys.{ItemsWithKeys}

@@ -4,8 +4,8 @@ use Rattle.kc_tokens.specs.declared.language.Language.{Language}
 use Rattle.kc_tree_model.specs.TreeFiles.{Files}
 use Rattle.kc_tree_model.specs.TreeReading.{reading}
 use Rattle.kc_tree_model.specs.TreeFaults.{first_tree_fault}
-use Rattle.kc_listing.specs.declared.listing.Listing.{Listing}
-use Rattle.kc_listing.specs.between.ListingView.{RepresentsListing}
+use Rattle.kc_parser.specs.declared.listing.Listing.{Listing}
+use Rattle.kc_parser.specs.between.ListingView.{RepresentsListing}
 
 -- a listing represents the statements read from some files in this language that have no fault
 pub record IsOfTree (language : Language) (l : Listing) : Type 0 where

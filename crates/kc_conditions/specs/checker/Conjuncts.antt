@@ -4,7 +4,7 @@ use Rattle.kc_expr.specs.between.Arena.{Exprs, node_expr}
 use Rattle.kc_expr.specs.Expr.{Expr}
 use Rattle.kc_statements.specs.declared.statement.Attribute.{Attribute as CodeAttribute}
 use Rattle.kc_statements.specs.between.StatementViews.{is_prompt, if_given, conjunct_given}
-use Rattle.kc_listing.specs.declared.listing.Line.{Line as CodeLine}
+use Rattle.kc_parser.specs.declared.listing.Line.{Line as CodeLine}
 use Rattle.kc_tree_model.specs.Conditions.{conjunction_of, visible_conjunct}
 use Rattle.kc_conditions.specs.checker.Conjunctions.{Conjoins, conjunct}
 use Rattle.kc_statements.specs.declared.statement.Conjuncts.{Conjuncts}

@@ -5,7 +5,7 @@ use Rattle.kc_files.specs.declared.file_bytes.FileRead.TheVariants.{Missing, Unr
 use Rattle.kc_files.specs.declared.folder_names.FolderRead.{FolderRead as CodeFolder}
 use Rattle.kc_files.specs.declared.folder_names.FolderRead.TheVariants.{Names, TooMany, Unlisted}
 use Rattle.kc_files.specs.TextViews.{texts_of}
-use Rattle.kc_files.specs.declared.store.Store.{Store}
+use Rattle.kc_files.specs.declared.file_cache.FileCache.{FileCache}
 use Rattle.kc_files.specs.between.KnownFiles.{FileRead, missing, unreadable, whole, too_long, FolderRead, names, too_many, unlisted, KnownFiles}
 
 -- the code's result of reading a file, a `CodeFile`, as a `FileRead`
@@ -26,5 +26,5 @@ abbrev pub seen_as : {R A : Type 0} → (R → A) → List (List ℕ × R) → L
 seen_as view table = map (λ e. (e.0, view e.1)) table
 
 -- all files that a store has read and all folders that it has listed
-abbrev pub known_of : Store → KnownFiles
+abbrev pub known_of : FileCache → KnownFiles
 known_of s = record { files = seen_as file_of s.files; folders = seen_as folder_of s.folders }

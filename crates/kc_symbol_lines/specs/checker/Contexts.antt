@@ -1,9 +1,9 @@
 -- The conditions that enclose what is inside blocks, as the code has them.
 use Rattle.std.specs.Prelude.{ℕ, Bool, true, false, List, [], ◌∷◌, ◌++◌, map, Option, Some, None, slice_get, slice_range, if◌then◌else◌}
-use Rattle.kc_listing.specs.declared.listing.Group.{Group}
-use Rattle.kc_listing.specs.declared.listing.Line.{Line}
-use Rattle.kc_listing.specs.declared.listing.GroupHead.{GroupHead}
-use Rattle.kc_listing.specs.declared.listing.GroupHead.TheVariants.{Choice, Menu, Condition}
+use Rattle.kc_parser.specs.declared.listing.Group.{Group}
+use Rattle.kc_parser.specs.declared.listing.Line.{Line}
+use Rattle.kc_parser.specs.declared.listing.GroupHead.{GroupHead}
+use Rattle.kc_parser.specs.declared.listing.GroupHead.TheVariants.{Choice, Menu, Condition}
 use Rattle.kc_checks.specs.between.Summaries.{group_at, attributes_end}
 use Rattle.kc_statements.specs.declared.statement.Conjuncts.TheVariants.{Visibles}
 use Rattle.kc_symbol_lines.specs.declared.located.Position.{Position}

@@ -10,7 +10,7 @@ use Rattle.kc_tree_model.specs.Contents.{contents_of, definitions_of}
 use Rattle.kc_tree_model.specs.Limits.{names_defined}
 use Rattle.kc_reasons_model.specs.SymbolLines.{target_positions}
 use Rattle.kc_statements.specs.declared.statement.Attribute.{Attribute}
-use Rattle.kc_listing.specs.declared.listing.Line.{Line}
+use Rattle.kc_parser.specs.declared.listing.Line.{Line}
 use Rattle.kc_statements.specs.declared.statement.ReverseKind.{ReverseKind}
 use Rattle.kc_statements.specs.declared.statement.ReverseKind.TheVariants.{Select, Imply}
 use Rattle.kc_symbol_lines.specs.declared.located.Position.{Position}

@@ -2,7 +2,7 @@ use Rattle.std.proofs.Common.{◌≡◌, ◌⊎◌, Err, IfErr, None, Some, rule
 use Rattle.std.specs.Prelude.{slice_get}
 use Rattle.kc_tree_model.specs.TreeFaults.{tree_faults}
 use Rattle.kc_tree_model.specs.TreeReading.{reading}
-use Rattle.kc_listing.specs.between.MemoryFaults.{no_memory}
+use Rattle.kc_parser.specs.between.MemoryFaults.{no_memory}
 use Rattle.kc_checks.specs.between.Summaries.{IsSummary}
 use Rattle.kc_builder.specs.checker.Assembly.{IsFaultRead}
 use Rattle.kc_builder.specs.checker.ChoiceDefaults.{IsWalkOf}

@@ -1,7 +1,7 @@
 use Rattle.std.proofs.Common.{◌≡◌, ◌⊎◌, None}
 use Rattle.std.proofs.lemmas.Result.{IfErr-weaker, IfOk-weaker}
 use Rattle.kc_tree_model.specs.TreesOfFiles.{IsReportedFault}
-use Rattle.kc_listing.specs.between.MemoryFaults.{no_memory}
+use Rattle.kc_parser.specs.between.MemoryFaults.{no_memory}
 use Rattle.kc_checks.proofs.ReadSteps.{reported_or_memory, reported_of_reading, reported_of_checks, shown_of_reading, reported_tree_fault}
 use Rattle.kc_builder.specs.checker.Assembly.{IsFaultRead, IsGathered, IsGatheredRead, IsReadIn}
 use Rattle.kc_builder.proofs.tree_reader.read_lists.Goals as goal

@@ -4,9 +4,9 @@ use Rattle.std.specs.Prelude.{All}
 use Rattle.std.proofs.lemmas.List.{get_or_read}
 use Rattle.kc_tree_model.specs.Contents.{contents_of, member_names}
 use Rattle.kc_tree_model.specs.Limits.{names_defined}
-use Rattle.kc_listing.specs.between.ListingView.{RepresentsListing}
-use Rattle.kc_listing.specs.declared.listing.GroupHead.TheVariants as codes
-use Rattle.kc_listing.proofs.NameLemmas.{as_many_names}
+use Rattle.kc_parser.specs.between.ListingView.{RepresentsListing}
+use Rattle.kc_parser.specs.declared.listing.GroupHead.TheVariants as codes
+use Rattle.kc_parser.proofs.NameLemmas.{as_many_names}
 use Rattle.kc_checks.specs.checker.Marks.{AreMarked}
 use Rattle.kc_checks.specs.between.Summaries.{group_at, is_choice_code, no_group}
 use Rattle.kc_checks.proofs.MemberMarks.{members_small}

@@ -5,9 +5,9 @@ use Rattle.kc_conditions.specs.checker.Conjuncts.{AreAppended}
 use Rattle.kc_statements.proofs.ArenaGrowth.{grows_on}
 use Rattle.kc_conditions.proofs.Growth.{joined_on, after_more, none_after, there_on}
 use Rattle.kc_expr.specs.between.Arena.{Exprs, Grows}
-use Rattle.kc_listing.proofs.AppendSteps.{grows_same}
-use Rattle.kc_listing.specs.between.ListingView.{LineNodesExist}
-use Rattle.kc_listing.specs.declared.listing.Line.{Line as CodeLine}
+use Rattle.kc_parser.proofs.AppendSteps.{grows_same}
+use Rattle.kc_parser.specs.between.ListingView.{LineNodesExist}
+use Rattle.kc_parser.specs.declared.listing.Line.{Line as CodeLine}
 use Rattle.kc_statements.specs.between.StatementViews.{AttributeNodesExist}
 use Rattle.kc_statements.proofs.GrownArenas.{attribute_held}
 use Rattle.kc_expr.proofs.StoreLemmas.{represents_on}

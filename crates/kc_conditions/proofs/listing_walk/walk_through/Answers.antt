@@ -3,9 +3,9 @@ use Rattle.std.proofs.lemmas.Grind.{common_steps}
 use Rattle.std.specs.Prelude.{All, slice_range}
 use Rattle.std.proofs.lemmas.List.{get_or_read}
 use Rattle.std.proofs.lemmas.List.Elements.{All-take, All-drop}
-use Rattle.kc_listing.specs.declared.listing.Group.{Group as CodeGroup}
-use Rattle.kc_listing.specs.between.ListingView.{LineNodesExist, RepresentsHead, line_in}
-use Rattle.kc_listing.proofs.ListingGrowth.{lines_held}
+use Rattle.kc_parser.specs.declared.listing.Group.{Group as CodeGroup}
+use Rattle.kc_parser.specs.between.ListingView.{LineNodesExist, RepresentsHead, line_in}
+use Rattle.kc_parser.proofs.ListingGrowth.{lines_held}
 use Rattle.kc_conditions.specs.between.Firsts.{GroupHeadNodesExist}
 use Rattle.kc_checks.specs.between.Summaries.{no_group, group_at, attributes_end, read_before}
 use Rattle.kc_conditions.specs.between.Walks.{HasWalked}

@@ -1,6 +1,6 @@
 use Rattle.std.proofs.Common.{◌≡◌, ◌++◌, take, filter}
 use Rattle.std.specs.Prelude.{is_none}
-use Rattle.kc_system.specs.Solutions.{user_of}
+use Rattle.kc_solver.specs.Solutions.{user_of}
 use Rattle.kc_dotconfig.specs.checker.UserValueOrder.{units_of}
 use Rattle.kc_config.proofs.changes.merge_units.Given as goal
 

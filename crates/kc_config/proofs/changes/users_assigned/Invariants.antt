@@ -1,5 +1,5 @@
 use Rattle.std.proofs.Common.{◌≡◌, ◌≤◌, None, replicate, length, take}
-use Rattle.kc_system.specs.Changes.{changed_users}
+use Rattle.kc_solver.specs.Changes.{changed_users}
 use Rattle.kc_dotconfig.specs.Fragments.{changes_of}
 use Rattle.kc_config.proofs.changes.users_assigned.Given as goal
 

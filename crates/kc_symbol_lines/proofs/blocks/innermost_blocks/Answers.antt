@@ -1,7 +1,7 @@
 use Rattle.std.proofs.Common.{◌≡◌, ◌<◌, ℕ, length, ap, sym, ◌∙◌, subst, arith}
 use Rattle.std.proofs.lemmas.List.{get_or_read}
-use Rattle.kc_listing.specs.between.ListingView.{RepresentsHead}
-use Rattle.kc_listing.specs.declared.listing.Group.{Group as CodeGroup}
+use Rattle.kc_parser.specs.between.ListingView.{RepresentsHead}
+use Rattle.kc_parser.specs.declared.listing.Group.{Group as CodeGroup}
 use Rattle.kc_tree_model.specs.Limits.{names_defined}
 use Rattle.kc_checks.specs.between.Summaries.{no_group, group_at}
 use Rattle.kc_checks.proofs.GroupPlaces.{shown_at, count_is, none_before}

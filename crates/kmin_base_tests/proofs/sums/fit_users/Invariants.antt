@@ -1,5 +1,5 @@
 use Rattle.std.proofs.Common.{◌<◌, ◌≤◌, ℕ, IfSome, length}
-use Rattle.kc_system.specs.Solutions.{user_of}
+use Rattle.kc_solver.specs.Solutions.{user_of}
 use Rattle.kmin_base_tests.specs.Sums.{IsSmall}
 use Rattle.kmin_base_tests.proofs.sums.fit_users.Given as goal
 

@@ -1,7 +1,7 @@
 use Rattle.std.proofs.Common.{rules}
 use Rattle.kmin_options.specs.Jobs.{explain_job_view}
 use Rattle.kc_rules.specs.between.SettledViews.{tree_model_of}
-use Rattle.kmin_answers.specs.Stops.{at_tree}
+use Rattle.kmin_outputs.specs.Stops.{at_tree}
 use Rattle.kmin_explain_command.specs.Stops.{before_output}
 use Rattle.kmin_explain_command.proofs.Endings.{job_answers, job_stops}
 use Rattle.kmin_explain_command.proofs.SourceParts.{read_tree}

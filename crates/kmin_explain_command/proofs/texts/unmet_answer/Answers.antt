@@ -1,5 +1,5 @@
 use Rattle.std.proofs.Common.{◌≤◌, ◌∙◌, ap, subst, sym}
-use Rattle.kmin_answers.specs.Statuses.{status_of_list}
+use Rattle.kmin_outputs.specs.Statuses.{status_of_list}
 use Rattle.kmin_explain_command.proofs.TextEnds.{list_status_small}
 use Rattle.kmin_explain_command.proofs.texts.unmet_answer.Goals as goal
 

@@ -1,5 +1,5 @@
 use Rattle.std.proofs.Common.{ℕ, List, ◌∙◌, ap}
-use Rattle.kc_system.specs.Solutions.{user_of}
+use Rattle.kc_solver.specs.Solutions.{user_of}
 use Rattle.kc_tree_model.specs.TreeLookup.{unit_of}
 use Rattle.kc_tree.specs.between.Views.{symbol_view}
 use Rattle.kc_rules.specs.between.SettledViews.{tree_model_of}

@@ -1,6 +1,6 @@
 use Rattle.std.proofs.Common.{◌<◌, ◌∷◌, ◌∙◌, [], ℕ, List, map, refl, ap, subst}
 use Rattle.std.specs.Borrow.{Bor}
-use Rattle.kmin_words.specs.Inputs.{inputs_named, named_twice}
+use Rattle.kmin_cli.specs.Inputs.{inputs_named, named_twice}
 use Rattle.kmin_inputs.specs.WordFiles.{twice}
 use Rattle.kmin_report.specs.Reports.{refused_line}
 use Rattle.kmin_report.proofs.WriterLemmas.{lines_one}

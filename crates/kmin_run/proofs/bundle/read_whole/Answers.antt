@@ -1,6 +1,6 @@
 use Rattle.std.proofs.Common.{[], ◌∷◌, refl, arith}
 use Rattle.std.proofs.lemmas.Grind.{common_steps}
-use Rattle.kmin_run.specs.BundleAnswers.{large_line, unread_line, unread, too_large, for_memory}
+use Rattle.kmin_run.specs.BundleOutputs.{large_line, unread_line, unread, too_large, for_memory}
 use Rattle.kmin_report.specs.StandardError.{none}
 use Rattle.kmin_report.proofs.WriterLemmas.{lines_one}
 use Rattle.kmin_report.proofs.Results.{memory_err}

@@ -15,7 +15,7 @@ pub returns-in-UnknownSymbol : goal.returns-in-UnknownSymbol
 returns-in-UnknownSymbol c =
     let line : List ℕ = c.args.line.now in
     let text : List ℕ = c.in-Some.line.now in
-    let utf8 : utf8_line (Some line) ≡ Some text = sym c.text_of.ensures ∙ ap (option_map (λ (text : Bor (List ℕ)). text.now)) c.in-Some.is in
+    let utf8 : utf8_line (Some line) ≡ Some text = sym c.utf8_or_none.ensures ∙ ap (option_map (λ (text : Bor (List ℕ)). text.now)) c.in-Some.is in
     let names : List (List ℕ) = map (λ (symbol : Symbol). symbol.name) c.args.tree.now.tree.symbols in
     rw c.in-UnknownSymbol.is
     (IfOk-weaker c.with_nearest.result _ _
@@ -27,6 +27,6 @@ pub returns-in_default-kind : goal.returns-in_default-kind
 returns-in_default-kind c =
     let line : List ℕ = c.args.line.now in
     let text : List ℕ = c.in-Some.line.now in
-    let utf8 : utf8_line (Some line) ≡ Some text = sym c.text_of.ensures ∙ ap (option_map (λ (text : Bor (List ℕ)). text.now)) c.in-Some.is in
+    let utf8 : utf8_line (Some line) ≡ Some text = sym c.utf8_or_none.ensures ∙ ap (option_map (λ (text : Bor (List ℕ)). text.now)) c.in-Some.is in
     shown_on c.args.kind (prefix_bytes c.args.prefix.now) (near_names c.args.tree.now.tree c.args.kind) line text utf8 (line_detail c.notice_detail.result)
     (same_parts _ _ _ c.notice_detail.ensures.text c.notice_detail.ensures.names)

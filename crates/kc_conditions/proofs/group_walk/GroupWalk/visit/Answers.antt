@@ -4,7 +4,7 @@ use Rattle.std.specs.Prelude.{slice_get}
 use Rattle.kc_tokens.specs.Languages.{is_linux_6_12}
 use Rattle.kc_expr.specs.between.Arena.{Grows}
 use Rattle.kc_expr.proofs.StoreLemmas.{represents_on}
-use Rattle.kc_listing.proofs.AppendSteps.{grows_same, on_ok}
+use Rattle.kc_parser.proofs.AppendSteps.{grows_same, on_ok}
 use Rattle.kc_statements.proofs.GrownArenas.{attribute_held}
 use Rattle.kc_tree_model.specs.Blocks.{Group, open_blocks}
 use Rattle.kc_tree_model.specs.Conditions.{conjunction_of, context, dependencies_of, prompts_of}

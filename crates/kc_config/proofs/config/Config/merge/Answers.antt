@@ -1,8 +1,8 @@
 use Rattle.std.proofs.Common.{◌≡◌, ◌++◌, ℕ, List, Option, IsTrue, length, take, ◌∙◌, sym, ap, subst, arith}
 use Rattle.std.proofs.lemmas.Grind.{common_steps, elements}
 use Rattle.std.specs.Prelude.{filter, is_none}
-use Rattle.kc_system.specs.Changes.{changed_users, FitsChanges, IsTouched, IsCountOf, IsListOf, IsChanged}
-use Rattle.kc_system.specs.Solutions.{user_of}
+use Rattle.kc_solver.specs.Changes.{changed_users, FitsChanges, IsTouched, IsCountOf, IsListOf, IsChanged}
+use Rattle.kc_solver.specs.Solutions.{user_of}
 use Rattle.kc_rules_model.specs.Dependencies.{dependencies}
 use Rattle.kc_rules_model.specs.Shapes.{user_fits}
 use Rattle.kc_rules_model.specs.declared.values.UserValue.{UserValue}

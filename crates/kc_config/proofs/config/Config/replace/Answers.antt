@@ -1,6 +1,6 @@
 use Rattle.std.proofs.Common.{◌≡◌, ◌++◌, ℕ, List, Option, IsTrue, length, ◌∙◌, sym, ap, subst, arith}
 use Rattle.std.proofs.lemmas.Grind.{common_steps, elements}
-use Rattle.kc_system.specs.Changes.{changed_users, FitsChanges, IsListOf, IsChanged, IsTouched, IsCountOf}
+use Rattle.kc_solver.specs.Changes.{changed_users, FitsChanges, IsListOf, IsChanged, IsTouched, IsCountOf}
 use Rattle.kc_rules_model.specs.Dependencies.{dependencies}
 use Rattle.kc_rules_model.specs.Shapes.{user_fits}
 use Rattle.kc_rules_model.specs.declared.values.UserValue.{UserValue}

@@ -1,0 +1,11 @@
+use Rattle.std.proofs.Common.{◌≡◌, ◌≤◌, length, take}
+use Rattle.kc_solver.specs.Changes.{changed_users}
+use Rattle.kc_solver.specs.checker.Logs.{Undoes}
+use Rattle.kc_solver.proofs.user_values.write_users.Given as goal
+
+abbrev pub invariant-loop-u : goal.invariant-loop-u
+invariant-loop-u g l = record {
+  within : l.u-index ≤ length l.changes;
+  changed : l.users ≡ changed_users (take l.u-index l.changes) l.initial.users;
+  undo : Undoes l.log.items l.initial.users l.users;
+}

@@ -1,0 +1,18 @@
+use Rattle.std.proofs.Common.{◌≡◌, ◌≤◌, ℕ, List, map, take}
+use Rattle.std.specs.Borrow.{Bor}
+use Rattle.kc_rules.specs.between.SettledViews.{tree_of_settled}
+use Rattle.kc_config.specs.ConfigStates.{IsSolved}
+use Rattle.kc_dotconfig_model.specs.between.Formats.{file_format}
+use Rattle.kmin_outputs.specs.between.LoadResults.{AreRead, lists_of}
+use Rattle.kmin_outputs.proofs.configurations.overridden_by.Given as goal
+
+abbrev pub invariant-loop-path : goal.invariant-loop-path
+invariant-loop-path g l = record {
+  same : g.F.Files.surroundings l.files ≡ g.F.Files.surroundings l.fn.files;
+  rising : g.F.Files.failures l.fn.files ≤ g.F.Files.failures l.files;
+  settled : l.read.config.system ≡ l.settled;
+  solved : IsSolved l.read.config;
+  loaded : AreRead (g.F.Files.surroundings l.fn.files).content (file_format l.settings.format) l.settings.strict (tree_of_settled l.settled)
+      (map (λ (path : Bor (List ℕ)). path.now) (take l.path-index l.paths)) l.fn.begun.config.users l.read.config.users (lists_of l.fn.begun.chosen.items) (lists_of l.read.chosen.items) (g.E.Messages.taken l.fn.err)
+      (g.E.Messages.failures l.fn.err) (g.E.Messages.taken l.err) (g.E.Messages.failures l.err);
+}

@@ -1,0 +1,12 @@
+use Rattle.std.proofs.Common.{◌≡◌, take}
+use Rattle.std.specs.List.{flat_map}
+use Rattle.kc_rules.specs.between.SettledViews.{tree_of_settled}
+use Rattle.kc_minimal.specs.declared.difference.Difference.{Difference as DifferenceRef}
+use Rattle.kmin_outputs.specs.between.Lines.{line_between}
+use Rattle.kmin_outputs.proofs.symbol_lines.difference_lines.Given as goal
+
+-- `text` has the lines of the differences before this one
+abbrev pub invariant-loop-difference : goal.invariant-loop-difference
+invariant-loop-difference l =
+    l.text.items ≡ flat_map (λ (d : DifferenceRef). line_between l.form l.strings (tree_of_settled l.settled) l.left l.right d.symbol)
+    (take l.difference-index l.differences)
