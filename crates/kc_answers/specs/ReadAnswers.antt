@@ -29,7 +29,7 @@ pub record AreRecorded (before after : Option (List ℕ)) (earlier recorded : Re
 
 -- a file of answers, read after earlier ones, is refused by its first fault; its bytes were read as far as the reader supplied
 -- them, or past the limit of a file
-pub record IsRefused (before after : Option (List ℕ)) (failed failed_after : ℕ) (earlier : RecordedAnswers) (fault : AnswersFault) : Type 0 where
+pub record AreAnswersRefused (before after : Option (List ℕ)) (failed failed_after : ℕ) (earlier : RecordedAnswers) (fault : AnswersFault) : Type 0 where
   pub bytes : List ℕ
   pub consumed : Consumes before after bytes
   pub cut : Option AnswersKind

@@ -1,53 +1,28 @@
 -- The collected lists represent the tree.
-use Rattle.std.proofs.Common.{◌≡◌, ℕ, zero, suc, ◌+◌, ◌<◌, ◌≤◌, ◌^◌, Bool, true, false, cond, List, [], ◌∷◌, length, map, reverse, Option, Some, None, refl, ap, sym, subst, ◌∙◌, arith}
-use Rattle.std.specs.Prelude.{All, filter, filter_map, flat_map, slice_get, option_to_list, option_and_then}
-use Rattle.std.specs.List.{cons_option}
-use Rattle.std.proofs.lemmas.List.{length-map}
-use Rattle.std.proofs.lemmas.List.Elements.{All-append, All-cons, All-nil}
-use Rattle.kc_tokens.specs.declared.language.Language.{Language}
-use Rattle.kc_expr.specs.between.Arena.{Exprs}
-use Rattle.kc_expr.specs.Lookup.{index_of_name}
+use Rattle.kc_builder.proofs.Common.{◌≡◌, ℕ, zero, suc, ◌+◌, ◌<◌, ◌≤◌, ◌^◌, Bool, true, false, cond, List, [], ◌∷◌, length, map, reverse, Option, Some, None, refl, ap, sym, subst, ◌∙◌, arith, All, filter, filter_map, flat_map, slice_get, option_to_list, option_and_then, cons_option, length-map}
+use Rattle.kc_builder.proofs.Common.{All-append, All-cons, All-nil, Language, Exprs, index_of_name, Files, Group, defined_name, GroupInContext, Contents, contents_of, choice_number, names_defined, IsSound, faults_of_group, get_below, place-get, number-get, Listing, text_of_name, HasNoFaults}
+use Rattle.kc_builder.proofs.Common.{TreeModel, member_default_view, IsReadIn, RepresentsAllConditions, choice_defaults_of, opens, IsChoiceRow, AreChoiceRows, AreAttributes, AreKeys, gathered_tree, items_of, entry_from_row, IsRowOf, AreRowsOf, Summary, AreParts, GroupParts, ChoiceRow, SymbolRow}
+use Rattle.kc_builder.proofs.Common.{count_is}
 use Rattle.kc_tree_model.specs.Trees as tree
-use Rattle.kc_tree_model.specs.TreeFiles.{Files}
-use Rattle.kc_tree_model.specs.Blocks.{Group, defined_name}
-use Rattle.kc_tree_model.specs.Conditions.{GroupInContext}
-use Rattle.kc_tree_model.specs.Contents.{Contents, begins_symbol, contents_of, symbol_of, choice_of, choice_number, tree_of_groups, tree_of_files}
-use Rattle.kc_tree_model.specs.Limits.{names_defined}
-use Rattle.kc_tree_model.proofs.Consistency.Definitions.{IsSound, sound_contents, no_first, nothing_at}
+use Rattle.kc_tree_model.specs.Contents.{begins_symbol, symbol_of, choice_of, tree_of_groups, tree_of_files}
+use Rattle.kc_tree_model.proofs.Consistency.Definitions.{sound_contents, no_first, nothing_at}
 use Rattle.kc_tree_model.proofs.Consistency.Consistent.{tree_is_consistent}
 use Rattle.kc_tree_model.specs.TreeLookup.{IsConsistent}
 use Rattle.kc_tree_model.proofs.Consistency.NameLimits.{few_symbols as few_defined}
 use Rattle.kc_tree_model.proofs.Consistency.Places.{is_read}
 use Rattle.kc_tree_model.specs.TreeReading.{reading}
-use Rattle.kc_tree_model.specs.TreeFaults.{faults_of_group, first_tree_fault, tree_faults}
-use Rattle.kc_tree_model.proofs.Consistency.Lists.{get_below, place-get, number-get, map-get}
+use Rattle.kc_tree_model.specs.TreeFaults.{first_tree_fault, tree_faults}
+use Rattle.kc_tree_model.proofs.Consistency.Lists.{map-get}
 use Rattle.kc_tree_model.proofs.Consistency.Units.{number_is}
-use Rattle.kc_listing.specs.declared.listing.Listing.{Listing}
-use Rattle.kc_listing.specs.between.SymbolTable.{text_of_name}
-use Rattle.kc_listing.specs.between.ListingView.{RepresentsListing}
-use Rattle.kc_checks.specs.between.FaultSearch.{HasNoFaults}
-use Rattle.kc_tree.specs.TreeModel.{TreeModel}
-use Rattle.kc_tree.specs.between.Views.{member_default_view}
-use Rattle.kc_builder.specs.checker.Assembly.{IsGathering, IsReadIn, IsWalk}
-use Rattle.kc_conditions.specs.between.Walks.{RepresentsAllConditions}
+use Rattle.kc_parser.specs.between.ListingView.{RepresentsListing}
+use Rattle.kc_builder.specs.checker.Assembly.{IsGathering, IsWalk}
 use Rattle.kc_conditions.specs.declared.listing_walk.WalkedListing.{WalkedListing}
-use Rattle.kc_builder.specs.checker.ChoiceDefaults.{choice_defaults_of}
-use Rattle.kc_builder.specs.checker.ChoiceRows.{opens, IsChoiceRow, AreChoiceRows}
-use Rattle.kc_builder.specs.checker.Definitions.{AreAttributes}
-use Rattle.kc_tree.specs.between.GatheredAttributes.{AreKeys}
 use Rattle.kc_tree.specs.between.GatheredFits.{GatheredFit}
-use Rattle.kc_tree.specs.between.GatheredView.{symbol_gathered, choice_gathered, gathered_tree}
-use Rattle.kc_tree.specs.between.GroupedItems.{items_of}
-use Rattle.kc_tree.specs.between.PartsView.{from_rows, entry_from_row}
-use Rattle.kc_builder.specs.checker.Rows.{IsRowOf, AreRowsOf}
+use Rattle.kc_tree.specs.between.GatheredView.{symbol_gathered, choice_gathered}
+use Rattle.kc_tree.specs.between.PartsView.{from_rows}
 use Rattle.kc_checks.specs.between.Summaries.{own_choice, member_in, members_at, member_keys_at, IsSummary, IsSummaryOf}
-use Rattle.kc_checks.specs.declared.summary.Summary.{Summary}
-use Rattle.kc_builder.specs.checker.GroupParts.{AreParts}
-use Rattle.kc_builder.specs.declared.group_parts.GroupParts.{GroupParts}
 use Rattle.kc_tree.specs.declared.tree_lists.TreeLists.{TreeLists}
-use Rattle.kc_tree.specs.declared.parts.ChoiceRow.{ChoiceRow}
-use Rattle.kc_tree.specs.declared.parts.SymbolRow.{SymbolRow}
-use Rattle.kc_checks.proofs.GroupPlaces.{placed_count, count_is}
+use Rattle.kc_checks.proofs.GroupPlaces.{placed_count}
 use Rattle.kc_checks.proofs.MemberLaw.{own_members_are}
 use Rattle.kc_builder.proofs.UnitLaw.{unit_read, units_read, units_same}
 

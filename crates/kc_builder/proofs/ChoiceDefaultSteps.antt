@@ -1,52 +1,33 @@
 -- The defaults of choices, as they are collected.
-use Rattle.std.proofs.Common.{◌≡◌, ℕ, zero, suc, ◌+◌, ◌<◌, ◌==◌, Bool, true, false, cond, List, [], ◌∷◌, ◌++◌, length, get_or, take, map, Option, Some, None, refl, ap, sym, subst, ◌∙◌, arith, append_assoc, append-nil}
-use Rattle.std.specs.Prelude.{All, slice_get, slice_index, option_map, option_and_then, option_to_list, filter, filter_map, flat_map, is_none}
-use Rattle.std.specs.List.{cons_option}
-use Rattle.std.proofs.lemmas.Bool.{eq-eqb, eqb-true, false≢true}
-use Rattle.std.proofs.lemmas.List.{map-append, length-map}
+use Rattle.std.proofs.Common.{take}
+use Rattle.std.specs.Prelude.{slice_index}
+use Rattle.kc_builder.proofs.Common.{◌≡◌, ℕ, zero, suc, ◌+◌, ◌<◌, ◌==◌, Bool, true, false, cond, List, [], ◌∷◌, ◌++◌, length, get_or, map, Option, Some, None, refl, ap, sym, subst, ◌∙◌, arith, append_assoc, append-nil, All, slice_get, option_map, option_and_then, option_to_list, filter, filter_map}
+use Rattle.kc_builder.proofs.Common.{flat_map, is_none, cons_option, eq-eqb, eqb-true, map-append, length-map, All-append, All-cons, All-nil, Language, Exprs, node_expr, Expr, index_of_name, attribute_in, AttributeNodesExist, SymbolTable, number_in, HasNames, line_in, RepresentsHead, Listing}
+use Rattle.kc_builder.proofs.Common.{as_many_names, names_defined, DefaultAttribute, default_of, Group, Line, of_head, open_blocks, context_of, GroupInContext, group_in_context, groups_in_context, attribute_condition, Contents, contents_of, place-get, faults_of_group, HasNoFaults}
+use Rattle.kc_builder.proofs.Common.{member_default_view, member_default_row, member_default_rows, choice_defaults_of, AreDefaultsOf, IsWalkOf, opens, own_conditions, read_before, group_at, own_lines, is_choice_code, ItemsWithKeys, GroupConditions, none_before, all_before, count_is, AreKeys}
+use Rattle.kc_builder.proofs.Common.{items_of, condition_at}
+use Rattle.std.proofs.lemmas.Bool.{false≢true}
 use Rattle.std.proofs.lemmas.Option.{slice_get_within, slice_get_past}
 use Rattle.std.proofs.lemmas.List.Concat.{flat_map-cons}
-use Rattle.std.proofs.lemmas.List.Elements.{All-append, All-cons, All-nil}
-use Rattle.kc_tokens.specs.declared.language.Language.{Language}
-use Rattle.kc_expr.specs.between.Arena.{Exprs, node_expr}
-use Rattle.kc_expr.specs.Expr.{Expr}
-use Rattle.kc_expr.specs.Lookup.{index_of_name}
 use Rattle.kc_expr.specs.between.Names.{name_alone}
-use Rattle.kc_statements.specs.between.StatementViews.{attribute_in, default_in, AttributeNodesExist}
+use Rattle.kc_statements.specs.between.StatementViews.{default_in}
 use Rattle.kc_statements.specs.declared.statement.Attribute.{Attribute as CodeAttribute}
 use Rattle.kc_statements.specs.declared.statement.Attribute.TheVariants as attributes
-use Rattle.kc_listing.specs.declared.listing.Line.{Line as CodeLine}
-use Rattle.kc_listing.specs.declared.listing.SymbolTable.{SymbolTable}
-use Rattle.kc_listing.specs.between.SymbolTable.{number_in, HasNames}
-use Rattle.kc_listing.specs.between.ListingView.{line_in, RepresentsListing, RepresentsHead}
-use Rattle.kc_listing.specs.declared.listing.Listing.{Listing}
-use Rattle.kc_listing.specs.declared.listing.GroupHead.{GroupHead as CodeHead}
-use Rattle.kc_listing.specs.declared.listing.GroupHead.TheVariants as codes
-use Rattle.kc_listing.proofs.NameLemmas.{as_many_names}
-use Rattle.kc_tree_model.specs.Limits.{names_defined}
+use Rattle.kc_parser.specs.declared.listing.Line.{Line as CodeLine}
+use Rattle.kc_parser.specs.between.ListingView.{RepresentsListing}
+use Rattle.kc_parser.specs.declared.listing.GroupHead.{GroupHead as CodeHead}
+use Rattle.kc_parser.specs.declared.listing.GroupHead.TheVariants as codes
 use Rattle.kc_tree_model.specs.Trees as tree
 use Rattle.kc_tree_model.specs.declared.fault.TreeKind.{TreeKind}
 use Rattle.kc_tree_model.specs.declared.fault.TreeKind.TheVariants.{ChoiceDefault}
-use Rattle.kc_tree_model.specs.Statements.{DefaultAttribute, default_of, choice}
-use Rattle.kc_tree_model.specs.Blocks.{Group, Line, of_head, open_blocks}
-use Rattle.kc_tree_model.specs.Conditions.{context_of, GroupInContext, group_in_context, groups_in_context, attribute_condition}
-use Rattle.kc_tree_model.specs.Contents.{Contents, contents_of, bare_name, member_named, member_names, member_default, name_among}
-use Rattle.kc_tree_model.proofs.Consistency.Lists.{place-get}
-use Rattle.kc_tree_model.specs.TreeFaults.{when, second_prompt, choice_faults, is_no_member, faults_at, faults_of_lines, faults_of_group, tree_faults}
-use Rattle.kc_checks.specs.between.FaultSearch.{HasNoFaults}
-use Rattle.kc_tree.specs.between.Views.{member_default_view, MemberDefaultFits}
-use Rattle.kc_builder.specs.checker.ChoiceDefaults.{default_value_view, symbol_bare, member_default_row, member_default_rows, group_default_rows, choice_defaults_of, AreDefaultsOf, IsWalkOf}
-use Rattle.kc_builder.specs.checker.ChoiceRows.{opens}
-use Rattle.kc_conditions.specs.between.GroupConditions.{own_conditions}
-use Rattle.kc_checks.specs.between.Summaries.{read_before, group_at, own_lines, is_choice_code}
-use Rattle.kc_tree.specs.declared.items_with_keys.ItemsWithKeys.{ItemsWithKeys}
-use Rattle.kc_conditions.specs.declared.group_walk.GroupConditions.{GroupConditions}
-use Rattle.kc_checks.proofs.GroupPlaces.{none_before, all_before, count_is, place_numbered}
+use Rattle.kc_tree_model.specs.Statements.{choice}
+use Rattle.kc_tree_model.specs.Contents.{bare_name, member_named, member_names, member_default, name_among}
+use Rattle.kc_tree_model.specs.TreeFaults.{when, second_prompt, choice_faults, is_no_member, faults_at, faults_of_lines, tree_faults}
+use Rattle.kc_tree.specs.between.Views.{MemberDefaultFits}
+use Rattle.kc_builder.specs.checker.ChoiceDefaults.{default_value_view, symbol_bare, group_default_rows}
+use Rattle.kc_checks.proofs.GroupPlaces.{place_numbered}
 use Rattle.kc_builder.proofs.ChoiceRowSteps.{as_many_conditions, as_long, both_at, places_more}
 use Rattle.kc_checks.proofs.Rounds.{numbers_of_choices, all_counted}
-use Rattle.kc_tree.specs.between.GatheredAttributes.{AreKeys}
-use Rattle.kc_tree.specs.between.GroupedItems.{items_of}
-use Rattle.kc_conditions.specs.between.Walks.{condition_at}
 use Rattle.kc_tree.specs.declared.symbol.MemberDefault.{MemberDefault}
 use Rattle.kc_checks.proofs.Symbols.{bare_is}
 

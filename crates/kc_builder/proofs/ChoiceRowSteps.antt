@@ -1,32 +1,19 @@
 -- The rows of choices, group by group.
-use Rattle.std.proofs.Common.{◌≡◌, ℕ, suc, ◌+◌, ◌<◌, ◌||◌, Bool, true, false, cond, List, [], ◌∷◌, ◌++◌, length, map, reverse, Some, refl, ap, sym, subst, ◌∙◌, arith, append-nil}
-use Rattle.std.specs.Prelude.{All, filter, filter_map, slice_get, option_map}
-use Rattle.std.proofs.lemmas.List.{length-map}
+use Rattle.std.proofs.Common.{◌||◌}
+use Rattle.kc_builder.proofs.Common.{◌≡◌, ℕ, suc, ◌+◌, ◌<◌, Bool, true, false, cond, List, [], ◌∷◌, ◌++◌, length, map, reverse, Some, refl, ap, sym, subst, ◌∙◌, arith, append-nil, All, filter, filter_map, slice_get, option_map, length-map, list_any, Language, Exprs, node_expr, Expr, attribute_in}
+use Rattle.kc_builder.proofs.Common.{is_prompt, prompt_of, Group, Line, open_blocks, context_of, GroupInContext, group_in_context, groups_in_context, prompt_condition, Listing, line_in, RepresentsGroup, names_defined, opens, IsChoiceRow, AreChoiceRows, conditions_at, own_conditions, read_before}
+use Rattle.kc_builder.proofs.Common.{group_at, own_lines, is_choice_code, condition_at, RepresentsConditions, RepresentsAllConditions, ChoiceRow, GroupConditions, shown_at, placed_more, none_before, all_before, count_is, conditioned_at}
 use Rattle.std.proofs.lemmas.List.Elements.{filter-append}
-use Rattle.std.specs.List.{list_any}
-use Rattle.kc_tokens.specs.declared.language.Language.{Language}
-use Rattle.kc_expr.specs.between.Arena.{Exprs, node_expr}
-use Rattle.kc_expr.specs.Expr.{Expr}
-use Rattle.kc_statements.specs.between.StatementViews.{attribute_in}
+use Rattle.kc_statements.specs.between.StatementViews.{is_optional_code}
 use Rattle.kc_statements.specs.declared.statement.Attribute.{Attribute as CodeAttribute}
 use Rattle.kc_statements.specs.declared.statement.Attribute.TheVariants as attributes
-use Rattle.kc_tree_model.specs.Statements.{prompt_of, is_optional}
-use Rattle.kc_tree_model.specs.Blocks.{Group, Line, open_blocks}
-use Rattle.kc_tree_model.specs.Conditions.{context_of, GroupInContext, group_in_context, groups_in_context, prompt_condition, prompts_of}
-use Rattle.kc_listing.specs.declared.listing.Line.{Line as CodeLine}
-use Rattle.kc_listing.specs.declared.listing.Listing.{Listing}
-use Rattle.kc_listing.specs.between.ListingView.{RepresentsListing, line_in, RepresentsGroup}
-use Rattle.kc_tree_model.specs.Limits.{names_defined}
-use Rattle.kc_builder.specs.checker.ChoiceRows.{is_optional_line, choice_row, group_rows, opens, IsChoiceRow, AreChoiceRows}
-use Rattle.kc_conditions.specs.between.GroupConditions.{conditions_at, own_conditions}
-use Rattle.kc_checks.specs.between.Attributes.{is_optional_code, is_prompt}
+use Rattle.kc_tree_model.specs.Statements.{is_optional}
+use Rattle.kc_tree_model.specs.Conditions.{prompts_of}
+use Rattle.kc_parser.specs.declared.listing.Line.{Line as CodeLine}
+use Rattle.kc_parser.specs.between.ListingView.{RepresentsListing}
+use Rattle.kc_builder.specs.checker.ChoiceRows.{is_optional_line, choice_row, group_rows}
 use Rattle.kc_conditions.specs.between.Firsts.{first_prompt}
-use Rattle.kc_checks.specs.between.Summaries.{read_before, group_at, own_lines, is_choice_code}
-use Rattle.kc_conditions.specs.between.Walks.{condition_at, RepresentsConditions, RepresentsAllConditions}
-use Rattle.kc_tree.specs.declared.parts.ChoiceRow.{ChoiceRow}
-use Rattle.kc_conditions.specs.declared.group_walk.GroupConditions.{GroupConditions}
-use Rattle.kc_checks.proofs.GroupPlaces.{shown_at, placed_more, none_before, all_before, count_is}
-use Rattle.kc_conditions.proofs.GroupConditionLemmas.{conditioned_at, conditions_count}
+use Rattle.kc_conditions.proofs.GroupConditionLemmas.{conditions_count}
 use Rattle.kc_checks.proofs.Rounds.{begins_is}
 
 same_group : (m n : Group) (a b : List Group) → m ∷ a ≡ n ∷ b → m ≡ n

@@ -1,37 +1,23 @@
 -- The entries of what was read, group by group.
-use Rattle.std.proofs.Common.{◌≡◌, ◌⊎◌, inl, inr, ℕ, ◌+◌, ◌-◌, ◌<◌, true, List, [], ◌∷◌, ◌++◌, length, map, reverse, Option, Some, None, refl, ap, sym, subst, ◌∙◌}
-use Rattle.std.specs.Prelude.{All, filter_map, slice_get, slice_index_or, option_map, option_to_list}
-use Rattle.std.specs.List.{cons_option}
-use Rattle.std.proofs.lemmas.List.{map-append}
-use Rattle.std.proofs.lemmas.List.Elements.{All-append, All-cons, All-nil}
+use Rattle.kc_builder.proofs.Common.{◌≡◌, ◌⊎◌, inl, inr, ℕ, ◌+◌, ◌-◌, ◌<◌, true, List, [], ◌∷◌, ◌++◌, length, map, reverse, Option, Some, None, refl, ap, sym, subst, ◌∙◌, All, filter_map, slice_get, option_map, option_to_list, cons_option, map-append, All-append, All-cons, All-nil, Language, Exprs}
+use Rattle.kc_builder.proofs.Common.{Represents, node_expr, Expr, block_of_head, Group, GroupHead, closing, side_of, from_head, defined_name, is_some_block, open_blocks, context_of, GroupInContext, group_in_context, groups_in_context, dependency_of, attribute_values, Contents, contents_of}
+use Rattle.kc_builder.proofs.Common.{choice_number, names_defined, Differ, Differ-once, get_below, number-get, Listing, RepresentsHead, IsWalkOf, EntryRowFits, entry_from_row, conditions_at, own_conditions, RepresentsConditions, GroupConditions, choices_before, group_at, read_before, placed_more}
+use Rattle.std.specs.Prelude.{slice_index_or}
 use Rattle.std.proofs.lemmas.Option.{get_or_from_slice_get}
-use Rattle.kc_tokens.specs.declared.language.Language.{Language}
-use Rattle.kc_expr.specs.between.Arena.{Exprs, Represents, node_expr}
-use Rattle.kc_expr.specs.Expr.{Expr}
 use Rattle.kc_tree_model.specs.declared.keyword.Block.TheVariants as blocks
 use Rattle.kc_tree_model.specs.Trees as tree
-use Rattle.kc_tree_model.specs.Statements.{block_of_head, title_of_head, visible_of}
-use Rattle.kc_tree_model.specs.Blocks.{Group, GroupHead, opening, closing, side_of, from_head, defined_name, is_some_block, open_blocks, opens_choice}
-use Rattle.kc_tree_model.specs.Conditions.{context_of, GroupInContext, group_in_context, groups_in_context, dependency_of, conjunction_of, attribute_values}
-use Rattle.kc_tree_model.specs.Contents.{Contents, contents_of, choice_number, entry_of_head, menu_end_of}
-use Rattle.kc_tree_model.specs.Limits.{names_defined}
-use Rattle.kc_tree_model.proofs.Consistency.Lists.{Differ, Differ-once, get_below, number-get}
-use Rattle.kc_listing.specs.declared.listing.Listing.{Listing}
-use Rattle.kc_listing.specs.declared.listing.GroupHead.{GroupHead as CodeHead}
-use Rattle.kc_listing.specs.declared.listing.GroupHead.TheVariants as codes
-use Rattle.kc_listing.specs.between.ListingView.{RepresentsListing, RepresentsHead}
-use Rattle.kc_builder.specs.checker.ChoiceDefaults.{IsWalkOf}
+use Rattle.kc_tree_model.specs.Statements.{title_of_head, visible_of}
+use Rattle.kc_tree_model.specs.Blocks.{opening, opens_choice}
+use Rattle.kc_tree_model.specs.Conditions.{conjunction_of}
+use Rattle.kc_tree_model.specs.Contents.{entry_of_head, menu_end_of}
+use Rattle.kc_parser.specs.declared.listing.GroupHead.{GroupHead as CodeHead}
+use Rattle.kc_parser.specs.declared.listing.GroupHead.TheVariants as codes
+use Rattle.kc_parser.specs.between.ListingView.{RepresentsListing}
 use Rattle.kc_builder.specs.checker.Entries.{entry_row}
-use Rattle.kc_tree.specs.between.StoredParts.{EntryRowFits}
-use Rattle.kc_tree.specs.between.PartsView.{entry_from_row}
-use Rattle.kc_conditions.specs.between.GroupConditions.{conditions_at, own_conditions}
-use Rattle.kc_conditions.specs.between.Walks.{RepresentsConditions, RepresentsEnd}
+use Rattle.kc_conditions.specs.between.Walks.{RepresentsEnd}
 use Rattle.kc_tree.specs.declared.parts.EntryRow.{EntryRow}
 use Rattle.kc_tree.specs.declared.parts.EntryRow.TheVariants.{Definition, ChoiceBegins, MenuBegins, MenuEnds, Comment}
-use Rattle.kc_conditions.specs.declared.group_walk.GroupConditions.{GroupConditions}
-use Rattle.kc_checks.specs.between.FaultSearch.{choices_before}
-use Rattle.kc_checks.specs.between.Summaries.{group_at, read_before}
-use Rattle.kc_checks.proofs.GroupPlaces.{are_numbers, numbers_before, placed_more}
+use Rattle.kc_checks.proofs.GroupPlaces.{are_numbers, numbers_before}
 use Rattle.kc_checks.proofs.Rounds.{number_counts}
 use Rattle.kc_checks.proofs.Symbols.{place_is}
 use Rattle.kc_builder.proofs.ChoiceRowSteps.{both_at, IsBoth}

@@ -1,28 +1,13 @@
 -- What the first groups of a listing give its tree, part by part.
-use Rattle.std.proofs.Common.{◌≡◌, ℕ, ◌+◌, ◌-◌, ◌<◌, cond, List, length, map, drop, ap, sym, subst, ◌∙◌, arith}
-use Rattle.std.specs.Prelude.{All, filter_map}
-use Rattle.std.proofs.lemmas.List.Elements.{All-drop, All-nil, All-take}
-use Rattle.kc_tokens.specs.declared.language.Language.{Language}
-use Rattle.kc_tree_model.specs.Blocks.{Group}
-use Rattle.kc_tree_model.specs.Conditions.{groups_in_context}
-use Rattle.kc_tree_model.specs.Contents.{contents_of, tree_of_groups}
-use Rattle.kc_tree_model.specs.Limits.{names_defined}
-use Rattle.kc_listing.specs.declared.listing.Group.{Group as CodeGroup}
-use Rattle.kc_listing.specs.declared.listing.Line.{Line as CodeLine}
-use Rattle.kc_listing.specs.declared.listing.Listing.{Listing}
-use Rattle.kc_listing.specs.declared.listing.SymbolTable.{SymbolTable}
-use Rattle.kc_listing.specs.between.ListingView.{LineNodesExist, RepresentsListing}
-use Rattle.kc_listing.proofs.NameLemmas.{as_many_names}
-use Rattle.kc_tree.specs.between.PartsView.{entry_from_row}
-use Rattle.kc_tree.specs.between.StoredParts.{EntryRowFits}
-use Rattle.kc_checks.specs.between.FaultSearch.{choices_before, HasNoFaults}
-use Rattle.kc_checks.specs.between.Summaries.{attributes_end, group_at, is_choice_code, own_lines, read_before, IsRepresented}
-use Rattle.kc_checks.proofs.GroupPlaces.{all_before, count_is, none_before}
-use Rattle.kc_conditions.specs.between.GroupConditions.{conditions_at, own_conditions, IsConditioned}
-use Rattle.kc_conditions.specs.declared.group_walk.GroupConditions.{GroupConditions}
-use Rattle.kc_builder.specs.checker.ChoiceDefaults.{AreDefaultsOf, IsWalkOf}
-use Rattle.kc_builder.specs.checker.GroupParts.{AreEmpty, AreParts, HasGroup}
-use Rattle.kc_builder.specs.declared.group_parts.GroupParts.{GroupParts}
+use Rattle.kc_builder.proofs.Common.{◌≡◌, ℕ, ◌+◌, ◌-◌, ◌<◌, cond, List, length, map, drop, ap, sym, subst, ◌∙◌, arith, All, filter_map, All-nil, Language, Group, groups_in_context, contents_of, names_defined, Listing, SymbolTable, LineNodesExist, as_many_names, entry_from_row, EntryRowFits}
+use Rattle.kc_builder.proofs.Common.{choices_before, HasNoFaults, attributes_end, group_at, is_choice_code, own_lines, read_before, IsRepresented, all_before, count_is, none_before, conditions_at, own_conditions, GroupConditions, AreDefaultsOf, IsWalkOf, AreParts, GroupParts}
+use Rattle.std.proofs.lemmas.List.Elements.{All-drop, All-take}
+use Rattle.kc_tree_model.specs.Contents.{tree_of_groups}
+use Rattle.kc_parser.specs.declared.listing.Group.{Group as CodeGroup}
+use Rattle.kc_parser.specs.declared.listing.Line.{Line as CodeLine}
+use Rattle.kc_parser.specs.between.ListingView.{RepresentsListing}
+use Rattle.kc_conditions.specs.between.GroupConditions.{IsConditioned}
+use Rattle.kc_builder.specs.checker.GroupParts.{AreEmpty, HasGroup}
 use Rattle.kc_builder.proofs.ChoiceDefaultSteps.{all_gathered, as_long_own, as_many, no_defaults, one_more}
 use Rattle.kc_builder.proofs.ChoiceRowSteps.{all_rows, no_rows, rows_more, AreRowsTo}
 use Rattle.kc_builder.proofs.EntrySteps.{entries_more, entry_at, fits_more}

@@ -1,21 +1,13 @@
 -- The items that places give symbols, each under its number, are those that the symbols have.
-use Rattle.std.proofs.Common.{◌≡◌, inl, inr, ℕ, suc, ◌<◌, Bool, true, false, cond, ◌==◌, List, [], ◌∷◌, ◌++◌, length, map, filter, Option, Some, None, refl, ap, sym, ◌∙◌, subst, arith, append-nil}
-use Rattle.std.specs.Prelude.{slice_get, filter_map, flat_map, option_map, option_and_then, unwrap_or, bytes_eq, All}
-use Rattle.std.specs.List.{cons_option}
-use Rattle.std.proofs.lemmas.Bool.{eqb-true, eq-eqb}
-use Rattle.std.proofs.lemmas.List.{map-append}
-use Rattle.std.proofs.lemmas.List.Elements.{All-nil, All-append}
+use Rattle.std.proofs.Common.{filter}
+use Rattle.std.specs.Prelude.{bytes_eq}
+use Rattle.kc_builder.proofs.Common.{◌≡◌, inl, inr, ℕ, suc, ◌<◌, Bool, true, false, cond, ◌==◌, List, [], ◌∷◌, ◌++◌, length, map, Option, Some, None, refl, ap, sym, ◌∙◌, subst, arith, append-nil, slice_get, filter_map, flat_map, option_map, option_and_then, unwrap_or, All, cons_option, eqb-true}
+use Rattle.kc_builder.proofs.Common.{eq-eqb, map-append, All-nil, All-append, Language, index_of_name, Attribute, TargetAttribute, Group, Line, defined_name, context_of, GroupInContext, groups_in_context, attribute_values, attribute_condition, Contents, contents_of, defines, definitions_of}
+use Rattle.kc_builder.proofs.Common.{names_defined, Has, place-get, Differ, Differ-once, items_of}
 use Rattle.std.proofs.lemmas.Grind.{flat_map-append}
-use Rattle.kc_tokens.specs.declared.language.Language.{Language}
-use Rattle.kc_expr.specs.Lookup.{index_of_name}
 use Rattle.kc_tree_model.specs.Trees.{ReverseDependency}
-use Rattle.kc_tree_model.specs.Statements.{Attribute, TargetAttribute}
-use Rattle.kc_tree_model.specs.Blocks.{Group, Line, defined_name}
-use Rattle.kc_tree_model.specs.Conditions.{context_of, GroupInContext, groups_in_context, attribute_values, attribute_condition}
-use Rattle.kc_tree_model.specs.Contents.{Contents, contents_of, defines, definitions_of, reverse_dependencies_of, reverse_dependencies_by}
-use Rattle.kc_tree_model.specs.Limits.{names_defined}
-use Rattle.kc_tree_model.proofs.Consistency.Lists.{Has, has-at, has-place, place-get, same_text, text_same, Differ, Differ-once, at_most_once}
-use Rattle.kc_tree.specs.between.GroupedItems.{items_of}
+use Rattle.kc_tree_model.specs.Contents.{reverse_dependencies_of, reverse_dependencies_by}
+use Rattle.kc_tree_model.proofs.Consistency.Lists.{has-at, has-place, same_text, text_same, at_most_once}
 use Rattle.kc_checks.proofs.Symbols.{named_there}
 
 -- the values that a function gives for an optional name; none for `None`

@@ -1,16 +1,10 @@
 -- The items of attributes, one after another.
-use Rattle.std.proofs.Common.{◌≡◌, ℕ, suc, ◌+◌, ◌<◌, List, [], ◌∷◌, ◌++◌, length, get_or, drop, Option, Some, None, refl, ap, sym, ◌∙◌, arith, append_assoc, append-nil}
-use Rattle.std.specs.Prelude.{option_to_list, option_map, option_and_then, is_some, Bool, true, false, ◌||◌}
-use Rattle.std.specs.List.{cons_option, list_any}
-use Rattle.std.proofs.Math.Seq.{drop-cons, drop-length}
-use Rattle.kc_listing.specs.declared.listing.Line.{Line as CodeLine}
-use Rattle.kc_tree.specs.declared.items_with_keys.ItemsWithKeys.{ItemsWithKeys}
-use Rattle.kc_listing.specs.declared.listing.SymbolTable.{SymbolTable}
-use Rattle.kc_listing.specs.between.SymbolTable.{number_in, text_of_name}
-use Rattle.kc_tree.specs.declared.symbol.ReverseDependency.{ReverseDependency}
-use Rattle.kc_builder.specs.declared.definition_attributes.ReverseKind.{ReverseKind}
-use Rattle.kc_builder.specs.declared.definition_attributes.ReverseKind.TheVariants.{Select, Imply}
-use Rattle.kc_builder.specs.checker.GatheredItems.{gathered_items, HasAppended, has_target, gathered_target_name, gathered_target, target_key, gathered_reverse_dependency}
+use Rattle.kc_builder.proofs.Common.{◌≡◌, ℕ, suc, ◌+◌, ◌<◌, List, [], ◌∷◌, ◌++◌, length, get_or, drop, Option, Some, None, refl, ap, sym, subst, ◌∙◌, arith, append_assoc, append-nil, option_to_list, option_map, option_and_then, is_some, cons_option, list_any, drop-cons, drop-length, target_given}
+use Rattle.kc_builder.proofs.Common.{ItemsWithKeys, SymbolTable, number_in, text_of_name, ReverseDependency, ReverseKind, Select, Imply, gathered_items, gathered_prompt, gathered_default, gathered_range, own_key, HasAppended, gathered_target, target_key, gathered_reverse_dependency, Attributes}
+use Rattle.std.specs.Prelude.{map, Bool, true, false, ◌||◌}
+use Rattle.kc_parser.specs.declared.listing.Line.{Line as CodeLine}
+use Rattle.kc_builder.specs.checker.GatheredItems.{has_target}
+use Rattle.kc_builder.specs.checker.Definitions.{HasItem, HasSame, HasLine, HasOwn}
 
 -- `now` with the items of the lines from `i` on appended is `old` with the items of all lines appended
 pub record IsRest {T : Type 0} (key : CodeLine → ℕ → Option ℕ) (item : CodeLine → ℕ → Option T) (old now : ItemsWithKeys T) (lines : List CodeLine)
@@ -73,9 +67,9 @@ none_first : (a b : Bool) → (a || b) ≡ false → (a ≡ false) × (b ≡ fal
 none_first false b e = (refl, e)
 none_first true b e = absurd (let z : ⊥ = cc in z)
 
-no_name : (f : ReverseKind) (l : CodeLine) → has_target l ≡ false → gathered_target_name f l.attribute ≡ None
-no_name Select l e = (neither (gathered_target_name Select l.attribute) (gathered_target_name Imply l.attribute) e).0
-no_name Imply l e = (neither (gathered_target_name Select l.attribute) (gathered_target_name Imply l.attribute) e).1
+no_name : (f : ReverseKind) (l : CodeLine) → has_target l ≡ false → target_given f l.attribute ≡ None
+no_name Select l e = (neither (target_given Select l.attribute) (target_given Imply l.attribute) e).0
+no_name Imply l e = (neither (target_given Select l.attribute) (target_given Imply l.attribute) e).1
 
 -- lines that select and imply nothing give no items
 none_gathered : {T : Type 0} (item : CodeLine → ℕ → Option T) → ((l : CodeLine) (c : ℕ) → has_target l ≡ false → item l c ≡ None)
@@ -98,4 +92,75 @@ none_appended n f s old lines conditions e = record {
   items = sym (append-nil old.items.items)
       ∙ ap (λ xs. old.items.items ++ xs) (sym (none_gathered (gathered_reverse_dependency n f s)
       (λ l c h. ap (option_map (λ _. record { by = s; condition = c })) (no_target n f l h)) lines conditions e));
+}
+
+-- keys of an item that may be missing
+pub keyed : {T : Type 0} (s : ℕ) (o : Option T) → map (λ (_ : T). s) (option_to_list o) ≡ option_to_list (option_map (λ (_ : T). s) o)
+keyed s None = refl
+keyed s (Some x) = refl
+
+-- an item that a line gives, or none, under the number of a symbol
+pub item_given : {T : Type 0} (item : CodeLine → ℕ → Option T) (s : ℕ) (old new : ItemsWithKeys T) (l : CodeLine) (c : ℕ) (o : Option T) → o ≡ item l c
+    → new.keys.items ≡ old.keys.items ++ map (λ (_ : T). s) (option_to_list o) → new.items.items ≡ old.items.items ++ option_to_list o
+    → HasItem (own_key s item) item old new l c
+item_given item s old new l c o e k m = record {
+  keys = k ∙ ap (λ ks. old.keys.items ++ ks) (keyed s o ∙ ap (λ p. option_to_list (option_map (λ _. s) p)) e);
+  items = m ∙ ap (λ p. old.items.items ++ option_to_list p) e;
+}
+
+-- the same items appended to an equal list
+pub appended_from : {T : Type 0} (key : CodeLine → ℕ → Option ℕ) (item : CodeLine → ℕ → Option T) (mid old new : ItemsWithKeys T) (lines : List CodeLine)
+    (conditions : List ℕ) → mid ≡ old → HasAppended key item mid new lines conditions → HasAppended key item old new lines conditions
+appended_from key item mid old new lines conditions e h = record {
+  keys = h.keys ∙ ap (λ m. m.keys.items ++ gathered_items key lines conditions) e;
+  items = h.items ∙ ap (λ m. m.items.items ++ gathered_items item lines conditions) e;
+}
+
+-- what attribute lines give their own symbol: `now` with the items of the lines from `i` on appended is `old` with those of all lines
+pub record IsOwnRest (s : ℕ) (old now : Attributes) (lines : List CodeLine) (conditions : List ℕ) (i : ℕ) : Type 0 where
+  pub prompts : IsRest (own_key s gathered_prompt) gathered_prompt old.prompts now.prompts lines conditions i
+  pub defaults : IsRest (own_key s gathered_default) gathered_default old.defaults now.defaults lines conditions i
+  pub ranges : IsRest (own_key s gathered_range) gathered_range old.ranges now.ranges lines conditions i
+  pub others : HasSame old now
+
+pub own_all : (s : ℕ) (old : Attributes) (lines : List CodeLine) (conditions : List ℕ) → IsOwnRest s old old lines conditions 0
+own_all s old lines conditions = record {
+  prompts = all_rest (own_key s gathered_prompt) gathered_prompt old.prompts lines conditions;
+  defaults = all_rest (own_key s gathered_default) gathered_default old.defaults lines conditions;
+  ranges = all_rest (own_key s gathered_range) gathered_range old.ranges lines conditions;
+  others = record { selectors = refl; impliers = refl; direct = refl };
+}
+
+item_more : {T : Type 0} (key : CodeLine → ℕ → Option ℕ) (item : CodeLine → ℕ → Option T) (old now next : ItemsWithKeys T) (lines : List CodeLine)
+    (conditions : List ℕ) (i c : ℕ) (d : CodeLine)
+    → i < length lines → length conditions ≡ length lines → IsRest key item old now lines conditions i
+    → HasItem key item now next (get_or lines i d) (get_or conditions i c)
+    → IsRest key item old next lines conditions (i + 1)
+item_more key item old now next lines conditions i c d h e r m = rest_more key item old now next lines conditions i c d h e r m.keys m.items
+
+pub own_more : (s : ℕ) (old now next : Attributes) (lines : List CodeLine) (conditions : List ℕ) (i c : ℕ) (d : CodeLine)
+    → i < length lines → length conditions ≡ length lines → IsOwnRest s old now lines conditions i
+    → d ≡ get_or lines i d → c ≡ get_or conditions i c → HasLine s now next d c
+    → IsOwnRest s old next lines conditions (i + 1)
+own_more s old now next lines conditions i c d h e r line condition given =
+    let m : HasLine s now next (get_or lines i d) (get_or conditions i c) =
+    subst (λ l. HasLine s now next l (get_or conditions i c)) line (subst (HasLine s now next d) condition given) in
+    record {
+      prompts = item_more (own_key s gathered_prompt) gathered_prompt old.prompts now.prompts next.prompts lines conditions i c d h e r.prompts m.prompts;
+      defaults = item_more (own_key s gathered_default) gathered_default old.defaults now.defaults next.defaults lines conditions i c d h e r.defaults m.defaults;
+      ranges = item_more (own_key s gathered_range) gathered_range old.ranges now.ranges next.ranges lines conditions i c d h e r.ranges m.ranges;
+      others = record {
+        selectors = m.others.selectors ∙ r.others.selectors;
+        impliers = m.others.impliers ∙ r.others.impliers;
+        direct = m.others.direct ∙ r.others.direct;
+      };
+    }
+
+pub own_done : (s : ℕ) (old now : Attributes) (lines : List CodeLine) (conditions : List ℕ) (i : ℕ) → i ≡ length lines
+    → IsOwnRest s old now lines conditions i → HasOwn s old now lines conditions
+own_done s old now lines conditions i e r = record {
+  prompts = rest_done (own_key s gathered_prompt) gathered_prompt old.prompts now.prompts lines conditions i e r.prompts;
+  defaults = rest_done (own_key s gathered_default) gathered_default old.defaults now.defaults lines conditions i e r.defaults;
+  ranges = rest_done (own_key s gathered_range) gathered_range old.ranges now.ranges lines conditions i e r.ranges;
+  others = r.others;
 }

@@ -1,35 +1,19 @@
 -- The items of attributes represent those that the definition of a tree has there.
-use Rattle.std.proofs.Common.{◌≡◌, ℕ, suc, ◌<◌, Bool, true, false, cond, List, [], ◌∷◌, length, map, Option, Some, None, refl, ap, sym, ◌∙◌, subst, arith}
-use Rattle.std.specs.Prelude.{filter_map, option_map, option_and_then, All, IfSome, is_some}
-use Rattle.std.specs.List.{cons_option}
-use Rattle.std.proofs.lemmas.List.Elements.{All-nil, All-cons}
-use Rattle.kc_tokens.specs.declared.language.Language.{Language}
-use Rattle.kc_expr.specs.between.Arena.{Exprs, node_expr}
-use Rattle.kc_expr.specs.Expr.{Expr, Operand}
-use Rattle.kc_expr.specs.Lookup.{index_of_name}
+use Rattle.kc_builder.proofs.Common.{◌≡◌, ℕ, suc, ◌<◌, Bool, true, false, cond, List, [], ◌∷◌, length, map, Option, Some, None, refl, ap, sym, ◌∙◌, subst, arith, filter_map, option_map, option_and_then, All, IfSome, is_some, cons_option, All-nil, All-cons, Language, Exprs, node_expr, Expr}
+use Rattle.kc_builder.proofs.Common.{index_of_name, attribute_in, AttributeNodesExist, is_prompt, target_given, Attribute, DefaultAttribute, RangeAttribute, TargetAttribute, prompt_of, default_of, range_of, Line, context_of, GroupInContext, prompt_condition, attribute_condition, get_below}
+use Rattle.kc_builder.proofs.Common.{place-get, SymbolTable, HasNames, number_in, text_of_name, LineNodesExist, line_in, DefaultFits, ReverseDependencyFits, gathered_prompt, gathered_default, gathered_range, gathered_target, gathered_reverse_dependency, own_key, target_key, gathered_items}
+use Rattle.kc_builder.proofs.Common.{condition_at, ReverseKind, Select, Imply, ReverseDependency}
+use Rattle.kc_expr.specs.Expr.{Operand}
 use Rattle.kc_expr.specs.between.Operand.{operand_alone}
 use Rattle.kc_statements.specs.declared.statement.Attribute.{Attribute as CodeAttribute}
 use Rattle.kc_statements.specs.declared.statement.Attribute.TheVariants as attributes
-use Rattle.kc_statements.specs.between.StatementViews.{attribute_in, AttributeNodesExist}
 use Rattle.kc_statements.specs.between.StatementViews as statement_views
 use Rattle.kc_tree_model.specs.Trees as tree
-use Rattle.kc_tree_model.specs.Statements.{Attribute, DefaultAttribute, RangeAttribute, TargetAttribute, prompt_of, default_of, range_of, select_of, imply_of}
-use Rattle.kc_tree_model.specs.Blocks.{Line}
-use Rattle.kc_tree_model.specs.Conditions.{context_of, GroupInContext, prompt_condition, attribute_condition}
-use Rattle.kc_tree_model.proofs.Consistency.Lists.{get_below, place-get}
-use Rattle.kc_listing.specs.declared.listing.Line.{Line as CodeLine}
-use Rattle.kc_listing.specs.declared.listing.SymbolTable.{SymbolTable}
-use Rattle.kc_listing.specs.between.SymbolTable.{HasNames, number_in, text_of_name}
-use Rattle.kc_listing.specs.between.ListingView.{LineNodesExist, line_in}
-use Rattle.kc_tree.specs.between.Views.{DefaultFits, RangeFits, HasOperands, ReverseDependencyFits}
+use Rattle.kc_tree_model.specs.Statements.{select_of, imply_of}
+use Rattle.kc_parser.specs.declared.listing.Line.{Line as CodeLine}
+use Rattle.kc_tree.specs.between.Views.{RangeFits, HasOperands}
 use Rattle.kc_tree.specs.between.Views as views
-use Rattle.kc_checks.specs.between.Attributes.{is_prompt}
-use Rattle.kc_builder.specs.checker.GatheredItems.{gathered_prompt, gathered_default, gathered_range, gathered_target_name, gathered_target, gathered_reverse_dependency, own_key, target_key, gathered_items}
-use Rattle.kc_conditions.specs.between.Walks.{condition_at}
-use Rattle.kc_builder.specs.declared.definition_attributes.ReverseKind.{ReverseKind}
-use Rattle.kc_builder.specs.declared.definition_attributes.ReverseKind.TheVariants.{Select, Imply}
 use Rattle.kc_tree.specs.declared.symbol.Range.{Range}
-use Rattle.kc_tree.specs.declared.symbol.ReverseDependency.{ReverseDependency}
 use Rattle.kc_builder.proofs.ItemLaw.{number_of, own_key_of, own_item_of, force_key_of, force_item_of, force_by}
 
 -- what lines with conditions give
@@ -217,7 +201,7 @@ aim_of Imply a = imply_of a
 
 module _ (language : Language) (n : SymbolTable) (names : List (List ℕ)) (h : HasNames n.arena n.symbols.items n.numbers.items names) where
   target_by : (f : ReverseKind) (a : CodeAttribute)
-      → option_and_then (λ id. number_in n.arena.names n.numbers.items (text_of_name n.arena id)) (gathered_target_name f a)
+      → option_and_then (λ id. number_in n.arena.names n.numbers.items (text_of_name n.arena id)) (target_given f a)
       ≡ option_and_then (λ (b : TargetAttribute). index_of_name b.name names) (aim_of f (attribute_in n.arena a))
   target_by Select (attributes.Select a) = h.numbered (text_of_name n.arena a.name)
   target_by Select a = refl
@@ -236,7 +220,7 @@ module _ (language : Language) (n : SymbolTable) (names : List (List ℕ)) (h : 
   reverse_dependency_item_by : (f : ReverseKind) (a : CodeAttribute) (number s i : ℕ) (p : GroupInContext)
       → node_expr n.arena i ≡ condition_at language p (record { number = number; attribute = attribute_in n.arena a })
       → option_map (views.reverse_dependency_view n.arena) (option_map (λ _. let y : ReverseDependency = record { by = s; condition = i } in y)
-      (option_and_then (λ id. number_in n.arena.names n.numbers.items (text_of_name n.arena id)) (gathered_target_name f a)))
+      (option_and_then (λ id. number_in n.arena.names n.numbers.items (text_of_name n.arena id)) (target_given f a)))
       ≡ option_and_then (λ (b : TargetAttribute). option_map (λ _. force_by language s p b) (index_of_name b.name names)) (aim_of f (attribute_in n.arena a))
   reverse_dependency_item_by Select (attributes.Select a) number s i p e =
       made_by s i p (number_in n.arena.names n.numbers.items (text_of_name n.arena a.name)) (statement_views.target_in n.arena a) e

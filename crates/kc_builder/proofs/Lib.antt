@@ -1,3 +1,4 @@
+pub mod Common
 pub mod AssemblySteps
 pub mod ChoiceDefaultSteps
 pub mod ChoiceRowSteps

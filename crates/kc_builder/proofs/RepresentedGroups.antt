@@ -1,18 +1,12 @@
 -- A listing represents one list of statements, so a summary of it stays one as its arena grows.
-use Rattle.std.proofs.Common.{◌≡◌, ℕ, List, [], ◌∷◌, length, reverse, Some, refl, ap, sym, subst, ◌∙◌}
-use Rattle.std.specs.Prelude.{slice_get, slice_range}
-use Rattle.kc_expr.specs.between.Arena.{Exprs}
-use Rattle.kc_tree_model.specs.Statements.{config, menu, comment, source}
-use Rattle.kc_tree_model.specs.Blocks.{Group, GroupHead, of_head}
-use Rattle.kc_tree_model.specs.Limits.{names_defined}
-use Rattle.kc_listing.specs.declared.listing.Group.{Group as CodeGroup}
-use Rattle.kc_listing.specs.declared.listing.Line.{Line as CodeLine}
-use Rattle.kc_listing.specs.declared.listing.Listing.{Listing}
-use Rattle.kc_listing.specs.declared.listing.GroupHead.{GroupHead as CodeHead}
-use Rattle.kc_listing.specs.declared.listing.GroupHead.TheVariants as codes
-use Rattle.kc_listing.specs.between.ListingView.{RepresentsHead, RepresentsGroup, RepresentsGroups, RepresentsListing}
+use Rattle.kc_builder.proofs.Common.{◌≡◌, ℕ, List, [], ◌∷◌, length, reverse, Some, refl, ap, sym, subst, ◌∙◌, slice_get, slice_range, Exprs, config, Group, GroupHead, of_head, names_defined, Listing, RepresentsHead, RepresentsGroup, RepresentsGroups, Summary}
+use Rattle.kc_tree_model.specs.Statements.{menu, comment, source}
+use Rattle.kc_parser.specs.declared.listing.Group.{Group as CodeGroup}
+use Rattle.kc_parser.specs.declared.listing.Line.{Line as CodeLine}
+use Rattle.kc_parser.specs.declared.listing.GroupHead.{GroupHead as CodeHead}
+use Rattle.kc_parser.specs.declared.listing.GroupHead.TheVariants as codes
+use Rattle.kc_parser.specs.between.ListingView.{RepresentsListing}
 use Rattle.kc_checks.specs.between.Summaries.{IsSummary, IsSummed}
-use Rattle.kc_checks.specs.declared.summary.Summary.{Summary}
 
 one_text : (texts : List (List ℕ)) (t : ℕ) (x y : List ℕ) → slice_get texts t ≡ Some x → slice_get texts t ≡ Some y → x ≡ y
 one_text texts t x y a b = cc

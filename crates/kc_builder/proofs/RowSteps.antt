@@ -1,26 +1,16 @@
 -- The rows of symbols are those of what was read.
-use Rattle.std.proofs.Common.{◌≡◌, inl, inr, ℕ, suc, ◌+◌, ◌<◌, ◌≤◌, List, [], ◌∷◌, ◌++◌, length, get_or, drop, map, reverse, Some, refl, ap, sym, subst, ◌∙◌, arith, append_assoc, append-nil}
-use Rattle.std.specs.Prelude.{slice_get, flat_map, unwrap_or, option_map, All}
-use Rattle.std.proofs.Math.Seq.{drop-cons, drop-length}
+use Rattle.kc_builder.proofs.Common.{◌≡◌, inl, inr, ℕ, suc, ◌+◌, ◌<◌, ◌≤◌, List, [], ◌∷◌, ◌++◌, length, get_or, drop, map, reverse, Some, refl, ap, sym, subst, ◌∙◌, arith, append_assoc, append-nil, slice_get, flat_map, unwrap_or, option_map, All, drop-cons, drop-length, Exprs, Group, GroupInContext}
+use Rattle.kc_builder.proofs.Common.{groups_in_context, contents_of, defines, definitions_of, names_defined, Has, text_of_name, RepresentsGroups, Listing, as_many_names, row_of_symbol, rows_of_symbols, IsRowOf, AreRowsOf, IsRepresented, SymbolRow, SymbolSummary}
 use Rattle.std.proofs.lemmas.List.{length-reverse, reverse-append}
-use Rattle.kc_expr.specs.between.Arena.{Exprs}
-use Rattle.kc_tree_model.specs.Blocks.{Group}
-use Rattle.kc_tree_model.specs.Conditions.{GroupInContext, groups_in_context}
-use Rattle.kc_tree_model.specs.Contents.{contents_of, defines, definitions_of, kind_in_tree, type_given}
-use Rattle.kc_tree_model.specs.Limits.{names_defined}
-use Rattle.kc_tree_model.proofs.Consistency.Lists.{Has, has-filter}
+use Rattle.kc_tree_model.specs.Contents.{kind_in_tree, type_given}
+use Rattle.kc_tree_model.proofs.Consistency.Lists.{has-filter}
 use Rattle.kc_tree_model.proofs.Consistency.Places.{group-placed}
-use Rattle.kc_listing.specs.declared.listing.Group.{Group as CodeGroup}
-use Rattle.kc_listing.specs.declared.listing.Line.{Line as CodeLine}
-use Rattle.kc_listing.specs.between.SymbolTable.{text_of_name}
-use Rattle.kc_listing.specs.between.ListingView.{RepresentsGroups, RepresentsLists, RepresentsListing}
-use Rattle.kc_listing.specs.declared.listing.Listing.{Listing}
-use Rattle.kc_listing.proofs.NameLemmas.{as_many_names}
-use Rattle.kc_listing.proofs.ListingGrowth.{get_more, get_last}
-use Rattle.kc_builder.specs.checker.Rows.{place_of_group, place_of_group_number, row_of_symbol, rows_of_symbols, IsRowOf, AreRowsOf}
-use Rattle.kc_checks.specs.between.Summaries.{summary_in, symbol_summaries, number_at, AreSymbolSummaries, IsRepresented}
-use Rattle.kc_tree.specs.declared.parts.SymbolRow.{SymbolRow}
-use Rattle.kc_checks.specs.declared.summary.SymbolSummary.{SymbolSummary}
+use Rattle.kc_parser.specs.declared.listing.Group.{Group as CodeGroup}
+use Rattle.kc_parser.specs.declared.listing.Line.{Line as CodeLine}
+use Rattle.kc_parser.specs.between.ListingView.{RepresentsLists, RepresentsListing}
+use Rattle.kc_parser.proofs.ListingGrowth.{get_more, get_last}
+use Rattle.kc_builder.specs.checker.Rows.{place_of_group, place_of_group_number}
+use Rattle.kc_checks.specs.between.Summaries.{summary_in, symbol_summaries, number_at, AreSymbolSummaries}
 use Rattle.kc_checks.proofs.Symbols.{choice_is, as_many_symbols}
 
 -- a group is stored at the index of its number, with its file and its line

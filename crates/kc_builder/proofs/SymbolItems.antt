@@ -1,40 +1,18 @@
 -- The attributes that all definitions give symbols.
-use Rattle.std.proofs.Common.{◌≡◌, inl, inr, ℕ, ◌+◌, ◌<◌, List, [], ◌∷◌, ◌++◌, length, map, reverse, Option, Some, None, refl, ap, sym, ◌∙◌, subst}
-use Rattle.std.specs.Prelude.{slice_range, filter_map, option_map, unwrap_or, All, IfSome}
-use Rattle.std.proofs.lemmas.List.{length-map}
-use Rattle.std.proofs.lemmas.List.Elements.{All-nil, All-cons}
-use Rattle.kc_tokens.specs.declared.language.Language.{Language}
-use Rattle.kc_expr.specs.between.Arena.{Exprs, Represents, node_expr}
-use Rattle.kc_expr.specs.Expr.{Expr}
+use Rattle.kc_builder.proofs.Common.{◌≡◌, inl, inr, ℕ, ◌+◌, ◌<◌, List, [], ◌∷◌, ◌++◌, length, map, reverse, Option, Some, None, refl, ap, sym, ◌∙◌, subst, slice_range, filter_map, option_map, unwrap_or, All, IfSome, length-map, All-nil, All-cons, Language, Exprs, Represents, node_expr, Expr}
+use Rattle.kc_builder.proofs.Common.{Attribute, DefaultAttribute, RangeAttribute, config, name_of_head, prompt_of, default_of, range_of, Group, GroupHead, of_head, from_head, defined_name, open_blocks, side_of, closing, context_of, GroupInContext, group_in_context, groups_in_context}
+use Rattle.kc_builder.proofs.Common.{prompt_condition, attribute_condition, dependency_of, contents_of, names_defined, Differ-once, get_below, SymbolTable, HasNames, RepresentsGroups, RepresentsHead, LineNodesExist, line_in, DefaultFits, ReverseDependencyFits, conditions_at, own_conditions}
+use Rattle.kc_builder.proofs.Common.{AreAttributes, gathered_prompt, gathered_default, gathered_range, own_key, target_key, gathered_reverse_dependency, gathered_items, HasAppended, read_before, group_at, attributes_end, condition_at, RepresentsConditions, RepresentsAllConditions, ReverseKind}
+use Rattle.kc_builder.proofs.Common.{Select, Imply, Attributes, ItemsWithKeys, GroupConditions, all_before, none_before, placed_more, shown_at, conditioned_at}
 use Rattle.kc_tree_model.specs.Trees as tree
-use Rattle.kc_tree_model.specs.Statements.{Attribute, DefaultAttribute, RangeAttribute, config, name_of_head, prompt_of, default_of, range_of}
-use Rattle.kc_tree_model.specs.Blocks.{Group, GroupHead, of_head, from_head, defined_name, open_blocks, side_of, closing, inside}
-use Rattle.kc_tree_model.specs.Conditions.{context_of, GroupInContext, group_in_context, groups_in_context, prompt_condition, attribute_condition, dependency_of}
-use Rattle.kc_tree_model.specs.Contents.{contents_of}
-use Rattle.kc_tree_model.specs.Limits.{names_defined}
-use Rattle.kc_tree_model.proofs.Consistency.Lists.{Differ-once, get_below}
-use Rattle.kc_listing.specs.declared.listing.Group.{Group as CodeGroup}
-use Rattle.kc_listing.specs.declared.listing.Line.{Line as CodeLine}
-use Rattle.kc_listing.specs.declared.listing.SymbolTable.{SymbolTable}
-use Rattle.kc_listing.specs.declared.listing.GroupHead.{GroupHead as CodeHead}
-use Rattle.kc_listing.specs.declared.listing.GroupHead.TheVariants as codes
-use Rattle.kc_listing.specs.between.SymbolTable.{HasNames}
-use Rattle.kc_listing.specs.between.ListingView.{RepresentsGroups, RepresentsHead, LineNodesExist, line_in}
-use Rattle.kc_tree.specs.between.Views.{DefaultFits, ReverseDependencyFits}
+use Rattle.kc_tree_model.specs.Blocks.{inside}
+use Rattle.kc_parser.specs.declared.listing.Group.{Group as CodeGroup}
+use Rattle.kc_parser.specs.declared.listing.Line.{Line as CodeLine}
+use Rattle.kc_parser.specs.declared.listing.GroupHead.{GroupHead as CodeHead}
+use Rattle.kc_parser.specs.declared.listing.GroupHead.TheVariants as codes
 use Rattle.kc_tree.specs.between.Views as views
-use Rattle.kc_conditions.specs.between.GroupConditions.{conditions_at, own_conditions}
-use Rattle.kc_builder.specs.checker.Definitions.{HasDefinition, HasStatement, AreAttributes}
-use Rattle.kc_builder.specs.checker.GatheredItems.{gathered_prompt, gathered_default, gathered_range, own_key, target_key, gathered_reverse_dependency, gathered_items, HasAppended}
-use Rattle.kc_checks.specs.between.Summaries.{read_before, group_at, attributes_end}
-use Rattle.kc_conditions.specs.between.Walks.{condition_at, RepresentsConditions, RepresentsAllConditions}
-use Rattle.kc_builder.specs.declared.definition_attributes.ReverseKind.{ReverseKind}
-use Rattle.kc_builder.specs.declared.definition_attributes.ReverseKind.TheVariants.{Select, Imply}
-use Rattle.kc_tree.specs.declared.tree_lists.Attributes.{Attributes}
-use Rattle.kc_tree.specs.declared.items_with_keys.ItemsWithKeys.{ItemsWithKeys}
+use Rattle.kc_builder.specs.checker.Definitions.{HasDefinition, HasStatement}
 use Rattle.kc_tree.specs.declared.symbol.ReverseDependency.{ReverseDependency as CodeForce}
-use Rattle.kc_conditions.specs.declared.group_walk.GroupConditions.{GroupConditions}
-use Rattle.kc_checks.proofs.GroupPlaces.{all_before, none_before, placed_more, shown_at}
-use Rattle.kc_conditions.proofs.GroupConditionLemmas.{conditioned_at}
 use Rattle.kc_builder.proofs.ItemLaw.{by_name, AreListed, none_listed, listed_more, listed_same, number_of, number_is, own_key_of, own_item_of, own_keys, own_items, own_law, direct_keys, direct_items, direct_law, force_key_of, force_item_of, force_keys, force_items, reverse_dependency_law}
 use Rattle.kc_builder.proofs.ItemViews.{pairs_keys, pairs_items, pairs_fit, prompt_item, default_item, range_item, prompt_key, default_key, range_key, prompt_fit, default_fit, range_fit, RangeStands, own_below, aim_of, reverse_dependency_key, reverse_dependency_item, reverse_dependency_fit, target_below}
 use Rattle.kc_checks.proofs.Symbols.{nameless}

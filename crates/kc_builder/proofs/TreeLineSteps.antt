@@ -1,16 +1,11 @@
 -- The lines of a tree are those of the reading that gives it.
-use Rattle.std.proofs.Common.{◌≡◌, ℕ, ◌<◌, ◌^◌, List, length, ap, sym, subst}
+use Rattle.kc_builder.proofs.Common.{◌≡◌, ℕ, ◌<◌, ◌^◌, List, length, ap, sym, subst, Exprs, Represents, Group, Files, Listing, TreeModel}
 use Rattle.kc_value.specs.declared.tri.Tri.TheVariants.{N}
 use Rattle.kc_expr.specs.Expr.{alone, constant}
-use Rattle.kc_expr.specs.between.Arena.{Exprs, Represents}
-use Rattle.kc_tree_model.specs.Blocks.{Group}
-use Rattle.kc_tree_model.specs.TreeFiles.{Files}
 use Rattle.kc_tree_model.specs.TreeReading.{Outcome, reading}
 use Rattle.kc_tree_model.specs.TreesOfFiles.{origin_of, IsTreeOfFiles}
 use Rattle.kc_tree_model.proofs.ReadingLaws.ReadingCompleteness.{whole_read}
-use Rattle.kc_listing.specs.declared.listing.Listing.{Listing}
-use Rattle.kc_listing.specs.between.ListingView.{RepresentsListing}
-use Rattle.kc_tree.specs.TreeModel.{TreeModel}
+use Rattle.kc_parser.specs.between.ListingView.{RepresentsListing}
 use Rattle.kc_builder.specs.between.TreeLines.{HasLines, IsTreeWithLines}
 use Rattle.kc_builder.specs.declared.tree_lines.TreeLines.{TreeLines}
 

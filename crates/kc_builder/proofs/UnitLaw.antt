@@ -1,18 +1,12 @@
 -- In a tree without a fault, the units by first definitions are those of the tree.
-use Rattle.std.proofs.Common.{◌≡◌, ℕ, Bool, true, false, cond, ◌&&◌, List, [], ◌∷◌, inl, inr, Option, Some, None, refl, ap, sym, ◌∙◌}
-use Rattle.std.specs.Prelude.{filter_map, option_and_then, option_map, is_none}
-use Rattle.kc_tokens.specs.declared.language.Language.{Language}
-use Rattle.kc_expr.specs.Lookup.{index_of_name}
+use Rattle.std.proofs.Common.{◌&&◌}
+use Rattle.kc_builder.proofs.Common.{◌≡◌, ℕ, Bool, true, false, cond, List, [], ◌∷◌, inl, inr, Option, Some, None, refl, ap, sym, ◌∙◌, filter_map, option_and_then, option_map, is_none, Language, index_of_name, block_of_head, config, name_of_head, Group, GroupHead, of_head, from_head, defined_name}
+use Rattle.kc_builder.proofs.Common.{is_some_block, GroupInContext, Contents, choice_number, contents_of, faults_of_group, IsSound, Has, number-get}
 use Rattle.kc_tree_model.specs.declared.ids.Unit.{Unit as TreeUnit}
 use Rattle.kc_tree_model.specs.declared.ids.Unit.TheVariants.{Symbol as of_symbol, Choice as of_choice}
 use Rattle.kc_tree_model.specs.declared.keyword.Block.TheVariants as blocks
-use Rattle.kc_tree_model.specs.Statements.{block_of_head, config, name_of_head}
-use Rattle.kc_tree_model.specs.Blocks.{Group, GroupHead, of_head, from_head, defined_name, is_some_block}
-use Rattle.kc_tree_model.specs.Conditions.{GroupInContext}
-use Rattle.kc_tree_model.specs.Contents.{Contents, choice_number, choice_of_symbol, contents_of, is_first_definition, unit_of_head}
-use Rattle.kc_tree_model.specs.TreeFaults.{faults_of_group}
-use Rattle.kc_tree_model.proofs.Consistency.Definitions.{IsSound, one_number}
-use Rattle.kc_tree_model.proofs.Consistency.Lists.{Has, number-get}
+use Rattle.kc_tree_model.specs.Contents.{choice_of_symbol, is_first_definition, unit_of_head}
+use Rattle.kc_tree_model.proofs.Consistency.Definitions.{one_number}
 use Rattle.kc_tree_model.proofs.Consistency.Places.{same_place}
 use Rattle.kc_tree_model.proofs.Consistency.Units.{choice_around, choice_of_member, first_in_choice, first_of_choice}
 use Rattle.kc_checks.specs.between.Summaries.{enclosing_choice, own_unit}

@@ -1,8 +1,12 @@
 //! Builds the tree of a listing.
-ghost use Rattle.std.specs.Prelude.{◌≡◌, ℕ, List, IfErr, IfOk};
+ghost use Rattle.std.specs.Prelude.{◌≡◌, ℕ, List, None, IfErr, IfOk, slice_get};
 ghost use Rattle.kc_tree_model.specs.TreeFiles.{Files};
-ghost use Rattle.kc_tree_model.specs.Contents.{tree_of_files};
+ghost use Rattle.kc_tree_model.specs.Contents.{contents_of, tree_of_files};
+ghost use Rattle.kc_tree_model.specs.TreeFaults.{tree_faults};
+ghost use Rattle.kc_tree_model.specs.Limits.{names_defined};
 ghost use Rattle.kc_tree_model.specs.TreeReading.{reading};
+ghost use Rattle.kc_builder.specs.checker.GroupParts.{AreParts};
+ghost use Rattle.kc_builder.specs.checker.Rows.{AreRowsOf};
 ghost use Rattle.kc_builder.specs.checker.Assembly.{AreFew, IsFaultRead, IsGathered, IsGatheredRead, IsReadIn, IsWalk};
 ghost use Rattle.kc_builder.specs.between.TreeLines.{HasLines};
 ghost use Rattle.kc_checks.specs.between.Summaries.{IsSummed};
@@ -16,7 +20,7 @@ use super::tree_lines::{TreeLines, TreeWithLines};
 use kc_checks::{Summary, out_of_memory};
 use kc_conditions::{WalkedListing, walk_all};
 use kc_expr::Arena;
-use kc_listing::{Listing, SymbolTable};
+use kc_parser::{Listing, SymbolTable};
 use kc_tokens::Language;
 use kc_tree::{ItemsWithKeys, SymbolRow, Tree, TreeLists};
 use kc_tree_model::{Sym, TreeFault, Unit};
@@ -71,23 +75,50 @@ fn kept_parts(walked: WalkedListing) -> KeptParts
     }
 }
 
-/// The collected lists and the lines of a tree, from a walked listing and what was collected of it.
-fn gathered(
-    walked: WalkedListing,
-    symbols: Vec<SymbolRow>,
-    parts: GroupParts,
+/// The lists of a summary that a tree keeps: the members of its choices, and its units.
+#[derive(Drop)]
+struct KeptLists {
     members: ItemsWithKeys<Sym>,
     units: Vec<Unit>,
-) -> GatheredTree
+}
+
+/// What of a summary is kept: the members of each choice, and the units.
+fn kept_lists(summary: Summary) -> KeptLists
+    ensures members { result.members ≡ summary.own_members }
+    ensures units { result.units ≡ summary.units }
+{
+    let Summary {
+        symbols: _summaries,
+        enclosing: _enclosing,
+        choices: _count,
+        members: _all_members,
+        own_members,
+        units,
+    } = summary;
+    KeptLists {
+        members: own_members,
+        units,
+    }
+}
+
+/// What is collected of a listing: the parts that its groups give, and the rows of its symbols.
+#[derive(Drop)]
+struct TreeParts {
+    groups: GroupParts,
+    symbols: Vec<SymbolRow>,
+}
+
+/// The collected lists and the lines of a tree, from a walked listing, its summary and what was collected of both.
+fn gathered(walked: WalkedListing, summary: Summary, parts: TreeParts) -> GatheredTree
     ensures arena { result.lists.arena ≡ walked.listing.names.arena }
-    ensures symbols { result.lists.symbols ≡ symbols }
-    ensures attributes { result.lists.attributes ≡ parts.attributes }
-    ensures choices { result.lists.choices ≡ parts.rows }
-    ensures members { result.lists.members ≡ members }
-    ensures member_defaults { result.lists.member_defaults ≡ parts.defaults }
-    ensures entries { result.lists.entries ≡ parts.entries }
+    ensures symbols { result.lists.symbols ≡ parts.symbols }
+    ensures attributes { result.lists.attributes ≡ parts.groups.attributes }
+    ensures choices { result.lists.choices ≡ parts.groups.rows }
+    ensures members { result.lists.members ≡ summary.own_members }
+    ensures member_defaults { result.lists.member_defaults ≡ parts.groups.defaults }
+    ensures entries { result.lists.entries ≡ parts.groups.entries }
     ensures titles { result.lists.titles ≡ walked.listing.texts }
-    ensures units { result.lists.units ≡ units }
+    ensures units { result.lists.units ≡ summary.units }
     ensures language { result.lists.language ≡ walked.language }
     ensures groups { result.lines.groups ≡ walked.listing.groups }
     ensures lines { result.lines.lines ≡ walked.listing.lines }
@@ -95,20 +126,47 @@ fn gathered(
 {
     let language = walked.language;
     let kept = kept_parts(walked);
+    let lists = kept_lists(summary);
     GatheredTree {
         lists: TreeLists {
             arena: kept.arena,
-            symbols,
-            attributes: parts.attributes,
-            choices: parts.rows,
-            members,
-            member_defaults: parts.defaults,
-            entries: parts.entries,
+            symbols: parts.symbols,
+            attributes: parts.groups.attributes,
+            choices: parts.groups.rows,
+            members: lists.members,
+            member_defaults: parts.groups.defaults,
+            entries: parts.groups.entries,
             titles: kept.titles,
-            units,
+            units: lists.units,
             language,
         },
         lines: kept.lines,
+    }
+}
+
+/// Makes the checks on the whole tree over a walked listing, which has this summary, and collects what its groups give and the rows
+/// of its symbols.
+///
+/// # Errors
+///
+/// The first fault of these checks, in reading order; if memory runs out, `OutOfMemory` with no file.
+fn tree_parts(
+    alloc: Global,
+    walked: &WalkedListing,
+    summary: &Summary,
+) -> Result<TreeParts, TreeFault>
+    requires few { AreFew walked.now }
+    requires walk { (files : Files) × (root : List ℕ) × IsWalk walked.now files root }
+    requires summary { IsSummed walked.now.listing summary.now }
+    ensures faultless { (files : Files) (root : List ℕ) → IsWalk walked.now files root → IfOk result (λ _. None ≡ slice_get (tree_faults files.language (reading files root).read) 0) }
+    ensures groups { (files : Files) (root : List ℕ) → IsWalk walked.now files root → IfOk result (λ p. AreParts files.language walked.now.listing (reading files root).read p.groups) }
+    ensures symbols { (files : Files) (root : List ℕ) → IsWalk walked.now files root → IfOk result (λ p. AreRowsOf walked.now.listing.names.arena (contents_of (reading files root).read) (names_defined (reading files root).read) p.symbols.items) }
+    ensures fault { (files : Files) (root : List ℕ) → IsWalk walked.now files root → IfErr result (IsFaultRead files root) }
+{
+    let groups = checked_parts(alloc, walked, summary)?;
+    match symbol_rows(alloc, &walked.listing, summary.symbols.as_slice()) {
+        Ok(symbols) => Ok(TreeParts { groups, symbols }),
+        Err(_) => Err(out_of_memory()),
     }
 }
 
@@ -130,20 +188,14 @@ fn gathered_of(
     ensures ok { (files : Files) (root : List ℕ) → IsWalk walked files root → IfOk result (IsGatheredRead files root) }
     ensures fault { (files : Files) (root : List ℕ) → IsWalk walked files root → IfErr result (IsFaultRead files root) }
 {
-    let parts = checked_parts(alloc, &walked, &summary)?;
-    let summaries = summary.symbols.as_slice();
-    let Ok(symbols) = symbol_rows(alloc, &walked.listing, summaries) else {
-        return Err(out_of_memory());
-    };
-    let Summary {
-        symbols: _summaries,
-        enclosing: _enclosing,
-        choices: _count,
-        members: _all_members,
-        own_members,
-        units,
-    } = summary;
-    Ok(gathered(walked, symbols, parts, own_members, units))
+    match tree_parts(alloc, &walked, &summary) {
+        Ok(parts) => Ok(gathered(walked, summary, parts)),
+        Err(fault) => {
+            drop(walked);
+            drop(summary);
+            Err(fault)
+        }
+    }
 }
 
 /// The collected lists and the lines of a listing of files in `language`.

@@ -3,10 +3,10 @@ ghost use Rattle.std.specs.Prelude.{◌≡◌, ◌++◌, OnOk, length};
 ghost use Rattle.std.specs.List.{list_any};
 ghost use Rattle.kc_builder.specs.checker.ChoiceRows.{is_optional_line, choice_row, group_rows};
 
-use kc_checks::{begins_choice, is_optional};
+use kc_checks::begins_choice;
 use kc_conditions::first_condition;
 use kc_expr::ExprId;
-use kc_listing::{Group, Line};
+use kc_parser::{Group, Line};
 use kc_tree::ChoiceRow;
 use std::alloc::AllocError;
 
@@ -14,7 +14,7 @@ use std::alloc::AllocError;
 fn has_optional(lines: &[Line]) -> bool
     ensures { result ≡ list_any is_optional_line lines.now }
 {
-    lines.iter().any(|line| is_optional(&line.attribute))
+    lines.iter().any(|line| line.attribute.is_optional())
 }
 
 /// The row of a choice that begins with a group, which has these attributes with these conditions.

@@ -1,11 +1,12 @@
 //! The attributes of symbols, from all their definitions.
-ghost use Rattle.std.specs.Prelude.{◌≡◌, [], All, OnOk, length};
-ghost use Rattle.kc_listing.specs.between.ListingView.{LineNodesExist};
+ghost use Rattle.std.specs.Prelude.{◌≡◌, [], All, OnOk};
+ghost use Rattle.kc_parser.specs.between.ListingView.{LineNodesExist};
 ghost use Rattle.kc_builder.specs.checker.Definitions.{HasDefinition, HasStatement};
 
-use super::definition_attributes::{push_defaults, push_prompts, push_ranges, push_targets};
+use super::definition_attributes::{push_own, push_targets};
+use super::group_attributes::GroupAttributes;
 use kc_expr::ExprId;
-use kc_listing::{GroupHead, Line, SymbolTable};
+use kc_parser::GroupHead;
 use kc_tree::{Attributes, ItemsWithKeys};
 use std::alloc::{AllocError, Global};
 
@@ -31,47 +32,33 @@ pub(crate) fn no_attributes(alloc: Global) -> Attributes
 /// Appends the attributes and the dependency that one definition gives symbols. An `Err` means out of memory.
 fn push_definition(
     found: &mut Attributes,
-    names: &SymbolTable,
+    own: GroupAttributes<'_>,
     symbol: u32,
-    lines: &[Line],
-    conditions: &[ExprId],
     dependency: ExprId,
 ) -> Result<(), AllocError>
-    requires many { length conditions.now ≡ length lines.now }
-    requires held { All (LineNodesExist names.now.arena) lines.now }
-    ensures ok { OnOk result (HasDefinition names.now symbol found.old found.new lines.now conditions.now dependency) }
+    requires held { All (LineNodesExist own.names.now.arena) own.lines.now }
+    ensures ok { OnOk result (HasDefinition own.entry.names.now symbol found.old found.new own.entry.lines.now own.entry.conditions.now dependency) }
 {
-    push_prompts(&mut found.prompts, symbol, lines, conditions)?;
-    push_defaults(&mut found.defaults, symbol, lines, conditions)?;
-    push_ranges(&mut found.ranges, symbol, lines, conditions)?;
-    push_targets(
-        &mut found.selectors,
-        &mut found.impliers,
-        names,
-        symbol,
-        lines,
-        conditions,
-    )?;
-    found.direct.push(symbol, dependency)
+    push_own(found, own, symbol)?;
+    push_targets(&mut found.selectors, &mut found.impliers, own, symbol)?;
+    found.direct.push(symbol, dependency)?;
+    Ok(())
 }
 
 /// Appends what a statement gives symbols: its attributes and its dependency if it is a definition, and else nothing. An `Err` means
 /// out of memory.
 pub(crate) fn push_attributes(
     found: &mut Attributes,
-    names: &SymbolTable,
+    own: GroupAttributes<'_>,
     head: &GroupHead,
-    lines: &[Line],
-    conditions: &[ExprId],
     dependency: ExprId,
 ) -> Result<(), AllocError>
-    requires many { length conditions.now ≡ length lines.now }
-    requires held { All (LineNodesExist names.now.arena) lines.now }
-    ensures { OnOk result (HasStatement head.now names.now found.old found.new lines.now conditions.now dependency) }
+    requires held { All (LineNodesExist own.names.now.arena) own.lines.now }
+    ensures { OnOk result (HasStatement head.now own.entry.names.now found.old found.new own.entry.lines.now own.entry.conditions.now dependency) }
 {
     match *head {
         GroupHead::Config(s) => {
-            push_definition(found, names, s, lines, conditions, dependency)?;
+            push_definition(found, own, s, dependency)?;
             Ok(())
         }
         _ => Ok(()),

@@ -1,10 +1,9 @@
 //! The entries of a tree, in reading order.
 ghost use Rattle.std.specs.Prelude.{◌≡◌, ◌++◌, IfOk, OnOk, option_to_list};
 ghost use Rattle.kc_builder.specs.checker.Entries.{entry_row};
-ghost use Rattle.kc_tree.specs.declared.parts.EntryRow.TheVariants.{MenuBegins, MenuEnds, Comment};
 
 use kc_conditions::GroupConditions;
-use kc_listing::GroupHead;
+use kc_parser::GroupHead;
 use kc_tree::EntryRow;
 use kc_tree_model::{Block, Sym};
 use std::alloc::AllocError;
@@ -19,38 +18,6 @@ fn title_number(place: usize) -> Result<u32, AllocError>
     }
 }
 
-/// The end of a menu, with the index of its title.
-fn menu_end(title: usize, group: &GroupConditions) -> Result<EntryRow, AllocError>
-    ensures { IfOk result (λ row. row ≡ MenuEnds title group.now.dependency group.now.visible) }
-{
-    Ok(EntryRow::MenuEnds {
-        title: title_number(title)?,
-        dependency: group.dependency,
-        visible: group.visible,
-    })
-}
-
-/// The beginning of a menu, with the index of its title.
-fn menu_begin(title: usize, group: &GroupConditions) -> Result<EntryRow, AllocError>
-    ensures { IfOk result (λ row. row ≡ MenuBegins title group.now.dependency group.now.visible) }
-{
-    Ok(EntryRow::MenuBegins {
-        title: title_number(title)?,
-        dependency: group.dependency,
-        visible: group.visible,
-    })
-}
-
-/// A comment, with the index of its text.
-fn comment(title: usize, group: &GroupConditions) -> Result<EntryRow, AllocError>
-    ensures { IfOk result (λ row. row ≡ Comment title group.now.dependency) }
-{
-    Ok(EntryRow::Comment {
-        title: title_number(title)?,
-        dependency: group.dependency,
-    })
-}
-
 /// The entry of a group, if it has one; `choices` counts the choices before it.
 fn entry_of(
     head: &GroupHead,
@@ -62,10 +29,21 @@ fn entry_of(
     match *head {
         GroupHead::Config(s) => Ok(Some(EntryRow::Definition(Sym::at(s)))),
         GroupHead::Choice => Ok(Some(EntryRow::ChoiceBegins(choices))),
-        GroupHead::Menu(title) => Ok(Some(menu_begin(title, group)?)),
-        GroupHead::Comment(title) => Ok(Some(comment(title, group)?)),
+        GroupHead::Menu(title) => Ok(Some(EntryRow::MenuBegins {
+            title: title_number(title)?,
+            dependency: group.dependency,
+            visible: group.visible,
+        })),
+        GroupHead::Comment(title) => Ok(Some(EntryRow::Comment {
+            title: title_number(title)?,
+            dependency: group.dependency,
+        })),
         GroupHead::Ends(Block::Menu) => match group.ended {
-            Some(title) => Ok(Some(menu_end(title, group)?)),
+            Some(title) => Ok(Some(EntryRow::MenuEnds {
+                title: title_number(title)?,
+                dependency: group.dependency,
+                visible: group.visible,
+            })),
             None => Ok(None),
         },
         _ => Ok(None),

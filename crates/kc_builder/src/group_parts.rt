@@ -1,10 +1,10 @@
-//! What the groups of a listing give its tree, gathered group by group behind their checks.
+//! What the groups of a listing give its tree, gathered group by group after their checks.
 ghost use Rattle.std.specs.Prelude.{◌≡◌, ◌⊎◌, ◌<◌, ◌+◌, ◌^◌, List, IfErr, IfOk, None, OnOk, Some, length, slice_get, if◌then◌else◌};
 ghost use Rattle.kc_tokens.specs.declared.language.Language.{Language as AnyLanguage};
 ghost use Rattle.kc_tree_model.specs.Blocks.{Group as ModelGroup};
 ghost use Rattle.kc_tree_model.specs.TreeFaults.{tree_faults};
-ghost use Rattle.kc_listing.specs.between.ListingView.{RepresentsListing};
-ghost use Rattle.kc_listing.specs.between.MemoryFaults.{no_memory};
+ghost use Rattle.kc_parser.specs.between.ListingView.{RepresentsListing};
+ghost use Rattle.kc_parser.specs.between.MemoryFaults.{no_memory};
 ghost use Rattle.kc_conditions.specs.between.GroupConditions.{conditions_at, own_conditions};
 ghost use Rattle.kc_checks.specs.between.FaultSearch.{AreFaultless};
 ghost use Rattle.kc_checks.specs.between.Summaries.{group_at, is_choice_code, own_lines, IsRepresented, IsSummed};
@@ -15,10 +15,11 @@ use super::choice_defaults::push_group_defaults;
 use super::choice_rows::push_row;
 use super::definitions::{no_attributes, push_attributes};
 use super::entries::push_entry;
+use super::group_attributes::GroupAttributes;
 use kc_checks::{Checks, Summary, lines_of, out_of_memory};
 use kc_conditions::{GroupConditions, WalkedListing, conditions_of};
 use kc_expr::ExprId;
-use kc_listing::Listing;
+use kc_parser::Listing;
 use kc_tree::{Attributes, ChoiceRow, EntryRow, ItemsWithKeys, MemberDefault};
 use kc_tree_model::TreeFault;
 use std::alloc::{AllocError, Global};
@@ -60,27 +61,18 @@ impl GroupParts {
         ensures ok { OnOk result (HasGroup listing.now.names (group_at listing.now.groups.items i) (own_lines listing.now i) (own_conditions groups.now conditions.now i) (conditions_at groups.now i) choices self.old self.new) }
     {
         let group = &listing.groups[i];
-        let own = &groups[i];
+        let joined = &groups[i];
         let lines = lines_of(listing, i);
         let given = conditions_of(groups, conditions, i);
-        push_attributes(
-            &mut self.attributes,
-            &listing.names,
-            &group.head,
+        let own = GroupAttributes {
+            names: &listing.names,
             lines,
-            given,
-            own.dependency,
-        )?;
+            conditions: given,
+        };
+        push_attributes(&mut self.attributes, own, &group.head, joined.dependency)?;
         push_row(&mut self.rows, group, lines, given)?;
-        push_group_defaults(
-            &mut self.defaults,
-            &listing.names,
-            &group.head,
-            choices,
-            lines,
-            given,
-        )?;
-        push_entry(&mut self.entries, &group.head, own, choices)?;
+        push_group_defaults(&mut self.defaults, own, &group.head, choices)?;
+        push_entry(&mut self.entries, &group.head, joined, choices)?;
         Ok(())
     }
 

@@ -7,6 +7,7 @@ mod choice_rows;
 mod definition_attributes;
 mod definitions;
 mod entries;
+mod group_attributes;
 mod group_parts;
 mod rows;
 mod tree_lines;

@@ -3,13 +3,13 @@ ghost use Rattle.std.specs.Prelude.{◌≡◌, List, IfOk};
 ghost use Rattle.kc_tree_model.specs.Blocks.{Group as ModelGroup};
 ghost use Rattle.kc_tree_model.specs.Contents.{contents_of};
 ghost use Rattle.kc_tree_model.specs.Limits.{names_defined};
-ghost use Rattle.kc_listing.specs.between.ListingView.{RepresentsListing};
+ghost use Rattle.kc_parser.specs.between.ListingView.{RepresentsListing};
 ghost use Rattle.kc_builder.specs.checker.Rows.{place_of_group_number, row_of_symbol, AreRowsOf};
 ghost use Rattle.kc_checks.specs.between.Summaries.{AreSymbolSummaries, IsRepresented};
 
 use kc_checks::SymbolSummary;
 use kc_expr::NameId;
-use kc_listing::{Group, Listing};
+use kc_parser::{Group, Listing};
 use kc_tree::{SymbolRow, kind_in_tree};
 use std::alloc::{AllocError, Global};
 

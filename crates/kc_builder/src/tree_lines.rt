@@ -1,6 +1,6 @@
 //! The lines of a tree's files.
 use kc_expr::ExprId;
-use kc_listing::{Group, Line};
+use kc_parser::{Group, Line};
 use kc_tree::Tree;
 
 /// The statements and attributes that were read from a tree's files, in reading order, each with its line; the attributes of a

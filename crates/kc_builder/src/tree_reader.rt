@@ -1,14 +1,14 @@
 //! Reads the tree of Kconfig files.
 ghost use Rattle.std.specs.Prelude.{◌≡◌, ◌⊎◌, IfOk, IfErr};
 ghost use Rattle.kc_tree_model.specs.TreesOfFiles.{IsTreeOfFiles, IsReportedFault};
-ghost use Rattle.kc_listing.specs.between.MemoryFaults.{no_memory};
+ghost use Rattle.kc_parser.specs.between.MemoryFaults.{no_memory};
 ghost use Rattle.kc_builder.specs.between.TreeLines.{IsTreeWithLines};
 ghost use Rattle.kc_builder.specs.checker.Assembly.{IsGathered};
 
 use super::builder::{GatheredTree, lists_of, tree_of, tree_with_lines_of};
 use super::tree_lines::TreeWithLines;
 use kc_checks::out_of_memory;
-use kc_listing::read_files;
+use kc_parser::read_files;
 use kc_tree::Tree;
 use kc_tree_model::{Texts, TreeFault};
 use std::alloc::Global;

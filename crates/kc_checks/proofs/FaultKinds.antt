@@ -1,30 +1,19 @@
 -- The first fault of a definition, of an attribute, and of lines.
-use Rattle.std.proofs.Common.{◌≡◌, ℕ, suc, ◌+◌, ◌<◌, ◌≤◌, Bool, true, false, cond, ◌&&◌, ◌||◌, List, [], ◌∷◌, ◌++◌, length, get_or, drop, map, Option, Some, None, refl, ap, sym, ◌∙◌, arith}
+use Rattle.kc_checks.proofs.Common.{◌≡◌, ℕ, suc, ◌+◌, ◌<◌, ◌≤◌, Bool, true, false, cond, ◌&&◌, ◌||◌, List, [], ◌∷◌, ◌++◌, length, get_or, drop, map, Option, Some, None, refl, ap, sym, ◌∙◌, arith, not, slice_get, is_some, is_none, bytes_eq, option_map, option_or, Language, Kind, Exprs, TreeFault}
+use Rattle.kc_checks.proofs.Common.{default_of, prompt_of, Group, Line, GroupInContext, Contents, choice_of_symbol, is_first_definition, type_given, is_again_in_choice, is_no_member_kind, may_follow_member, definition_faults, attribute_faults, choice_faults, faults_at, faults_of_lines, is_no_member}
+use Rattle.kc_checks.proofs.Common.{attribute_in, line_in, definition_kind, SymbolSummary}
 use Rattle.std.specs.List.{list_all}
-use Rattle.std.specs.Prelude.{not, slice_get, is_some, is_none, bytes_eq, option_map}
-use Rattle.std.specs.Option.{option_or}
 use Rattle.std.proofs.Math.Seq.{drop-cons}
 use Rattle.std.proofs.lemmas.List.{drop_all}
-use Rattle.kc_tokens.specs.declared.language.Language.{Language}
 use Rattle.kc_tokens.specs.declared.language.Language.TheVariants.{Strict, Linux}
-use Rattle.kc_value.specs.declared.value.Kind.{Kind}
-use Rattle.kc_expr.specs.between.Arena.{Exprs}
 use Rattle.kc_expr.specs.Expr.{modules as modules_name}
 use Rattle.kc_tree_model.specs.declared.fault.TreeKind.{TreeKind}
-use Rattle.kc_tree_model.specs.declared.fault.TreeKind.TheVariants.{SecondPrompt}
-use Rattle.kc_tree_model.specs.declared.fault.TreeFault.{TreeFault}
-use Rattle.kc_tree_model.specs.Statements.{Attribute, default_of, prompt_of}
-use Rattle.kc_tree_model.specs.Blocks.{Group, Line}
-use Rattle.kc_tree_model.specs.Conditions.{GroupInContext}
-use Rattle.kc_tree_model.specs.Contents.{Contents, choice_of_symbol, is_first_definition, type_given}
-use Rattle.kc_tree_model.specs.TreeFaults.{is_added_attribute, is_again_in_choice, is_no_member_kind, may_follow_member, when, definition_faults, attribute_faults, choice_faults, faults_at, faults_of_lines, is_no_member, is_wrong_reverse_dependency}
-use Rattle.kc_statements.specs.between.StatementViews.{attribute_in}
+use Rattle.kc_tree_model.specs.Statements.{Attribute}
+use Rattle.kc_tree_model.specs.TreeFaults.{is_added_attribute, when, is_wrong_reverse_dependency}
 use Rattle.kc_statements.specs.declared.statement.Attribute.{Attribute as CodeAttribute}
 use Rattle.kc_statements.specs.declared.statement.Attribute.TheVariants as attributes
-use Rattle.kc_listing.specs.declared.listing.Line.{Line as CodeLine}
-use Rattle.kc_listing.specs.between.ListingView.{line_in}
-use Rattle.kc_checks.specs.checker.Kinds.{is_added_code, is_added_line, may_follow_code, definition_kind, typed_kind, choice_kind}
-use Rattle.kc_checks.specs.declared.summary.SymbolSummary.{SymbolSummary}
+use Rattle.kc_parser.specs.declared.listing.Line.{Line as CodeLine}
+use Rattle.kc_checks.specs.checker.Kinds.{is_added_code, is_added_line, may_follow_code, typed_kind, choice_kind}
 use Rattle.kc_checks.proofs.SymbolSummaries.{first_of_both}
 
 -- the first of a list that has one kind if a test holds is this kind if the test holds, and `None` if not
@@ -60,18 +49,7 @@ six false b c d e f j k l m n o = five b c d e f k l m n o
 -- whether a definition may follow that of a member
 added_one : (old : Exprs) (a : CodeAttribute) → is_added_code a ≡ is_added_attribute (attribute_in old a)
 added_one old (attributes.Typed k) = refl
-added_one old (attributes.TypedPrompt k c) = refl
-added_one old (attributes.TypedDefault k d) = refl
-added_one old (attributes.Prompt c) = refl
-added_one old (attributes.Default d) = refl
-added_one old (attributes.Depends id) = refl
-added_one old (attributes.Select s) = refl
-added_one old (attributes.Imply s) = refl
-added_one old (attributes.Range r) = refl
-added_one old (attributes.Visible id) = refl
-added_one old attributes.Help = refl
-added_one old attributes.Modules = refl
-added_one old attributes.Optional = refl
+added_one old x = refl
 
 added_all : (old : Exprs) (ls : List CodeLine) → list_all is_added_line ls ≡ list_all (λ (l : Line). is_added_attribute l.attribute) (map (line_in old) ls)
 added_all old [] = refl
@@ -108,10 +86,6 @@ pub typed_is : (c : Contents) (name : List ℕ) (k : Kind) (prompted is_modules 
     → is_wrong ≡ is_wrong_reverse_dependency c k a
     → typed_kind k prompted is_modules is_wrong a ≡ slice_get (attribute_faults c name (Some k) prompted a) 0
 typed_is c name k prompted is_modules is_wrong a m w = rw (m, w) (sym (six _ _ _ _ _ _ _ _ _ _ _ _))
-
-pub untyped_is : (c : Contents) (name : List ℕ) (prompted : Bool) (a : Attribute)
-    → slice_get (attribute_faults c name None prompted a) 0 ≡ cond (prompted && is_some (prompt_of a)) (Some SecondPrompt) None
-untyped_is c name prompted a = first_of_one (prompted && is_some (prompt_of a)) _
 
 -- the kind of fault found in an attribute of a choice is the first of the model's faults of the attribute
 pub choice_is : (members : List (List ℕ)) (prompted is_none : Bool) (a : Attribute) → is_none ≡ is_no_member members (default_of a)

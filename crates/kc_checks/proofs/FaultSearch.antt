@@ -1,39 +1,28 @@
 -- The faults of a group, from the summary of its symbol.
-use Rattle.std.proofs.Common.{◌≡◌, inl, ◌&&◌, ℕ, zero, suc, ◌+◌, ◌-◌, ◌<◌, ◌≤◌, ◌==◌, Bool, true, false, cond, List, [], ◌∷◌, length, get_or, map, replicate, reverse, Option, Some, None, refl, ap, sym, subst, ◌∙◌, arith, filter}
-use Rattle.std.specs.Prelude.{slice_get, slice_index, slice_range, filter_map, flat_map, is_some, nat_lt, option_and_then, option_map, bytes_eq, All, IfSome}
-use Rattle.std.specs.List.{list_any}
-use Rattle.std.specs.Option.{option_or}
+use Rattle.std.proofs.Common.{◌==◌}
+use Rattle.std.specs.Prelude.{IfSome}
+use Rattle.kc_checks.proofs.Common.{◌≡◌, inl, ◌&&◌, ℕ, zero, suc, ◌+◌, ◌-◌, ◌<◌, ◌≤◌, Bool, true, false, cond, List, [], ◌∷◌, length, get_or, map, replicate, reverse, Option, Some, None, refl, ap, sym, subst, ◌∙◌, arith, filter, slice_get, slice_index, slice_range, filter_map, flat_map, is_some}
+use Rattle.kc_checks.proofs.Common.{nat_lt, option_and_then, option_map, bytes_eq, All, list_any, option_or, flat_map-append, length-map, get_or_from_slice_get, Language, Exprs, index_of_name, TreeFault, config, choice, Group, GroupHead, of_head, defined_name, open_blocks, opens_choice}
+use Rattle.kc_checks.proofs.Common.{GroupInContext, group_in_context, groups_in_context, Contents, contents_of, choice_number, defines, definitions_of, is_first_definition, member_names, names_defined, is_again_in_choice, is_no_member_kind, may_follow_member, attribute_faults, choice_faults}
+use Rattle.kc_checks.proofs.Common.{definition_faults, faults_at, faults_of_lines, kind_of, Has, Differ-once, get_below, has-at, has-filter, map-get, number-get, text_of_name, Listing, RepresentsGroups, RepresentsHead, line_in, choice_around, definition_kind, AreMarked, WereMarked, AreSmall}
+use Rattle.kc_checks.proofs.Common.{choices_before, summary_in, attributes_end, enclosing_choice, first_is, first_in_definitions, group_at, member_keys_at, members_at, number_at, read_before, SymbolSummary}
 use Rattle.std.proofs.lemmas.Bool.{ltb-true}
-use Rattle.std.proofs.lemmas.Grind.{flat_map-append}
-use Rattle.std.proofs.lemmas.List.{get_or_past, length-map}
-use Rattle.std.proofs.lemmas.Option.{get_or_from_slice_get}
-use Rattle.kc_tokens.specs.declared.language.Language.{Language}
-use Rattle.kc_expr.specs.between.Arena.{Exprs}
+use Rattle.std.proofs.lemmas.List.{get_or_past}
 use Rattle.kc_expr.specs.Expr.{modules as modules_name}
-use Rattle.kc_expr.specs.Lookup.{index_of_name}
-use Rattle.kc_tree_model.specs.declared.fault.TreeFault.{TreeFault}
-use Rattle.kc_tree_model.specs.Statements.{config, choice}
-use Rattle.kc_tree_model.specs.Blocks.{Group, GroupHead, of_head, file_end, defined_name, open_blocks, opens_choice}
-use Rattle.kc_tree_model.specs.Conditions.{GroupInContext, group_in_context, groups_in_context}
-use Rattle.kc_tree_model.specs.Contents.{Contents, contents_of, choice_number, choice_of_first_definition, defines, definitions_of, is_first_definition, member_names}
-use Rattle.kc_tree_model.specs.Limits.{names_defined}
-use Rattle.kc_tree_model.specs.TreeFaults.{is_again_in_choice, is_no_member_kind, is_same_choice, may_follow_member, attribute_faults, choice_faults, definition_faults, faults_at, faults_of_group, faults_of_head, faults_of_lines, kind_of, tree_faults}
-use Rattle.kc_tree_model.proofs.Consistency.Lists.{Has, Differ-once, at-has, get-map, get_below, has-at, has-filter, map-get, number-get}
-use Rattle.kc_listing.specs.declared.listing.Group.{Group as CodeGroup}
-use Rattle.kc_listing.specs.declared.listing.Line.{Line as CodeLine}
-use Rattle.kc_listing.specs.declared.listing.GroupHead.{GroupHead as CodeHead}
-use Rattle.kc_listing.specs.declared.listing.GroupHead.TheVariants as codes
-use Rattle.kc_listing.specs.between.SymbolTable.{HasNames, text_of_name}
-use Rattle.kc_listing.specs.declared.listing.Listing.{Listing}
-use Rattle.kc_listing.specs.between.ListingView.{RepresentsGroups, RepresentsHead, RepresentsListing, line_in}
+use Rattle.kc_tree_model.specs.Blocks.{file_end}
+use Rattle.kc_tree_model.specs.Contents.{choice_of_first_definition}
+use Rattle.kc_tree_model.specs.TreeFaults.{is_same_choice, faults_of_group, faults_of_head, tree_faults}
+use Rattle.kc_tree_model.proofs.Consistency.Lists.{at-has, get-map}
+use Rattle.kc_parser.specs.declared.listing.Group.{Group as CodeGroup}
+use Rattle.kc_parser.specs.declared.listing.Line.{Line as CodeLine}
+use Rattle.kc_parser.specs.declared.listing.GroupHead.{GroupHead as CodeHead}
+use Rattle.kc_parser.specs.declared.listing.GroupHead.TheVariants as codes
+use Rattle.kc_parser.specs.between.SymbolTable.{HasNames}
+use Rattle.kc_parser.specs.between.ListingView.{RepresentsListing}
 use Rattle.kc_tree.specs.between.GroupedItems.{items_at, IsGrouped}
 use Rattle.kc_tree_model.proofs.Consistency.Units.{first_of_choice}
-use Rattle.kc_checks.specs.checker.Kinds.{choice_around, definition_kind}
-use Rattle.kc_checks.specs.checker.Marks.{AreMarked, WereMarked}
-use Rattle.kc_checks.specs.between.FaultSearch.{AreFaultless, AreMembersByChoice, AreSmall, choices_before}
-use Rattle.kc_checks.specs.between.Summaries.{summary_in, attributes_end, enclosing_choice, first_is, first_in_definitions, group_at, member_keys_at, members_at, number_at, read_before}
+use Rattle.kc_checks.specs.between.FaultSearch.{AreFaultless, AreMembersByChoice}
 use Rattle.kc_checks.specs.declared.search.Checks.{Checks}
-use Rattle.kc_checks.specs.declared.summary.SymbolSummary.{SymbolSummary}
 use Rattle.kc_checks.proofs.SymbolSummaries.{first_of_both, first_number_is}
 use Rattle.kc_checks.proofs.GroupPlaces.{all_before, are_numbers, count_is, none_before, numbers_before, place_numbered, placed_before, placed_count, shown_at}
 use Rattle.kc_checks.proofs.FaultKinds.{definition_is, fault_of, first_mapped}
@@ -306,9 +295,7 @@ nothing_reported language e names texts (codes.Menu t) c p h n m = other_first l
 nothing_reported language e names texts (codes.Condition id) c p h n m = other_first language c p _ h.1
 nothing_reported language e names texts (codes.Comment t) c p h n m = other_first language c p _ h.2
 nothing_reported language e names texts (codes.Source t) c p h n m = other_first language c p _ h.2
-nothing_reported language e names texts codes.Mainmenu c p h n m = other_first language c p _ h
-nothing_reported language e names texts (codes.Ends b) c p h n m = other_first language c p _ h
-nothing_reported language e names texts codes.FileEnd c p h n m = other_first language c p _ h
+nothing_reported language e names texts x c p h n m = other_first language c p _ h
 
 pub at_most_more : (b : Bool) (m n : ℕ) → m ≤ n → m ≤ cond b (n + 1) n
 at_most_more true m n h = omega arith

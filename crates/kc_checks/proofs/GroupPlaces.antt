@@ -1,16 +1,12 @@
 -- The groups of the model and those of the listing, by number.
-use Rattle.std.proofs.Common.{◌≡◌, ℕ, zero, suc, ◌+◌, ◌-◌, ◌<◌, ◌≤◌, false, cond, List, [], ◌∷◌, ◌++◌, length, get_or, drop, reverse, refl, ap, sym, subst, ◌∙◌, arith, append_assoc, append-nil, length-append, length-drop, Some}
-use Rattle.std.specs.Prelude.{slice_get, slice_range, nat_lt}
-use Rattle.std.proofs.Math.Seq.{drop-length}
+use Rattle.std.proofs.Common.{length-drop}
+use Rattle.kc_checks.proofs.Common.{◌≡◌, ℕ, zero, suc, ◌+◌, ◌-◌, ◌<◌, ◌≤◌, false, cond, List, [], ◌∷◌, ◌++◌, length, get_or, drop, reverse, refl, ap, sym, subst, ◌∙◌, arith, append_assoc, append-nil, length-append, Some, slice_get, slice_range, nat_lt, drop-length, Exprs, Group, open_blocks}
+use Rattle.kc_checks.proofs.Common.{GroupInContext, group_in_context, groups_in_context, RepresentsGroups, read_before, group_at, attributes_end, no_group}
 use Rattle.std.proofs.lemmas.Bool.{lt-ltb}
 use Rattle.std.proofs.lemmas.List.{get_or-reverse, length-reverse}
-use Rattle.kc_expr.specs.between.Arena.{Exprs}
-use Rattle.kc_tree_model.specs.Blocks.{Group, open_blocks}
-use Rattle.kc_tree_model.specs.Conditions.{GroupInContext, group_in_context, groups_in_context}
-use Rattle.kc_listing.specs.declared.listing.Group.{Group as CodeGroup}
-use Rattle.kc_listing.specs.declared.listing.Line.{Line as CodeLine}
-use Rattle.kc_listing.specs.between.ListingView.{RepresentsGroup, RepresentsGroups}
-use Rattle.kc_checks.specs.between.Summaries.{read_before, group_at, attributes_end, no_group}
+use Rattle.kc_parser.specs.declared.listing.Group.{Group as CodeGroup}
+use Rattle.kc_parser.specs.declared.listing.Line.{Line as CodeLine}
+use Rattle.kc_parser.specs.between.ListingView.{RepresentsGroup}
 
 -- the stored group `i` represents the group that was read with this number, and its lines lie within the list
 pub record IsShownAt (e : Exprs) (names texts : List (List ℕ)) (lines : List CodeLine) (groups : List CodeGroup) (read : List Group) (i : ℕ) : Type 0 where

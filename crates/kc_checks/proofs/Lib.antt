@@ -1,3 +1,4 @@
+pub mod Common
 pub mod FaultKinds
 pub mod FaultSearch
 pub mod GroupPlaces

@@ -1,15 +1,9 @@
 -- The members of a choice are the items under its number.
-use Rattle.std.proofs.Common.{◌≡◌, ℕ, Bool, true, false, ◌&&◌, cond, ◌==◌, List, [], ◌∷◌, ◌++◌, filter, Option, Some, None, refl, ap, sym, ◌∙◌}
-use Rattle.std.specs.Prelude.{slice_get, filter_map, flat_map, option_to_list, option_and_then}
-use Rattle.std.specs.List.{cons_option}
-use Rattle.std.proofs.lemmas.Bool.{eqb-true, eq-eqb}
-use Rattle.kc_expr.specs.Lookup.{index_of_name}
-use Rattle.kc_tree_model.specs.Blocks.{defined_name}
-use Rattle.kc_tree_model.specs.Conditions.{GroupInContext}
-use Rattle.kc_tree_model.specs.Contents.{Contents, begins_symbol, choice_number, is_member_of, member_names, own_member_names}
-use Rattle.kc_tree_model.proofs.Consistency.Lists.{number-get}
+use Rattle.std.proofs.Common.{◌==◌}
+use Rattle.kc_checks.proofs.Common.{◌≡◌, ℕ, Bool, true, false, ◌&&◌, cond, List, [], ◌∷◌, ◌++◌, filter, Option, Some, None, refl, ap, sym, ◌∙◌, slice_get, filter_map, flat_map, option_to_list, option_and_then, cons_option, eqb-true, eq-eqb, index_of_name, defined_name, GroupInContext, Contents}
+use Rattle.kc_checks.proofs.Common.{begins_symbol, choice_number, is_member_of, member_names, number-get, enclosing_choice, own_choice, member_in, members_at, member_key, member_keys_at}
+use Rattle.kc_tree_model.specs.Contents.{own_member_names}
 use Rattle.kc_tree.specs.between.GroupedItems.{items_of}
-use Rattle.kc_checks.specs.between.Summaries.{enclosing_choice, own_choice, member_in, members_at, member_key, member_keys_at}
 use Rattle.kc_tree.proofs.GroupingLaw.{grouped_is}
 
 nothing_either : (b : Bool) (xs : List ℕ) → xs ≡ [] → cond b xs [] ≡ []

@@ -1,18 +1,10 @@
 -- The members of a choice, and their marks.
-use Rattle.std.proofs.Common.{◌≡◌, ℕ, ◌<◌, ◌==◌, Bool, true, false, List, length, get_or, Option, Some, None, refl, ap, sym, subst, ◌∙◌, arith, filter}
-use Rattle.std.specs.Prelude.{All, slice_get, slice_index, filter_map, flat_map, is_some, option_and_then}
-use Rattle.std.specs.List.{list_any}
-use Rattle.std.proofs.lemmas.Bool.{eq-eqb}
+use Rattle.std.proofs.Common.{◌==◌}
+use Rattle.kc_checks.proofs.Common.{◌≡◌, ℕ, ◌<◌, Bool, true, false, List, length, get_or, Option, Some, None, refl, ap, sym, subst, ◌∙◌, arith, filter, All, slice_get, slice_index, filter_map, flat_map, is_some, option_and_then, list_any, eq-eqb, index_of_name, Group, defined_name, GroupInContext}
+use Rattle.kc_checks.proofs.Common.{groups_in_context, Contents, contents_of, choice_number, is_member_of, member_names, names_defined, Has, filter_map-has, get_below, has-at, has-filter, has-place, number-get, place-get, has_mapped, AreMarked, WereMarked, enclosing_choice, member_in, member_key}
+use Rattle.kc_checks.proofs.Common.{member_keys_at, members_at}
 use Rattle.std.proofs.lemmas.Option.{slice_get-get_or}
-use Rattle.kc_expr.specs.Lookup.{index_of_name}
-use Rattle.kc_tree_model.specs.Blocks.{Group, defined_name}
-use Rattle.kc_tree_model.specs.Conditions.{GroupInContext, groups_in_context}
-use Rattle.kc_tree_model.specs.Contents.{Contents, contents_of, choice_number, is_member_of, member_names}
-use Rattle.kc_tree_model.specs.Limits.{names_defined}
-use Rattle.kc_tree_model.proofs.Consistency.Lists.{Has, any-has, filter_map-has, get_below, has-any, has-at, has-filter, has-filter_map, has-place, has_flat_map, number-get, place-get}
-use Rattle.kc_tree_model.proofs.Consistency.Units.{has_mapped}
-use Rattle.kc_checks.specs.checker.Marks.{AreMarked, WereMarked}
-use Rattle.kc_checks.specs.between.Summaries.{enclosing_choice, member_in, member_key, member_keys_at, members_at}
+use Rattle.kc_tree_model.proofs.Consistency.Lists.{any-has, has-any, has-filter_map, has_flat_map}
 use Rattle.kc_checks.proofs.Symbols.{named_there}
 
 -- a property of each element of a list holds for all of them

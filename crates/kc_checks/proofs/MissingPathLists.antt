@@ -1,34 +1,26 @@
 -- The absent paths of what was read.
-use Rattle.std.proofs.Common.{◌≡◌, ℕ, List, [], ◌∷◌, ◌++◌, length, refl, ap, sym, ◌∙◌, arith, drop, ◌≤◌, Option, Some, None, reverse}
-use Rattle.std.specs.Prelude.{filter, filter_map}
+use Rattle.kc_checks.proofs.Common.{◌≡◌, ℕ, List, [], ◌∷◌, ◌++◌, length, refl, ap, sym, ◌∙◌, arith, drop, ◌≤◌, Option, Some, None, reverse, filter_map, drop-length, Exprs, Files, Group, GroupHead, from_head, sourced_path, without_repeats, names_defined, Listing, RepresentsHead, RepresentsGroups}
+use Rattle.kc_checks.proofs.Common.{is_absent, with_absent, with_all}
+use Rattle.std.specs.Prelude.{filter}
 use Rattle.std.proofs.lemmas.List.{reverse-reverse, reverse-append}
-use Rattle.std.proofs.Math.Seq.{drop-length}
-use Rattle.kc_expr.specs.between.Arena.{Exprs}
-use Rattle.kc_tree_model.specs.TreeFiles.{Files}
 use Rattle.kc_tree_model.specs.Statements.{path_of_head}
-use Rattle.kc_tree_model.specs.Blocks.{Group, GroupHead, from_head, sourced_path}
-use Rattle.kc_tree_model.specs.Limits.{without_repeats, names_defined}
-use Rattle.kc_listing.specs.declared.listing.Group.{Group as CodeGroup}
-use Rattle.kc_listing.specs.declared.listing.Line.{Line as CodeLine}
-use Rattle.kc_listing.specs.declared.listing.Listing.{Listing}
-use Rattle.kc_listing.specs.declared.listing.GroupHead.{GroupHead as CodeHead}
-use Rattle.kc_listing.specs.declared.listing.GroupHead.TheVariants as codes
-use Rattle.kc_listing.specs.between.ListingView.{RepresentsListing, RepresentsHead, RepresentsGroups}
-use Rattle.kc_checks.specs.checker.MissingPaths.{is_absent, with_absent, path_in, with_all}
+use Rattle.kc_parser.specs.declared.listing.Group.{Group as CodeGroup}
+use Rattle.kc_parser.specs.declared.listing.Line.{Line as CodeLine}
+use Rattle.kc_parser.specs.declared.listing.GroupHead.{GroupHead as CodeHead}
+use Rattle.kc_parser.specs.declared.listing.GroupHead.TheVariants as codes
+use Rattle.kc_parser.specs.between.ListingView.{RepresentsListing}
+use Rattle.kc_checks.specs.checker.MissingPaths.{path_in}
 use Rattle.kc_checks.proofs.MissingPaths.{once_kept}
 
 -- the path that a group sources is the one that is kept
 source_shown : (exprs : Exprs) (names texts : List (List ℕ)) (c : CodeHead) (w : GroupHead) → RepresentsHead exprs names texts c w
     → path_in texts c ≡ from_head path_of_head w
 source_shown exprs names texts (codes.Config s) w h = sym (ap (from_head path_of_head) h.2)
-source_shown exprs names texts codes.Choice w h = sym (ap (from_head path_of_head) h)
 source_shown exprs names texts (codes.Menu t) w h = sym (ap (from_head path_of_head) h.2)
 source_shown exprs names texts (codes.Condition id) w h = sym (ap (from_head path_of_head) h.1)
 source_shown exprs names texts (codes.Comment t) w h = sym (ap (from_head path_of_head) h.2)
 source_shown exprs names texts (codes.Source t) w h = h.1 ∙ sym (ap (from_head path_of_head) h.2)
-source_shown exprs names texts codes.Mainmenu w h = sym (ap (from_head path_of_head) h)
-source_shown exprs names texts (codes.Ends b) w h = sym (ap (from_head path_of_head) h)
-source_shown exprs names texts codes.FileEnd w h = sym (ap (from_head path_of_head) h)
+source_shown exprs names texts x w h = sym (ap (from_head path_of_head) h)
 
 module _ (files : Files) (texts : List (List ℕ)) where
   -- the same with the newest first

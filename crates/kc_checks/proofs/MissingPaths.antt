@@ -1,12 +1,9 @@
 -- Lists of paths without repeats.
-use Rattle.std.proofs.Common.{◌≡◌, ℕ, Bool, true, false, List, [], ◌∷◌, ◌++◌, ◌||◌, map, refl, ap, sym, ◌∙◌, cond}
-use Rattle.std.specs.Prelude.{filter, bytes_eq}
-use Rattle.std.specs.List.{list_any}
+use Rattle.kc_checks.proofs.Common.{◌≡◌, ℕ, Bool, true, false, List, [], ◌∷◌, ◌++◌, ◌||◌, map, refl, ap, sym, ◌∙◌, cond, bytes_eq, list_any, map-append, without_repeats, with_path}
+use Rattle.std.specs.Prelude.{filter}
 use Rattle.std.proofs.lemmas.Slice.Eq.{bytes_eq-Decides}
 use Rattle.std.proofs.lemmas.Bool.{false_from_ne_true}
-use Rattle.std.proofs.lemmas.List.{map-append}
-use Rattle.kc_tree_model.specs.Limits.{is_in_list, without_repeats}
-use Rattle.kc_checks.specs.checker.MissingPaths.{with_path}
+use Rattle.kc_tree_model.specs.Limits.{is_in_list}
 
 other_bytes : (n m : List ℕ) → (n ≡ m → ⊥) → bytes_eq n m ≡ false
 other_bytes n m ne = false_from_ne_true _ (λ e. ne ((bytes_eq-Decides n m).0 e))

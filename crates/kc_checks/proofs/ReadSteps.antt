@@ -1,21 +1,12 @@
 -- The faults and the absent paths of files.
-use Rattle.std.proofs.Common.{◌≡◌, ◌≢◌, ◌⊎◌, inl, inr, ℕ, List, [], ◌∷◌, ◌++◌, refl, sym, ◌∙◌, Option, Some, None, Err}
-use Rattle.std.specs.Prelude.{slice_get, filter, filter_map}
-use Rattle.kc_tokens.specs.declared.language.Language.{Language}
-use Rattle.kc_tree_model.specs.declared.fault.TreeFault.{TreeFault}
-use Rattle.kc_tree_model.specs.TreeFiles.{Files}
-use Rattle.kc_tree_model.specs.Blocks.{Group, sourced_path}
-use Rattle.kc_tree_model.specs.Limits.{without_repeats}
+use Rattle.std.proofs.Common.{◌≢◌}
+use Rattle.std.specs.Prelude.{filter}
+use Rattle.kc_checks.proofs.Common.{◌≡◌, ◌⊎◌, inl, inr, ℕ, List, [], ◌∷◌, ◌++◌, refl, sym, ◌∙◌, Option, Some, None, Err, slice_get, filter_map, Language, TreeFault, Files, Group, sourced_path, without_repeats, wanted_related, Listing, no_memory, is_absent}
 use Rattle.kc_tree_model.specs.TreeReading.{Outcome, reading, lenient_reading, wanted_by, paths_or_fault, files_wanted}
 use Rattle.kc_tree_model.specs.TreeFaults.{tree_faults, first_tree_fault, first_fault_after}
 use Rattle.kc_tree_model.specs.TreesOfFiles.{IsReportedFault, AreWanted}
-use Rattle.kc_tree_model.proofs.ReadingLaws.TreesOfRelation.{reported_related, wanted_related}
-use Rattle.kc_listing.specs.declared.listing.Listing.{Listing}
-use Rattle.kc_listing.specs.between.ListingView.{RepresentsListing}
-use Rattle.kc_listing.specs.between.MemoryFaults.{no_memory}
-use Rattle.kc_checks.specs.between.Summaries.{IsRepresented}
-use Rattle.kc_checks.specs.between.Surface.{IsOfTree}
-use Rattle.kc_checks.specs.checker.MissingPaths.{is_absent}
+use Rattle.kc_tree_model.proofs.ReadingLaws.TreesOfRelation.{reported_related}
+use Rattle.kc_parser.specs.between.ListingView.{RepresentsListing}
 
 after_some : (language : Language) (o : Outcome) (f : TreeFault) → o.fault ≡ Some f → first_fault_after language o ≡ Some f
 after_some language o f e = rw e refl
@@ -52,9 +43,6 @@ module _ (files : Files) (root : List ℕ) (l : Listing) (given : Option TreeFau
   pub shown_of_reading : given ≡ None → RepresentsListing l (reading files root).read
   shown_of_reading e = shown_by e read
 
-  pub of_reading : given ≡ None → IsRepresented l
-  of_reading e = record { read = (reading files root).read; shows = shown_of_reading e }
-
   -- if reading has no fault, the first fault of the files is the first of the checks on the whole tree
   pub reported_tree_fault : (o : Option TreeFault) → given ≡ None → o ≡ slice_get (tree_faults files.language (reading files root).read) 0
       → first_tree_fault files root ≡ o
@@ -67,9 +55,6 @@ module _ (files : Files) (root : List ℕ) (l : Listing) (given : Option TreeFau
       → (f ≡ no_memory) ⊎ (first_tree_fault files root ≡ Some f)
   reported_of_checks f e (inl m) = inl m
   reported_of_checks f e (inr h) = inr (reported_tree_fault (Some f) e h)
-
-  pub of_tree : given ≡ None → None ≡ slice_get (tree_faults files.language (reading files root).read) 0 → IsOfTree files.language l
-  of_tree e h = record { files = files; root = root; written = refl; untold = reported_tree_fault None e h; shows = shown_of_reading e }
 
 -- a returned fault, if not out of memory but the first fault of the files, is their reported fault
 pub reported_or_memory : (files : Files) (root : List ℕ) (f : TreeFault) → (f ≡ no_memory) ⊎ (first_tree_fault files root ≡ Some f)

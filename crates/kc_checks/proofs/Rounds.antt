@@ -1,24 +1,19 @@
 -- The enclosing choice of each group.
-use Rattle.std.proofs.Common.{◌≡◌, inl, inr, ℕ, suc, ◌+◌, ◌-◌, ◌<◌, Bool, true, false, cond, List, [], ◌∷◌, ◌++◌, length, drop, map, reverse, Option, Some, refl, ap, sym, subst, ◌∙◌, arith, append-nil, length-append, filter}
-use Rattle.std.specs.Prelude.{option_and_then, option_map, ◌==◌}
-use Rattle.std.proofs.lemmas.Bool.{eq-eqb, eqb-true}
-use Rattle.std.proofs.lemmas.List.{map-append}
-use Rattle.std.proofs.lemmas.List.Elements.{filter-append}
-use Rattle.kc_expr.specs.between.Arena.{Exprs}
-use Rattle.kc_tree_model.specs.Statements.{choice, menu, source}
-use Rattle.kc_tree_model.specs.Blocks.{Group, GroupHead, of_head, side_of, opening, closing, inside, open_blocks, opens_choice}
-use Rattle.kc_tree_model.specs.Conditions.{choice_among, GroupInContext, group_in_context, groups_in_context}
-use Rattle.kc_tree_model.specs.Contents.{Contents, contents_of, choice_number, index_of_number}
+use Rattle.kc_checks.proofs.Common.{◌≡◌, inl, inr, ℕ, suc, ◌+◌, ◌-◌, ◌<◌, Bool, true, false, cond, List, [], ◌∷◌, ◌++◌, length, drop, map, reverse, Option, Some, refl, ap, sym, subst, ◌∙◌, arith, append-nil, length-append, filter, option_and_then, option_map, ◌==◌, eq-eqb, eqb-true, map-append}
+use Rattle.kc_checks.proofs.Common.{filter-append, Exprs, choice, Group, GroupHead, of_head, open_blocks, opens_choice, GroupInContext, group_in_context, groups_in_context, Contents, contents_of, choice_number, Has, has-filter, group-placed, has_mapped, RepresentsHead, RepresentsGroups, read_before}
+use Rattle.kc_checks.proofs.Common.{group_at, innermost_choice, choices_opened_after, is_choice_code, open_choices}
+use Rattle.kc_tree_model.specs.Statements.{menu, source}
+use Rattle.kc_tree_model.specs.Blocks.{side_of, opening, closing, inside}
+use Rattle.kc_tree_model.specs.Conditions.{choice_among}
+use Rattle.kc_tree_model.specs.Contents.{index_of_number}
 use Rattle.kc_tree_model.proofs.NestedTrees.OpenBlocks.{open_inside, popped, pushed}
-use Rattle.kc_tree_model.proofs.Consistency.Lists.{Has, filter-has, has-number, has-filter, number_of_more}
-use Rattle.kc_tree_model.proofs.Consistency.Places.{choice_read, group-placed}
-use Rattle.kc_tree_model.proofs.Consistency.Units.{has_mapped, mapped_has}
-use Rattle.kc_listing.specs.declared.listing.GroupHead.{GroupHead as CodeHead}
-use Rattle.kc_listing.specs.declared.listing.GroupHead.TheVariants as codes
-use Rattle.kc_listing.specs.declared.listing.Group.{Group as CodeGroup}
-use Rattle.kc_listing.specs.declared.listing.Line.{Line as CodeLine}
-use Rattle.kc_listing.specs.between.ListingView.{RepresentsHead, RepresentsGroups}
-use Rattle.kc_checks.specs.between.Summaries.{read_before, group_at, innermost_choice, choices_opened_after, is_choice_code, open_choices}
+use Rattle.kc_tree_model.proofs.Consistency.Lists.{filter-has, has-number, number_of_more}
+use Rattle.kc_tree_model.proofs.Consistency.Places.{choice_read}
+use Rattle.kc_tree_model.proofs.Consistency.Units.{mapped_has}
+use Rattle.kc_parser.specs.declared.listing.GroupHead.{GroupHead as CodeHead}
+use Rattle.kc_parser.specs.declared.listing.GroupHead.TheVariants as codes
+use Rattle.kc_parser.specs.declared.listing.Group.{Group as CodeGroup}
+use Rattle.kc_parser.specs.declared.listing.Line.{Line as CodeLine}
 use Rattle.kc_checks.proofs.GroupPlaces.{AreNumbers, all_before, none_before, placed_before, shown_at}
 
 -- the numbers of the groups that open choices, in reading order
@@ -167,14 +162,11 @@ opened_is c e names texts codes.FileEnd g before n h number = closes c g before 
 pub begins_is : (e : Exprs) (names texts : List (List ℕ)) (what : CodeHead) (g : Group) → RepresentsHead e names texts what g.head
     → opens_choice g ≡ is_choice_code what
 begins_is e names texts (codes.Config s) g h = rw h.2 refl
-begins_is e names texts codes.Choice g h = rw h refl
 begins_is e names texts (codes.Menu t) g h = rw h.2 refl
 begins_is e names texts (codes.Condition id) g h = rw h.1 refl
 begins_is e names texts (codes.Comment t) g h = rw h.2 refl
 begins_is e names texts (codes.Source t) g h = rw h.2 refl
-begins_is e names texts codes.Mainmenu g h = rw h refl
-begins_is e names texts (codes.Ends b) g h = rw h refl
-begins_is e names texts codes.FileEnd g h = rw h refl
+begins_is e names texts x g h = rw h refl
 
 -- how many choices the first `i + 1` groups open
 pub counted : (read : List Group) (i : ℕ) (m : Group) (b : Bool) (n : ℕ) → read_before (i + 1) read ≡ m ∷ read_before i read → opens_choice m ≡ b

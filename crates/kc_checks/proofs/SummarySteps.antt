@@ -1,34 +1,18 @@
 -- The summary of the first groups of a listing, group by group.
-use Rattle.std.proofs.Common.{◌≡◌, inl, ℕ, ◌+◌, ◌-◌, ◌<◌, Bool, true, false, cond, ◌&&◌, List, [], ◌∷◌, ◌++◌, length, set, replicate, map, reverse, Option, Some, None, refl, ap, sym, subst, ◌∙◌, arith, append-nil, append_assoc, filter}
-use Rattle.std.specs.Prelude.{slice_get, slice_range, filter_map, flat_map, is_none, option_map, option_to_list, ◌==◌}
-use Rattle.std.specs.List.{cons_option}
-use Rattle.std.proofs.lemmas.Bool.{eq-eqb}
-use Rattle.std.proofs.lemmas.Grind.{flat_map-append}
-use Rattle.std.proofs.lemmas.List.{map-append}
-use Rattle.std.proofs.lemmas.List.Elements.{filter-append}
-use Rattle.std.proofs.lemmas.Option.{get_or_from_slice_get}
-use Rattle.kc_value.specs.declared.value.Kind.{Kind}
-use Rattle.kc_expr.specs.between.Arena.{Exprs}
-use Rattle.kc_expr.specs.Lookup.{index_of_name}
+use Rattle.kc_checks.proofs.Common.{◌≡◌, inl, ℕ, ◌+◌, ◌-◌, ◌<◌, Bool, true, false, cond, ◌&&◌, List, [], ◌∷◌, ◌++◌, length, set, replicate, map, reverse, Option, Some, None, refl, ap, sym, subst, ◌∙◌, arith, append-nil, append_assoc, filter, slice_get, slice_range, filter_map, flat_map, is_none}
+use Rattle.kc_checks.proofs.Common.{option_map, option_to_list, ◌==◌, cons_option, eq-eqb, flat_map-append, map-append, filter-append, get_or_from_slice_get, Kind, Exprs, index_of_name, name_of_head, type_of, Group, from_head, defined_name, open_blocks, opens_choice, GroupInContext}
+use Rattle.kc_checks.proofs.Common.{group_in_context, groups_in_context, attribute_values, Contents, begins_symbol, contents_of, choice_number, defines, is_first_definition, names_defined, Has, Differ-once, has-filter, map-get, text_same, group-placed, RepresentsGroups, RepresentsHead}
+use Rattle.kc_checks.proofs.Common.{attributes_end, choices_opened_after, enclosing_choice, first_summary, group_at, innermost_choice, is_choice_code, member_in, member_key, member_keys_at, members_at, number_at, open_choices, own_choice, read_before, summary_in, symbol_summaries, type_in}
+use Rattle.kc_checks.proofs.Common.{nothing_known, Summary, SymbolSummary}
 use Rattle.kc_tree_model.specs.declared.ids.Unit.{Unit as TreeUnit}
 use Rattle.kc_tree_model.specs.declared.ids.Unit.TheVariants.{Symbol as of_symbol, Choice as of_choice}
-use Rattle.kc_tree_model.specs.Statements.{name_of_head, type_of}
-use Rattle.kc_tree_model.specs.Blocks.{Group, from_head, defined_name, open_blocks, opens_choice}
-use Rattle.kc_tree_model.specs.Conditions.{GroupInContext, group_in_context, groups_in_context, attribute_values}
-use Rattle.kc_tree_model.specs.Contents.{Contents, begins_symbol, contents_of, choice_number, defines, is_first_definition}
-use Rattle.kc_tree_model.specs.Limits.{names_defined}
-use Rattle.kc_tree_model.proofs.Consistency.Lists.{Has, Differ-once, has-filter, map-get, text_same}
-use Rattle.kc_tree_model.proofs.Consistency.Places.{group-placed}
-use Rattle.kc_listing.specs.declared.listing.Group.{Group as CodeGroup}
-use Rattle.kc_listing.specs.declared.listing.Line.{Line as CodeLine}
-use Rattle.kc_listing.specs.declared.listing.GroupHead.{GroupHead as CodeHead}
-use Rattle.kc_listing.specs.declared.listing.GroupHead.TheVariants as codes
-use Rattle.kc_listing.specs.between.ListingView.{RepresentsGroups, RepresentsHead}
+use Rattle.kc_parser.specs.declared.listing.Group.{Group as CodeGroup}
+use Rattle.kc_parser.specs.declared.listing.Line.{Line as CodeLine}
+use Rattle.kc_parser.specs.declared.listing.GroupHead.{GroupHead as CodeHead}
+use Rattle.kc_parser.specs.declared.listing.GroupHead.TheVariants as codes
 use Rattle.kc_tree.specs.declared.items_with_keys.ItemsWithKeys.{ItemsWithKeys}
-use Rattle.kc_checks.specs.between.Summaries.{attributes_end, choice_begun, choices_opened_after, enclosing_choice, first_summary, group_at, innermost_choice, is_choice_code, member_in, member_key, member_keys_at, members_at, number_at, open_choices, own_choice, own_unit, read_before, summary_in, symbol_summaries, type_in, AreMembers, IsSummary, IsSummaryOf}
-use Rattle.kc_checks.specs.checker.SummarySteps.{choice_if_first, nothing_known, summary_at, unit_if_first, HasMember, IsSummaryTo}
-use Rattle.kc_checks.specs.declared.summary.Summary.{Summary}
-use Rattle.kc_checks.specs.declared.summary.SymbolSummary.{SymbolSummary}
+use Rattle.kc_checks.specs.between.Summaries.{choice_begun, own_unit, AreMembers, IsSummary, IsSummaryOf}
+use Rattle.kc_checks.specs.checker.SummarySteps.{choice_if_first, summary_at, unit_if_first, HasMember, IsSummaryTo}
 use Rattle.kc_checks.proofs.GroupPlaces.{IsShownAt, all_before, are_numbers, count_before, count_is, none_before, numbers_before, placed_before, placed_more, shown_at}
 use Rattle.kc_checks.proofs.MemberMarks.{marked_test}
 use Rattle.kc_checks.proofs.Rounds.{begins_is, counted, innermost_is, number_counts, number_small, numbers_of_choices, opened_is}

@@ -1,4 +1,2 @@
-pub mod Attributes
 pub mod FaultSearch
 pub mod Summaries
-pub mod Surface

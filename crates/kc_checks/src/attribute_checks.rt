@@ -6,15 +6,14 @@ ghost use Rattle.kc_tree_model.specs.Contents.{contents_of};
 ghost use Rattle.kc_tree_model.specs.Limits.{names_defined};
 ghost use Rattle.kc_tree_model.specs.TreeFaults.{attribute_faults, choice_faults, faults_of_lines};
 ghost use Rattle.kc_statements.specs.between.StatementViews.{attribute_in, AttributeNodesExist};
-ghost use Rattle.kc_listing.specs.between.ListingView.{RepresentsListing, line_in, LineNodesExist};
+ghost use Rattle.kc_parser.specs.between.ListingView.{RepresentsListing, line_in, LineNodesExist};
 ghost use Rattle.kc_checks.specs.checker.Marks.{AreMarked};
 ghost use Rattle.kc_checks.specs.between.Summaries.{AreSymbolSummaries, IsRepresented};
 
-use super::attribute::{default_given, is_prompt};
 use super::fault_kinds::{choice_attribute_kind, typed_attribute_fault};
 use super::name_checks::{is_wrong_reverse_dependency, names_member};
 use super::summary::SymbolSummary;
-use kc_listing::{Line, Listing};
+use kc_parser::{Line, Listing};
 use kc_statements::Attribute;
 use kc_tree_model::{TreeFault, TreeKind};
 use kc_value::Kind;
@@ -50,7 +49,7 @@ fn symbol_attribute_fault(
             let is_wrong = is_wrong_reverse_dependency(listing, symbols, kind, attribute);
             typed_attribute_fault(kind, prompted, is_modules, is_wrong, attribute)
         }
-        None if prompted && is_prompt(attribute) => Some(TreeKind::SecondPrompt),
+        None if prompted && attribute.is_prompt() => Some(TreeKind::SecondPrompt),
         None => None,
     }
 }
@@ -84,7 +83,7 @@ pub(crate) fn first_symbol_fault(
         if let Some(kind) = fault {
             return Some(fault_at(file, line.number, kind));
         }
-        prompted = prompted || is_prompt(&line.attribute);
+        prompted = prompted || line.attribute.is_prompt();
     }
     None
 }
@@ -103,7 +102,7 @@ fn choice_attribute_fault(
     ensures fault { (read : List ModelGroup) (members : List (List ℕ)) → RepresentsListing listing.now read → AreMarked (names_defined read) members marks.now mark
         → result ≡ slice_get (choice_faults members prompted (attribute_in listing.now.names.arena attribute.now)) 0 }
 {
-    let is_no_member = match default_given(attribute) {
+    let is_no_member = match attribute.default_given() {
         Some(valued) => !names_member(listing, marks, mark, &valued),
         None => false,
     };
@@ -136,7 +135,7 @@ pub(crate) fn first_choice_fault(
         ) {
             return Some(fault_at(file, line.number, kind));
         }
-        prompted = prompted || is_prompt(&line.attribute);
+        prompted = prompted || line.attribute.is_prompt();
     }
     None
 }

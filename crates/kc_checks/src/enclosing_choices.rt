@@ -2,7 +2,7 @@
 ghost use Rattle.std.specs.Prelude.{◌≡◌, OnOk, reverse};
 ghost use Rattle.kc_checks.specs.between.Summaries.{innermost_choice, choices_opened_after, is_choice_code};
 
-use kc_listing::GroupHead;
+use kc_parser::GroupHead;
 use std::alloc::AllocError;
 
 /// The choice that encloses the innermost open block, or is that block.

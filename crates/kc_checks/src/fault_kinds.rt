@@ -7,7 +7,6 @@ ghost use Rattle.kc_tree_model.specs.Statements.{default_of, is_modules as modul
 ghost use Rattle.kc_statements.specs.between.StatementViews.{attribute_in};
 ghost use Rattle.kc_checks.specs.checker.Kinds.{definition_kind, typed_kind, choice_kind};
 
-use super::attribute::{default_given, is_modules, is_prompt, is_range, type_given};
 use super::summary::SymbolSummary;
 use kc_statements::Attribute;
 use kc_tree::{is_number, is_other_kind, is_tri_kind};
@@ -41,7 +40,7 @@ pub(crate) fn definition_fault(
 fn is_shapeless(kind: Kind, attribute: &Attribute) -> bool
     ensures { (e : Exprs) → result ≡ shapeless kind (default_of (attribute_in e attribute.now)) }
 {
-    match default_given(attribute) {
+    match attribute.default_given() {
         Some(valued) => !is_tri_kind(kind) && !valued.single,
         None => false,
     }
@@ -51,21 +50,21 @@ fn is_shapeless(kind: Kind, attribute: &Attribute) -> bool
 fn is_second_prompt(prompted: bool, attribute: &Attribute) -> bool
     ensures { (e : Exprs) → result ≡ (prompted && is_some (prompt_of (attribute_in e attribute.now))) }
 {
-    prompted && is_prompt(attribute)
+    prompted && attribute.is_prompt()
 }
 
 /// Whether an attribute is a range in a symbol whose type has none.
 fn is_stray_range(kind: Kind, attribute: &Attribute) -> bool
     ensures { (e : Exprs) → result ≡ (is_some (range_of (attribute_in e attribute.now)) && not (is_number kind)) }
 {
-    is_range(attribute) && !is_number(kind)
+    attribute.is_range() && !is_number(kind)
 }
 
 /// Whether an attribute marks the modules symbol in another symbol.
 fn is_stray_modules(is_modules_symbol: bool, attribute: &Attribute) -> bool
     ensures { (e : Exprs) → result ≡ (modules (attribute_in e attribute.now) && not is_modules_symbol) }
 {
-    is_modules(attribute) && !is_modules_symbol
+    attribute.is_modules() && !is_modules_symbol
 }
 
 /// The kind of the first fault of an attribute of a symbol with this type; `prompted` is set if a prompt precedes it, and
@@ -79,7 +78,7 @@ pub(crate) fn typed_attribute_fault(
 ) -> Option<TreeKind>
     ensures { (e : Exprs) → result ≡ typed_kind kind prompted is_modules_symbol is_wrong (attribute_in e attribute.now) }
 {
-    if is_other_kind(kind, type_given(attribute)) {
+    if is_other_kind(kind, attribute.type_given()) {
         Some(TreeKind::TypeConflict)
     } else if is_second_prompt(prompted, attribute) {
         Some(TreeKind::SecondPrompt)

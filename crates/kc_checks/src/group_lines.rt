@@ -1,9 +1,9 @@
 //! The attributes of each group.
 ghost use Rattle.std.specs.Prelude.{◌≡◌, ◌≤◌, ◌<◌, All, length, slice_range};
-ghost use Rattle.kc_listing.specs.between.ListingView.{LineNodesExist};
+ghost use Rattle.kc_parser.specs.between.ListingView.{LineNodesExist};
 ghost use Rattle.kc_checks.specs.between.Summaries.{attributes_end, own_lines, IsRepresented};
 
-use kc_listing::{Group, Line, Listing};
+use kc_parser::{Group, Line, Listing};
 
 /// The index after the last attribute line of group `i`.
 pub fn end_of(groups: &[Group], lines: &[Line], i: usize) -> usize

@@ -2,7 +2,6 @@
 //! the checks on the whole tree.
 #![tactic(auto)]
 
-mod attribute;
 mod attribute_checks;
 mod enclosing_choices;
 mod fault_kinds;
@@ -14,7 +13,6 @@ mod paths;
 mod search;
 mod summary;
 
-pub use attribute::{is_optional, is_prompt};
 pub use enclosing_choices::begins_choice;
 pub use group_lines::{end_of, lines_of, part};
 pub use missing_files::{out_of_memory, wanted};

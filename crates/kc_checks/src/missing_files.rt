@@ -5,12 +5,12 @@ ghost use Rattle.kc_tree_model.specs.Blocks.{Group, sourced_path};
 ghost use Rattle.kc_tree_model.specs.Limits.{without_repeats};
 ghost use Rattle.kc_tree_model.specs.TreeReading.{lenient_reading, paths_or_fault, files_wanted};
 ghost use Rattle.kc_tree_model.specs.TreesOfFiles.{AreWanted};
-ghost use Rattle.kc_listing.specs.between.ListingView.{RepresentsListing};
-ghost use Rattle.kc_listing.specs.between.MemoryFaults.{no_memory};
+ghost use Rattle.kc_parser.specs.between.ListingView.{RepresentsListing};
+ghost use Rattle.kc_parser.specs.between.MemoryFaults.{no_memory};
 ghost use Rattle.kc_checks.specs.checker.MissingPaths.{paths_in, is_absent, with_absent, path_in};
 
 use super::paths::Paths;
-use kc_listing::{GroupHead, Listing, read_files_leniently};
+use kc_parser::{GroupHead, Listing, read_files_leniently};
 use kc_tree_model::{Texts, TreeFault, TreeKind};
 use kc_value::Text;
 use std::alloc::{AllocError, Global};

@@ -6,13 +6,12 @@ ghost use Rattle.kc_tree_model.specs.Limits.{names_defined};
 ghost use Rattle.kc_tree_model.specs.TreeFaults.{is_selectable as selectable, is_wrong_reverse_dependency as wrong};
 ghost use Rattle.kc_expr.specs.Lookup.{index_of_name};
 ghost use Rattle.kc_statements.specs.between.StatementViews.{attribute_in, AttributeNodesExist, default_in, DefaultNodesExist};
-ghost use Rattle.kc_listing.specs.between.ListingView.{RepresentsListing};
+ghost use Rattle.kc_parser.specs.between.ListingView.{RepresentsListing};
 ghost use Rattle.kc_checks.specs.between.Summaries.{AreSymbolSummaries, IsRepresented};
 ghost use Rattle.kc_checks.specs.checker.Marks.{AreMarked};
 
-use super::attribute::target_name;
 use super::summary::SymbolSummary;
-use kc_listing::Listing;
+use kc_parser::Listing;
 use kc_statements::{Attribute, DefaultAttribute};
 use kc_tree::is_tri_kind;
 use kc_value::Kind;
@@ -52,7 +51,7 @@ pub(crate) fn is_wrong_reverse_dependency(
     requires held { AttributeNodesExist listing.now.names.arena attribute.now }
     ensures value { (read : List ModelGroup) → RepresentsListing listing.now read → result ≡ wrong (contents_of read) kind (attribute_in listing.now.names.arena attribute.now) }
 {
-    match target_name(attribute) {
+    match attribute.target_name() {
         Some(name) => {
             !is_tri_kind(kind) || !is_selectable(listing, symbols, listing.names.arena.name(name))
         }

@@ -8,21 +8,21 @@ ghost use Rattle.kc_tree_model.specs.Conditions.{GroupInContext, groups_in_conte
 ghost use Rattle.kc_tree_model.specs.Contents.{contents_of, member_names};
 ghost use Rattle.kc_tree_model.specs.Limits.{names_defined};
 ghost use Rattle.kc_tree_model.specs.TreeFaults.{faults_of_group, is_no_member_kind, is_same_choice, tree_faults};
-ghost use Rattle.kc_listing.specs.between.ListingView.{RepresentsListing};
-ghost use Rattle.kc_listing.specs.declared.listing.GroupHead.TheVariants as codes;
+ghost use Rattle.kc_parser.specs.between.ListingView.{RepresentsListing};
+ghost use Rattle.kc_parser.specs.declared.listing.GroupHead.TheVariants as codes;
 ghost use Rattle.kc_checks.specs.checker.Marks.{AreMarked};
 ghost use Rattle.kc_checks.specs.between.FaultSearch.{AreFaultless, AreSmall, CountsChoices, HasMembers};
-ghost use Rattle.kc_checks.specs.checker.Kinds.{choice_around, is_added_line, may_follow_code};
+ghost use Rattle.kc_checks.specs.checker.Kinds.{choice_around, is_added_code, is_added_line, may_follow_code};
 ghost use Rattle.kc_checks.specs.between.Summaries.{group_at, is_choice_code, IsRepresented, IsSummed};
 
-use super::attribute::is_added;
 use super::attribute_checks::{fault_at, first_choice_fault, first_symbol_fault};
 use super::enclosing_choices::begins_choice;
 use super::fault_kinds::definition_fault;
 use super::group_lines::lines_of;
 use super::marks::mark_members;
 use super::summary::{Summary, is_first};
-use kc_listing::{GroupHead, Line, Listing};
+use kc_parser::{GroupHead, Line, Listing};
+use kc_statements::Attribute;
 use kc_tokens::Language;
 use kc_tree::{ItemsByNumber, is_no_member_kind};
 use kc_tree_model::{Sym, TreeFault};
@@ -39,6 +39,21 @@ fn is_modules(listing: &Listing, s: u32) -> bool
     listing.names.arena.name(id) == "MODULES"
 }
 
+/// Whether a later definition of a choice member may have an attribute: a type without a prompt, `depends on`, `select`, `imply` or
+/// help text.
+fn is_added(attribute: &Attribute) -> bool
+    ensures { result ≡ is_added_code attribute.now }
+{
+    matches!(
+        *attribute,
+        Attribute::Typed(_)
+            | Attribute::Depends(_)
+            | Attribute::Select(_)
+            | Attribute::Imply(_)
+            | Attribute::Help
+    )
+}
+
 /// Whether some lines are of attributes alone that a later definition of a member may have.
 fn are_added(lines: &[Line]) -> bool
     ensures { result ≡ list_all is_added_line lines.now }
@@ -47,7 +62,7 @@ fn are_added(lines: &[Line]) -> bool
 }
 
 /// Whether a definition with these attributes may follow that of a member in its choice; `is_again` is set if it is in that choice.
-fn may_follow_member(language: Language, is_member: bool, is_again: bool, lines: &[Line]) -> bool
+fn only_extends_member(language: Language, is_member: bool, is_again: bool, lines: &[Line]) -> bool
     ensures { result ≡ may_follow_code language is_member is_again lines.now }
 {
     match language {
@@ -110,7 +125,7 @@ fn config_fault(
     let lines = lines_of(listing, i);
     let first_choice = choice_around(&summary.enclosing, about.first);
     let is_again = is_same_choice(first_choice, summary.enclosing[i]);
-    let may_follow = may_follow_member(language, is_member, is_again, lines);
+    let may_follow = only_extends_member(language, is_member, is_again, lines);
     let is_misfit = is_misfit(language, is_member, about.given);
     let is_first = is_first(about.first, i);
     let fault = definition_fault(&about, is_misfit, is_first, is_modules, may_follow);

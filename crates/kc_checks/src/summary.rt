@@ -4,14 +4,13 @@ ghost use Rattle.kc_expr.specs.between.Arena.{Exprs};
 ghost use Rattle.kc_tree_model.specs.Blocks.{Group as ModelGroup};
 ghost use Rattle.kc_tree_model.specs.TreeFaults.{kind_or_bool};
 ghost use Rattle.kc_tree_model.specs.declared.ids.Unit.TheVariants.{Symbol as of_symbol};
-ghost use Rattle.kc_listing.specs.between.ListingView.{RepresentsListing};
+ghost use Rattle.kc_parser.specs.between.ListingView.{RepresentsListing};
 ghost use Rattle.kc_checks.specs.between.Summaries.{first_is, first_summary, type_in, IsRepresented, IsSummary};
 ghost use Rattle.kc_checks.specs.checker.SummarySteps.{HasDefined, HasMember, IsSummedTo};
 
-use super::attribute::type_given;
 use super::enclosing_choices::{innermost, push_or_pop};
 use super::group_lines::lines_of;
-use kc_listing::{GroupHead, Line, Listing};
+use kc_parser::{GroupHead, Line, Listing};
 use kc_tree::ItemsWithKeys;
 use kc_tree_model::{Sym, Unit};
 use kc_value::Kind;
@@ -70,7 +69,7 @@ fn first_type(lines: &[Line]) -> Option<Kind>
     ensures { (e : Exprs) → result ≡ slice_get (filter_map (type_in e) lines.now) 0 }
 {
     for i in 0..lines.len() {
-        if let Some(kind) = type_given(&lines[i].attribute) {
+        if let Some(kind) = lines[i].attribute.type_given() {
             return Some(kind);
         }
     }

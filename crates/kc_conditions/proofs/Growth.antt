@@ -1,26 +1,14 @@
 -- Joined expressions stay so as the arena grows.
-use Rattle.std.proofs.Common.{◌≡◌, ℕ, ◌<◌, Bool, true, false, cond, List, [], ◌∷◌, ◌++◌, length, get_or, take, map, Option, Some, None, suc, ◌+◌, refl, ap, sym, subst, ◌∙◌, arith, append_assoc, append-nil}
-use Rattle.std.specs.Prelude.{All, IfSome}
+use Rattle.std.proofs.Common.{append_assoc}
+use Rattle.kc_conditions.proofs.Common.{◌≡◌, ℕ, ◌<◌, Bool, true, false, cond, List, [], ◌∷◌, ◌++◌, length, get_or, take, map, Option, Some, None, suc, ◌+◌, refl, ap, sym, subst, ◌∙◌, arith, append-nil, All, IfSome, Exprs, Represents, node_expr, Grows, Expr, represents_on, AttributeNodesExist}
+use Rattle.kc_conditions.proofs.Common.{is_prompt, conjunct_given, grows_on, node_held, node_same, LineNodesExist, conjunction_of, visible_conjunct, Conjoins, conjunct, conjunct_views, AreJoined, AreAppended, condition_view, line_condition, or_yes, Dependencies, Visibles, EntryConditions}
 use Rattle.std.proofs.lemmas.List.{map-append, take_more}
 use Rattle.std.proofs.lemmas.List.Elements.{All-append, All-cons, All-nil}
-use Rattle.kc_expr.specs.between.Arena.{Exprs, Represents, node_expr, Grows}
-use Rattle.kc_expr.specs.Expr.{Expr}
-use Rattle.kc_expr.proofs.StoreLemmas.{represents_on}
-use Rattle.kc_statements.specs.between.StatementViews.{AttributeNodesExist, IfNodeExists}
+use Rattle.kc_statements.specs.between.StatementViews.{IfNodeExists, if_given}
 use Rattle.kc_statements.specs.declared.statement.Attribute.{Attribute as CodeAttribute}
 use Rattle.kc_statements.specs.declared.statement.Attribute.TheVariants as attributes
-use Rattle.kc_statements.proofs.ArenaGrowth.{grows_on}
-use Rattle.kc_statements.proofs.GrownArenas.{node_held, node_same}
-use Rattle.kc_listing.specs.declared.listing.Line.{Line as CodeLine}
-use Rattle.kc_listing.specs.between.ListingView.{LineNodesExist}
-use Rattle.kc_tree_model.specs.Conditions.{conjunction_of, visible_conjunct}
-use Rattle.kc_conditions.specs.checker.Conjunctions.{Conjoins, conjunct}
-use Rattle.kc_checks.specs.between.Attributes.{is_prompt}
-use Rattle.kc_conditions.specs.checker.Conjuncts.{if_view, conjunct_view, conjunct_views, AreJoined, AreAppended, condition_view, line_condition}
-use Rattle.kc_conditions.specs.between.Walks.{or_yes}
-use Rattle.kc_conditions.specs.declared.conditions.Conjuncts.{Conjuncts}
-use Rattle.kc_conditions.specs.declared.conditions.Conjuncts.TheVariants.{Dependencies, Visibles}
-use Rattle.kc_conditions.specs.declared.conditions.EntryConditions.{EntryConditions}
+use Rattle.kc_parser.specs.declared.listing.Line.{Line as CodeLine}
+use Rattle.kc_statements.specs.declared.statement.Conjuncts.{Conjuncts}
 
 pub conjoins_on : (old new : Exprs) → Grows old new → (o : Option ℕ) (es : List Expr) → Conjoins old o es → Conjoins new o es
 conjoins_on old new g None es h = h
@@ -53,7 +41,7 @@ joined_on old new g e ds vs own j = record {
 
 -- the conjunct of an attribute whose nodes exist is a node of the arena
 pub reported_there : (w : Conjuncts) (exprs : Exprs) (a : CodeAttribute) → AttributeNodesExist exprs a
-    → IfSome (conjunct_view w a) (λ i. i < length exprs.nodes)
+    → IfSome (conjunct_given w a) (λ i. i < length exprs.nodes)
 reported_there Dependencies exprs (attributes.Typed k) h = tt
 reported_there Dependencies exprs (attributes.TypedPrompt k c) h = tt
 reported_there Dependencies exprs (attributes.TypedDefault k d) h = tt
@@ -86,7 +74,7 @@ if_there exprs None h = tt
 if_there exprs (Some i) h = h
 
 -- the `if` of an attribute whose nodes exist is a node of the arena
-pub if_node_exists : (exprs : Exprs) (a : CodeAttribute) → AttributeNodesExist exprs a → IfSome (if_view a) (λ i. i < length exprs.nodes)
+pub if_node_exists : (exprs : Exprs) (a : CodeAttribute) → AttributeNodesExist exprs a → IfSome (if_given a) (λ i. i < length exprs.nodes)
 if_node_exists exprs (attributes.Typed k) h = tt
 if_node_exists exprs (attributes.TypedPrompt k c) h = if_there exprs c h
 if_node_exists exprs (attributes.TypedDefault k d) h = if_there exprs d.condition h.1
@@ -105,15 +93,15 @@ reported_append : (w : Conjuncts) (exprs : Exprs) (xs ys : List CodeLine)
     → conjunct_views w exprs (xs ++ ys) ≡ conjunct_views w exprs xs ++ conjunct_views w exprs ys
 reported_append w exprs [] ys = refl
 reported_append w exprs (x ∷ xs) ys =
-    ap (λ es. conjunct exprs (conjunct_view w x.attribute) ++ es) (reported_append w exprs xs ys)
-    ∙ sym (append_assoc (conjunct exprs (conjunct_view w x.attribute)) (conjunct_views w exprs xs) (conjunct_views w exprs ys))
+    ap (λ es. conjunct exprs (conjunct_given w x.attribute) ++ es) (reported_append w exprs xs ys)
+    ∙ sym (append_assoc (conjunct exprs (conjunct_given w x.attribute)) (conjunct_views w exprs xs) (conjunct_views w exprs ys))
 
 -- the conjuncts of the first `k + 1` attribute lines are those of the first `k` and, after them, that of line `k`
 pub reported_more : (w : Conjuncts) (exprs : Exprs) (lines : List CodeLine) (k : ℕ) (d : CodeLine) → k < length lines
-    → conjunct_views w exprs (take (k + 1) lines) ≡ conjunct_views w exprs (take k lines) ++ conjunct exprs (conjunct_view w (get_or lines k d).attribute)
+    → conjunct_views w exprs (take (k + 1) lines) ≡ conjunct_views w exprs (take k lines) ++ conjunct exprs (conjunct_given w (get_or lines k d).attribute)
 reported_more w exprs lines k d h =
     ap (conjunct_views w exprs) (take_more lines k d h) ∙ reported_append w exprs (take k lines) (get_or lines k d ∷ [])
-    ∙ ap (λ es. conjunct_views w exprs (take k lines) ++ es) (append-nil (conjunct exprs (conjunct_view w (get_or lines k d).attribute)))
+    ∙ ap (λ es. conjunct_views w exprs (take k lines) ++ es) (append-nil (conjunct exprs (conjunct_given w (get_or lines k d).attribute)))
 
 -- the conjuncts of attribute lines are the same after the arena grew
 pub reported_on : (w : Conjuncts) (old new : Exprs) (lines : List CodeLine) → Grows old new → All (LineNodesExist old) lines
@@ -121,7 +109,7 @@ pub reported_on : (w : Conjuncts) (old new : Exprs) (lines : List CodeLine) → 
 reported_on w old new [] g h = refl
 reported_on w old new (l ∷ lines) g h =
     let a : AttributeNodesExist old l.attribute = h 0 l (omega arith) in
-    let e = conjunct_on old new g (conjunct_view w l.attribute) (reported_there w old l.attribute a) in
+    let e = conjunct_on old new g (conjunct_given w l.attribute) (reported_there w old l.attribute a) in
     let f = reported_on w old new lines g (λ k d i. h (suc k) d (omega arith)) in
     cc
 
@@ -139,16 +127,16 @@ one_visible exprs (Some i) (v ∷ vs) h = ap (λ e. e ∷ []) h.1.is
 
 -- the conjunct of line `k` joined to those of the lines before it gives the conjunction of the first `k + 1` lines
 pub with_more : (old mid new : Exprs) (w : Conjuncts) (lines : List CodeLine) (k : ℕ) (d : CodeLine) (all joined c more : Option ℕ) → Grows old mid
-    → All (LineNodesExist old) lines → k < length lines → d ≡ get_or lines k d → more ≡ conjunct_view w d.attribute
+    → All (LineNodesExist old) lines → k < length lines → d ≡ get_or lines k d → more ≡ conjunct_given w d.attribute
     → ((es : List Expr) → Conjoins old all es → Conjoins mid joined (es ++ conjunct_views w old (take k lines)))
     → ((es : List Expr) → Conjoins mid joined es → Conjoins new c (es ++ conjunct mid more))
     → (es : List Expr) → Conjoins old all es → Conjoins new c (es ++ conjunct_views w old (take (k + 1) lines))
 with_more old mid new w lines k d all joined c more g held h e m f step es j =
     let a : AttributeNodesExist old (get_or lines k d).attribute = held k d h in
-    let n : more ≡ conjunct_view w (get_or lines k d).attribute = m ∙ ap (λ (l : CodeLine). conjunct_view w l.attribute) e in
-    let t : IfSome (conjunct_view w (get_or lines k d).attribute) (λ i. i < length old.nodes) = reported_there w old (get_or lines k d).attribute a in
-    let same : conjunct mid more ≡ conjunct old (conjunct_view w (get_or lines k d).attribute) = ap (conjunct mid) n
-    ∙ conjunct_on old mid g (conjunct_view w (get_or lines k d).attribute) t in
+    let n : more ≡ conjunct_given w (get_or lines k d).attribute = m ∙ ap (λ (l : CodeLine). conjunct_given w l.attribute) e in
+    let t : IfSome (conjunct_given w (get_or lines k d).attribute) (λ i. i < length old.nodes) = reported_there w old (get_or lines k d).attribute a in
+    let same : conjunct mid more ≡ conjunct old (conjunct_given w (get_or lines k d).attribute) = ap (conjunct mid) n
+    ∙ conjunct_on old mid g (conjunct_given w (get_or lines k d).attribute) t in
     subst (Conjoins new c)
     (append_assoc es (conjunct_views w old (take k lines)) (conjunct mid more) ∙ ap (λ xs. es ++ (conjunct_views w old (take k lines) ++ xs)) same
     ∙ ap (λ xs. es ++ xs) (sym (reported_more w old lines k d h)))
@@ -162,7 +150,7 @@ by_test false x y u v e f = f
 pub condition_on : (old new : Exprs) (ds vs : List Expr) (a : CodeAttribute) → Grows old new → AttributeNodesExist old a
     → condition_view new ds vs a ≡ condition_view old ds vs a
 condition_on old new ds vs a g h =
-    let e = conjunct_on old new g (if_view a) (if_node_exists old a h) in
+    let e = conjunct_on old new g (if_given a) (if_node_exists old a h) in
     by_test (is_prompt a) _ _ _ _ (ap (λ c. conjunction_of (ds ++ (visible_conjunct vs ++ c))) e) (ap (λ c. conjunction_of (ds ++ c)) e)
 
 pub represent_on : (old new : Exprs) (ids : List ℕ) → Grows old new → All (λ i. i < length old.nodes) ids → map (node_expr new) ids ≡ map (node_expr old) ids

@@ -1,39 +1,28 @@
 -- Steps of a walk through the groups.
-use Rattle.std.proofs.Common.{◌≡◌, inl, inr, ℕ, suc, ◌+◌, ◌-◌, ◌<◌, ◌≤◌, Bool, true, false, cond, List, [], ◌∷◌, ◌++◌, length, get_or, take, drop, map, reverse, Option, Some, None, refl, ap, sym, subst, ◌∙◌, arith, append-nil, length-append, length-drop, drop-cons, add-one}
-use Rattle.std.specs.Prelude.{All, IfSome, slice_get, slice_range, option_to_list, filter_map}
-use Rattle.std.proofs.lemmas.List.{reverse-append, take_all, take-append-le, drop-append-le}
+use Rattle.std.proofs.Common.{inl, inr, length-drop, drop-cons, add-one}
+use Rattle.std.specs.Prelude.{option_to_list, filter_map}
+use Rattle.std.proofs.lemmas.List.{reverse-append, take-append-le, drop-append-le}
 use Rattle.std.proofs.Math.Seq.{drop-append_seam}
-use Rattle.kc_tokens.specs.Languages.{is_linux_6_12}
-use Rattle.kc_tokens.specs.declared.language.Language.{Language}
-use Rattle.kc_expr.specs.between.Arena.{Exprs, Represents, node_expr, Grows}
-use Rattle.kc_expr.specs.Expr.{Expr}
-use Rattle.kc_statements.specs.between.StatementViews.{attribute_in, AttributeNodesExist}
+use Rattle.kc_conditions.proofs.Common.{◌≡◌, ℕ, suc, ◌+◌, ◌-◌, ◌<◌, ◌≤◌, Bool, true, false, cond, List, [], ◌∷◌, ◌++◌, length, get_or, take, drop, map, reverse, Option, Some, None, refl, ap, sym, subst, ◌∙◌, arith, append-nil, length-append, All, IfSome, slice_get, slice_range, take_all}
+use Rattle.kc_conditions.proofs.Common.{is_linux_6_12, Language, Exprs, Represents, node_expr, Grows, Expr, AttributeNodesExist, is_prompt, conjunct_given, LineNodesExist, RepresentsHead, line_in, node_held, node_same, grows_same, choice, condition, Group, of_head, open_blocks, conjunction_of}
+use Rattle.kc_conditions.proofs.Common.{visible_conjunct, dependencies_of, context, group_in_context, Conjoins, conjunct, conjunct_views, AreJoined, AreAppended, condition_view, line_condition, first_prompt, RepresentsPrompt, GroupHeadNodesExist, or_yes, RepresentsEnclosing, RepresentsConditions}
+use Rattle.kc_conditions.proofs.Common.{RepresentsAllConditions, HasWalked, Dependencies, Visibles, EnclosingConditions, EntryConditions, GroupConditions, grows_on}
+use Rattle.kc_statements.specs.between.StatementViews.{attribute_in}
 use Rattle.kc_statements.specs.declared.statement.Attribute.{Attribute as CodeAttribute}
 use Rattle.kc_statements.specs.declared.statement.Attribute.TheVariants as attributes
-use Rattle.kc_listing.specs.declared.listing.Line.{Line as CodeLine}
-use Rattle.kc_listing.specs.declared.listing.GroupHead.{GroupHead as CodeHead}
-use Rattle.kc_listing.specs.declared.listing.GroupHead.TheVariants as codes
-use Rattle.kc_listing.specs.between.ListingView.{LineNodesExist, RepresentsHead, line_in}
-use Rattle.kc_listing.proofs.ListingGrowth.{lines_held}
-use Rattle.kc_statements.proofs.GrownArenas.{attribute_same, node_held, node_same}
-use Rattle.kc_listing.proofs.AppendSteps.{grows_same}
+use Rattle.kc_parser.specs.declared.listing.Line.{Line as CodeLine}
+use Rattle.kc_parser.specs.declared.listing.GroupHead.{GroupHead as CodeHead}
+use Rattle.kc_parser.specs.declared.listing.GroupHead.TheVariants as codes
+use Rattle.kc_statements.proofs.GrownArenas.{attribute_same}
 use Rattle.kc_tree_model.specs.Trees as tree
-use Rattle.kc_tree_model.specs.Statements.{Attribute, choice, condition, menu, source, depends_of, visible_of, prompt_of}
-use Rattle.kc_tree_model.specs.Blocks.{Group, Line, Side, GroupHead, of_head, opening, closing, inside, side_of, open_blocks}
-use Rattle.kc_tree_model.specs.Conditions.{conjunction_of, visible_conjunct, attribute_values, dependencies_of, shown_condition, inside_menu, inside_choice, inner_context_of_group_head, Context, context, group_in_context}
+use Rattle.kc_tree_model.specs.Statements.{Attribute, menu, source, depends_of, visible_of, prompt_of}
+use Rattle.kc_tree_model.specs.Blocks.{Line, Side, GroupHead, opening, closing, inside, side_of}
+use Rattle.kc_tree_model.specs.Conditions.{attribute_values, shown_condition, inside_menu, inside_choice, inner_context_of_group_head, Context}
 use Rattle.kc_tree_model.specs.Contents.{menu_end_of}
 use Rattle.kc_tree_model.proofs.NestedTrees.OpenBlocks.{pushed, popped, open_inside}
-use Rattle.kc_conditions.specs.checker.Conjunctions.{Conjoins, conjunct}
-use Rattle.kc_checks.specs.between.Attributes.{is_prompt}
-use Rattle.kc_conditions.specs.checker.Conjuncts.{conjunct_view, conjunct_views, AreJoined, AreAppended, condition_view, line_condition}
-use Rattle.kc_conditions.specs.between.Firsts.{first_prompt, RepresentsPrompt, RepresentsInside, is_end, GroupHeadNodesExist}
-use Rattle.kc_conditions.specs.between.Walks.{condition_among, condition_at, or_yes, RepresentsEnd, RepresentsEnclosing, RepresentsEnclosings, innermost_enclosing, RepresentsConditions, RepresentsAllConditions, IsWalked, HasWalked}
-use Rattle.kc_conditions.specs.declared.conditions.Conjuncts.TheVariants.{Dependencies, Visibles}
-use Rattle.kc_conditions.specs.declared.conditions.EnclosingConditions.{EnclosingConditions}
-use Rattle.kc_conditions.specs.declared.conditions.EntryConditions.{EntryConditions}
-use Rattle.kc_conditions.specs.declared.group_walk.GroupConditions.{GroupConditions}
+use Rattle.kc_conditions.specs.between.Firsts.{RepresentsInside, is_end}
+use Rattle.kc_conditions.specs.between.Walks.{condition_among, condition_at, RepresentsEnd, RepresentsEnclosings, innermost_enclosing, IsWalked}
 use Rattle.kc_conditions.specs.declared.group_walk.GroupWalk.{GroupWalk}
-use Rattle.kc_statements.proofs.ArenaGrowth.{grows_on}
 use Rattle.kc_conditions.proofs.Growth.{conjoins_on, joined_on, represent_on, held_on, represents_all, condition_on}
 
 -- an attribute that is no prompt is passed over in the search for the first prompt
@@ -44,14 +33,6 @@ first_step lines conditions i d h e f =
     let l : drop i lines ≡ get_or lines i d ∷ drop (i + 1) lines = rw add-one (drop-cons lines i d h) in
     let c : drop i conditions ≡ get_or conditions i 0 ∷ drop (i + 1) conditions = rw add-one (drop-cons conditions i 0 (omega arith)) in
     rw (l, c, f) refl
-
-pub first_here : (lines : List CodeLine) (conditions : List ℕ) (i x : ℕ) (d : CodeLine) → i < length lines → length conditions ≡ length lines
-    → is_prompt (get_or lines i d).attribute ≡ true → x ≡ get_or conditions i 0
-    → Some x ≡ first_prompt (drop i lines) (drop i conditions)
-first_here lines conditions i x d h e f g =
-    let l : drop i lines ≡ get_or lines i d ∷ drop (i + 1) lines = rw add-one (drop-cons lines i d h) in
-    let c : drop i conditions ≡ get_or conditions i 0 ∷ drop (i + 1) conditions = rw add-one (drop-cons conditions i 0 (omega arith)) in
-    rw (l, c, f) (ap Some g)
 
 -- inside an `if`, the conditions are the enclosing ones with the `if`'s expression joined to the dependencies
 pub if_inside : (language : Language) (old new : Exprs) (texts : List (List ℕ)) (y id : ℕ) (d : Option ℕ) (m : Group) (a : EnclosingConditions) (opened : List Group) → Grows old new
@@ -145,7 +126,7 @@ outer_shown language exprs texts y (a ∷ outer) (g ∷ gs) h = h.1
 
 -- the values of attributes, by the code and by the definition
 depends_one : (exprs : Exprs) (n : ℕ) (a : CodeAttribute) (xs : List Expr) (rest : List Line) → xs ≡ filter_map (λ (l : Line). depends_of l.attribute) rest
-    → conjunct exprs (conjunct_view Dependencies a) ++ xs ≡ filter_map (λ (l : Line). depends_of l.attribute)
+    → conjunct exprs (conjunct_given Dependencies a) ++ xs ≡ filter_map (λ (l : Line). depends_of l.attribute)
     (record { number = n; attribute = attribute_in exprs a } ∷ rest)
 depends_one exprs n (attributes.Typed k) xs rest e = e
 depends_one exprs n (attributes.TypedPrompt k c) xs rest e = e
@@ -169,7 +150,7 @@ depends_given exprs (l ∷ lines) =
 
 -- the values of attributes, by the code and by the definition
 visible_one : (exprs : Exprs) (n : ℕ) (a : CodeAttribute) (xs : List Expr) (rest : List Line) → xs ≡ filter_map (λ (l : Line). visible_of l.attribute) rest
-    → conjunct exprs (conjunct_view Visibles a) ++ xs ≡ filter_map (λ (l : Line). visible_of l.attribute)
+    → conjunct exprs (conjunct_given Visibles a) ++ xs ≡ filter_map (λ (l : Line). visible_of l.attribute)
     (record { number = n; attribute = attribute_in exprs a } ∷ rest)
 visible_one exprs n (attributes.Typed k) xs rest e = e
 visible_one exprs n (attributes.TypedPrompt k c) xs rest e = e
@@ -223,9 +204,6 @@ lines_kept old new (l ∷ lines) g h =
     let e : line_in new l ≡ line_in old l = ap line (attribute_same old new l.attribute g a) in
     let f = lines_kept old new lines g (λ k d i. h (suc k) d (omega arith)) in
     cc
-
-held_later : (old new : Exprs) (lines : List CodeLine) → Grows old new → All (LineNodesExist old) lines → All (LineNodesExist new) lines
-held_later old new lines g h = lines_held old new g lines h
 
 -- the conditions of a group's attributes
 own_shown : (language : Language) (old mid far later : Exprs) (before after : List ℕ) (lines : List CodeLine) (m : Group) (opened : List Group)

@@ -4,24 +4,16 @@ ghost use Rattle.kc_expr.specs.between.Arena.{Grows, Represents};
 ghost use Rattle.kc_expr.specs.Expr.{Expr};
 ghost use Rattle.kc_tokens.specs.declared.fault.ExprKind.TheVariants.{OutOfMemory};
 ghost use Rattle.kc_statements.specs.between.StatementViews.{AttributeNodesExist};
-ghost use Rattle.kc_listing.specs.between.ListingView.{LineNodesExist};
+ghost use Rattle.kc_parser.specs.between.ListingView.{LineNodesExist};
 ghost use Rattle.kc_tree_model.specs.Conditions.{conjunction_of};
 ghost use Rattle.kc_conditions.specs.checker.Conjunctions.{Conjoins, conjunct};
-ghost use Rattle.kc_conditions.specs.checker.Conjuncts.{if_view, conjunct_view, conjunct_views, condition_view, AreJoined, AreAppended};
-ghost use Rattle.kc_conditions.specs.declared.conditions.Conjuncts.TheVariants.{Dependencies, Visibles};
+ghost use Rattle.kc_conditions.specs.checker.Conjuncts.{conjunct_views, condition_view, AreJoined, AreAppended};
+ghost use Rattle.kc_statements.specs.declared.statement.Conjuncts.TheVariants.{Dependencies, Visibles};
 
-use kc_checks::is_prompt;
 use kc_expr::{Arena, ExprId};
-use kc_listing::Line;
-use kc_statements::Attribute;
+use kc_parser::Line;
+use kc_statements::{Attribute, Conjuncts};
 use kc_tokens::ExprFault;
-
-/// Which conjuncts of an entry's attributes are joined: those of `depends on`, or those of `visible if`.
-#[derive(Clone, Copy)]
-pub(crate) enum Conjuncts {
-    Dependencies,
-    Visibles,
-}
 
 /// The joined conditions inside an open block, and the index of the title if it is a menu. `None` is the empty conjunction.
 #[derive(Clone, Copy)]
@@ -60,38 +52,6 @@ pub(crate) fn join_optional(
     }
 }
 
-/// The `if` of an attribute, where it has one.
-fn if_of(attribute: &Attribute) -> Option<ExprId>
-    ensures { result ≡ if_view attribute.now }
-{
-    match *attribute {
-        Attribute::Prompt(c) => c,
-        Attribute::TypedPrompt(_, c) => c,
-        Attribute::Default(d) => d.condition,
-        Attribute::TypedDefault(_, d) => d.condition,
-        Attribute::Select(a) => a.condition,
-        Attribute::Imply(a) => a.condition,
-        Attribute::Range(r) => r.condition,
-        _ => None,
-    }
-}
-
-/// The conjunct that an attribute gives an entry's dependency, or its `visible if`.
-fn conjunct_in(attribute: &Attribute, which: Conjuncts) -> Option<ExprId>
-    ensures { result ≡ conjunct_view which attribute.now }
-{
-    match which {
-        Conjuncts::Dependencies => match *attribute {
-            Attribute::Depends(e) => Some(e),
-            _ => None,
-        },
-        Conjuncts::Visibles => match *attribute {
-            Attribute::Visible(e) => Some(e),
-            _ => None,
-        },
-    }
-}
-
 /// The conjunction `all` with the conjuncts of attribute lines appended: of `depends on`, or of `visible if`.
 fn join_all(
     arena: &mut Arena,
@@ -107,7 +67,7 @@ fn join_all(
 {
     let mut joined = all;
     for line in lines {
-        joined = join_optional(arena, joined, conjunct_in(&line.attribute, which))?;
+        joined = join_optional(arena, joined, line.attribute.conjunct_given(which))?;
     }
     Ok(joined)
 }
@@ -155,12 +115,12 @@ fn condition_of(
     ensures represents { IfOk result (λ c. (ds vs own : List Expr) → AreJoined arena.old entry.now ds vs own → Represents arena.old yes (conjunction_of [])
         → Represents arena.new c (condition_view arena.old ds vs attribute.now)) }
 {
-    let all = if is_prompt(attribute) {
+    let all = if attribute.is_prompt() {
         entry.shown
     } else {
         entry.dependencies
     };
-    let condition = join_optional(arena, all, if_of(attribute))?;
+    let condition = join_optional(arena, all, attribute.if_given())?;
     Ok(condition.unwrap_or(yes))
 }
 

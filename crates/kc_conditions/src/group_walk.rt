@@ -5,7 +5,7 @@ ghost use Rattle.kc_tokens.specs.Languages.{is_linux_6_12};
 ghost use Rattle.kc_value.specs.declared.tri.Tri.TheVariants.{N};
 ghost use Rattle.kc_expr.specs.between.Arena.{Grows, Represents, node_expr};
 ghost use Rattle.kc_expr.specs.Expr.{Expr, alone, constant, shown};
-ghost use Rattle.kc_listing.specs.between.ListingView.{LineNodesExist, RepresentsHead, line_in};
+ghost use Rattle.kc_parser.specs.between.ListingView.{LineNodesExist, RepresentsHead, line_in};
 ghost use Rattle.kc_tree_model.specs.Blocks.{Group as ModelGroup, of_head};
 ghost use Rattle.kc_tree_model.specs.Conditions.{conjunction_of, context, attribute_values, dependencies_of, prompts_of};
 ghost use Rattle.kc_tree_model.specs.Statements.{choice, condition as condition_head, visible_of};
@@ -16,9 +16,8 @@ ghost use Rattle.kc_conditions.specs.between.Walks.{RepresentsEnclosing, HasWalk
 use super::conditions::{
     EnclosingConditions, EntryConditions, entry_conditions, join_optional, push_conditions,
 };
-use kc_checks::is_prompt;
 use kc_expr::{Arena, ExprId};
-use kc_listing::{GroupHead, Line};
+use kc_parser::{GroupHead, Line};
 use kc_tokens::{ExprFault, Language};
 use kc_value::Tri;
 use std::alloc::Global;
@@ -52,7 +51,7 @@ pub fn first_condition(lines: &[Line], conditions: &[ExprId]) -> Option<ExprId>
     ensures value { result ≡ first_prompt lines.now conditions.now }
 {
     for i in 0..lines.len() {
-        if is_prompt(&lines[i].attribute) {
+        if lines[i].attribute.is_prompt() {
             return Some(conditions[i]);
         }
     }

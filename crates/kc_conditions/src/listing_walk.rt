@@ -3,7 +3,7 @@ ghost use Rattle.std.specs.Prelude.{◌≡◌, ◌≤◌, ◌<◌, ℕ, All, IfO
 ghost use Rattle.kc_value.specs.declared.tri.Tri.TheVariants.{N};
 ghost use Rattle.kc_expr.specs.Expr.{alone, constant};
 ghost use Rattle.kc_expr.specs.between.Arena.{Grows, Represents};
-ghost use Rattle.kc_listing.specs.between.ListingView.{RepresentsGroups, LineNodesExist, RepresentsListing};
+ghost use Rattle.kc_parser.specs.between.ListingView.{RepresentsGroups, LineNodesExist, RepresentsListing};
 ghost use Rattle.kc_tree_model.specs.Blocks.{Group as ModelGroup};
 ghost use Rattle.kc_checks.specs.between.Summaries.{attributes_end, group_at, IsRepresented};
 ghost use Rattle.kc_conditions.specs.between.Walks.{RepresentsAllConditions, HasWalked};
@@ -11,7 +11,7 @@ ghost use Rattle.kc_conditions.specs.between.Walks.{RepresentsAllConditions, Has
 use super::group_walk::{GroupConditions, GroupWalk};
 use kc_checks::{end_of, part};
 use kc_expr::{Arena, ExprId};
-use kc_listing::{Group, Line, Listing, SymbolTable};
+use kc_parser::{Group, Line, Listing, SymbolTable};
 use kc_tokens::{ExprFault, Language};
 use std::alloc::Global;
 

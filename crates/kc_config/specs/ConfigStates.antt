@@ -1,7 +1,7 @@
 -- The state of a configuration.
 use Rattle.std.specs.Prelude.{length, IsTrue}
-use Rattle.kc_system.specs.SessionState.{SessionState}
-use Rattle.kc_system.specs.Solutions.{UniquelySolves, FitsUsers, FitsValues}
+use Rattle.kc_solver.specs.SessionState.{SessionState}
+use Rattle.kc_solver.specs.Solutions.{UniquelySolves, FitsUsers, FitsValues}
 use Rattle.kc_tree_model.specs.Trees.{Tree}
 use Rattle.kc_rules_model.specs.declared.values.UnitValue.{UnitValue}
 use Rattle.kc_rules_model.specs.declared.values.UserValue.{UserValue}

@@ -1,14 +1,14 @@
 //! Changes of an assignment, and the units that they give user values.
 ghost use Rattle.std.specs.Prelude.{◌≡◌, ◌<◌, ◌++◌, ℕ, Option, Some, None, IfOk, OnOk, length, take, filter, is_none, replicate, slice_get};
-ghost use Rattle.kc_system.specs.Changes.{changed_users};
-ghost use Rattle.kc_system.specs.Solutions.{user_of};
+ghost use Rattle.kc_solver.specs.Changes.{changed_users};
+ghost use Rattle.kc_solver.specs.Solutions.{user_of};
 ghost use Rattle.kc_dotconfig.specs.Fragments.{changes_of};
 ghost use Rattle.kc_dotconfig.specs.checker.UserValueOrder.{units_of};
 ghost use Rattle.kc_config.specs.checker.Configs.{clears_of};
 
 use kc_rules::Settled;
 use kc_rules_model::UserValue;
-use kc_system::System;
+use kc_solver::System;
 use std::alloc::{AllocError, Global};
 
 /// Appends to `changes` those that set the units of `assigns` to copies of their user values.

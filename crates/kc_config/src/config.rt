@@ -1,7 +1,7 @@
 //! A configuration: the user values that files assign, and the values that they give to all units.
 ghost use Rattle.std.specs.Prelude.{◌≡◌, length, IfOk, OnOk, OnErr, option_map};
 ghost use Rattle.std.specs.Option.{option_and_then};
-ghost use Rattle.kc_system.specs.Changes.{IsTouched, IsChanged, IsCountOf, IsListOf};
+ghost use Rattle.kc_solver.specs.Changes.{IsTouched, IsChanged, IsCountOf, IsListOf};
 ghost use Rattle.kc_tree_model.specs.TreeLookup.{symbol_named};
 ghost use Rattle.kc_rules_model.specs.Dependencies.{dependencies};
 ghost use Rattle.kc_rules_model.specs.SymbolValues.{value_of_symbol};
@@ -17,7 +17,7 @@ use super::overlaid::push_overs;
 use kc_dotconfig::Fragment;
 use kc_rules::{Settled, Steps};
 use kc_rules_model::{UnitValue, UserValue};
-use kc_system::{Graph, Report, Session};
+use kc_solver::{ChangedUnits, Graph, Session};
 use kc_tree::Sym;
 use kc_value::ValueRef;
 use std::alloc::{AllocError, Global};
@@ -101,7 +101,7 @@ impl<'a> Config<'a> {
     /// Replaces all user values by those of a fragment, and reports which units' values differ from those before and how many
     /// units were evaluated. After running out of memory the configuration is as before. The caller must pass a fragment that
     /// fits the tree.
-    pub fn replace(&mut self, fragment: &Fragment) -> Result<Report, AllocError>
+    pub fn replace(&mut self, fragment: &Fragment) -> Result<ChangedUnits, AllocError>
         requires fits { FitsTree (tree_in self.old) fragment.now.assigns.items }
         ensures settled { self.new.system ≡ self.old.system }
         ensures users { OnOk result (self.new.users ≡ users_of (tree_in self.old) fragment.now.assigns.items) }
@@ -123,7 +123,7 @@ impl<'a> Config<'a> {
     /// from those before and how many units were evaluated. What the fragment assigns to members of a choice replaces, under the
     /// rules of Linux 6.12, only what was assigned to these members. After running out of memory the configuration is as before.
     /// The caller must pass a fragment that fits the tree.
-    pub fn merge(&mut self, fragment: &Fragment) -> Result<Report, AllocError>
+    pub fn merge(&mut self, fragment: &Fragment) -> Result<ChangedUnits, AllocError>
         requires fits { FitsTree (tree_in self.old) fragment.now.assigns.items }
         ensures settled { self.new.system ≡ self.old.system }
         ensures users { OnOk result (self.new.users ≡ overlay (users_of (tree_in self.old) fragment.now.assigns.items) self.old.users) }

@@ -1,7 +1,7 @@
 //! Symbols whose user value isn't their value.
-ghost use Rattle.std.specs.Prelude.{◌≡◌, ◌<◌, ◌∷◌, ◌++◌, [], Some, true, length, map, slice_get, IfOk, OnOk, if◌then◌else◌};
+ghost use Rattle.std.specs.Prelude.{◌≡◌, ◌<◌, Some, true, length, map, slice_get, IfOk, if◌then◌else◌};
 ghost use Rattle.std.specs.Option.{option_copied};
-ghost use Rattle.kc_system.specs.Solutions.{user_of};
+ghost use Rattle.kc_solver.specs.Solutions.{user_of};
 ghost use Rattle.kc_rules_model.specs.MemberLines.{last_y};
 ghost use Rattle.kc_rules_model.specs.Equality.{value_is};
 ghost use Rattle.kc_rules_model.specs.declared.values.UnitValue.TheVariants.{Member as MemberValue};
@@ -143,18 +143,6 @@ fn is_missed(
     }
 }
 
-/// Appends the symbol if `counts`.
-fn push_if(found: &mut Vec<Sym>, s: Sym, counts: bool) -> Result<(), AllocError>
-    ensures { OnOk result (found.new.items ≡ found.old.items ++ (if counts then s ∷ [] else [])) }
-{
-    if counts {
-        found.push(s)?;
-        Ok(())
-    } else {
-        Ok(())
-    }
-}
-
 /// The symbols outside choices whose user value isn't their value, and for each choice the member that its user value names, if
 /// that isn't selected, in order of first definition. Under the rules of Linux 6.12 that member is the last with `y`, and the
 /// selected member counts too if it has `n`. An `Err` means out of memory.
@@ -170,8 +158,9 @@ pub(crate) fn missed_symbols(
     let mut found = Vec::new(alloc);
     for number in 0..tree.symbol_count() {
         let s = Sym::at(number);
-        let counts = is_missed(tree, users, values, &lasts, s);
-        push_if(&mut found, s, counts)?;
+        if is_missed(tree, users, values, &lasts, s) {
+            found.push(s)?;
+        }
     }
     Ok(found)
 }

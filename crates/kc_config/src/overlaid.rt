@@ -4,14 +4,14 @@ ghost use Rattle.std.specs.Option.{option_copied};
 ghost use Rattle.std.specs.BTreeSet.{contains};
 ghost use Rattle.std.specs.Ordering.{nat_cmp};
 ghost use Rattle.kc_rules_model.specs.MemberLines.{is_listed, laid_over};
-ghost use Rattle.kc_system.specs.Solutions.{user_of};
+ghost use Rattle.kc_solver.specs.Solutions.{user_of};
 ghost use Rattle.kc_dotconfig_model.specs.ConfigFiles.{over};
 ghost use Rattle.kc_dotconfig.specs.Fragments.{changes_of};
 ghost use Rattle.kc_config.specs.checker.Configs.{overs};
 
 use kc_rules::Settled;
 use kc_rules_model::{MemberLine, MemberLines, UserValue};
-use kc_system::System;
+use kc_solver::System;
 use std::alloc::{AllocError, Global};
 use std::collections::BTreeSet;
 

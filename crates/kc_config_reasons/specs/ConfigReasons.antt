@@ -1,6 +1,6 @@
 -- The reasons of a symbol over a configuration, and what they say of its values.
 use Rattle.std.specs.Prelude.{◌≡◌, ℕ, true, false, ◌&&◌, Option, Some, is_some, slice_get}
-use Rattle.kc_system.specs.Solutions.{user_of}
+use Rattle.kc_solver.specs.Solutions.{user_of}
 use Rattle.kc_tree_model.specs.Trees.{Symbol}
 use Rattle.kc_tree_model.specs.TreeLookup.{unit_of}
 use Rattle.kc_rules_model.specs.declared.values.UserValue.{UserValue}

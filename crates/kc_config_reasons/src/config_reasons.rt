@@ -1,7 +1,7 @@
 //! The reasons of a symbol over a configuration.
 ghost use Rattle.std.specs.Prelude.{◌≡◌, ◌<◌, Some, length, slice_get, IfOk, IfSome, IsTrue};
 ghost use Rattle.std.specs.Option.{option_copied};
-ghost use Rattle.kc_system.specs.Solutions.{user_of};
+ghost use Rattle.kc_solver.specs.Solutions.{user_of};
 ghost use Rattle.kc_tree_model.specs.Trees.{Symbol};
 ghost use Rattle.kc_rules_model.specs.Shapes.{user_fits};
 ghost use Rattle.kc_rules.specs.between.SettledViews.{tree_model_of};

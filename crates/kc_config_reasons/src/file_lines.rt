@@ -8,7 +8,7 @@ ghost use Rattle.kc_dotconfig.specs.between.MeaningViews.{meaning_view};
 ghost use Rattle.kc_config_reasons.specs.between.FileLines.{later_line, line_kept};
 ghost use Rattle.kc_config_reasons.specs.checker.LineSteps.{Keeps};
 
-use kc_dotconfig::Meaning;
+use kc_dotconfig::{Meaning, put};
 use kc_rules_model::{MemberLine, MemberLines, UserValue};
 use kc_tree::Sym;
 use std::alloc::{AllocError, Global};
@@ -27,19 +27,6 @@ pub struct AskingLine {
 pub struct FileLines {
     units: BTreeMap<u32, AskingLine>,
     members: BTreeMap<u32, AskingLine>,
-}
-
-/// Keeps a line in a map, in place of an earlier one.
-fn put(kept: &mut BTreeMap<u32, AskingLine>, key: u32, line: AskingLine) -> Result<(), AllocError>
-    ensures { OnOk result (kept.new.entries ≡ insert_entry nat_cmp kept.old.entries key line) }
-{
-    match kept.insert(key, line) {
-        Ok(before) => {
-            drop(before);
-            Ok(())
-        }
-        Err(_) => Err(AllocError),
-    }
 }
 
 /// Of two lines, if there are any, the one that comes later.

@@ -13,7 +13,7 @@ ghost use Rattle.kc_config_reasons.specs.checker.PlaceSteps.{places_kept, file_a
 
 use super::file_lines::{AskingLine, FileLines};
 use kc_rules::Settled;
-use kc_system::System;
+use kc_solver::System;
 use kc_tree::Sym;
 use std::alloc::{AllocError, Global};
 

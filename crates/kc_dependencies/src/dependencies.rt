@@ -1,18 +1,17 @@
 //! The dependencies of units.
 ghost use Rattle.std.specs.Prelude.{◌≡◌, ◌<◌, ◌++◌, ◌||◌, ℕ, [], ◌∷◌, length, IfOk, IfSome, OnOk, slice_get, slice_index_or};
 ghost use Rattle.std.specs.List.{list_any};
-ghost use Rattle.kc_expr.specs.between.Visits.{HasFound};
 ghost use Rattle.kc_tree.specs.between.Views.{SymbolFits, ChoiceFits, symbol_view, choice_view};
 ghost use Rattle.std.specs.Option.{option_map};
 ghost use Rattle.kc_tree_model.specs.TreeLookup.{IsConsistent, unit_of};
 ghost use Rattle.kc_rules_model.specs.Dependencies.{dependencies, needed_by, needed_by_symbol, needed_by_choice};
 ghost use Rattle.kc_dependencies.specs.checker.StoredRules.{AreReverseDependencies};
-ghost use Rattle.kc_dependencies.specs.checker.Links.{AreLinks, AreUnits, has, is_at, is_of, depends_on_reverse, by_modules};
+ghost use Rattle.kc_dependencies.specs.checker.Links.{HasBegun, AreLinks, AreUnits, has, is_at, is_of, depends_on_reverse, by_modules};
 ghost use Rattle.kc_dependencies.specs.checker.ModulesSymbol.{modules_symbol};
 
 use super::modules::modules_of;
-use super::names::{push_choice, push_symbol};
-use kc_expr::{NameId, VisitedSet};
+use super::names::{FoundNames, MentionsNames};
+use kc_expr::NameId;
 use kc_tree::{Choice, ReverseDependency, Sym, Symbol, Tree, Unit};
 use kc_value::Kind;
 use std::alloc::{AllocError, Global};
@@ -92,103 +91,88 @@ fn push_modules(
     }
 }
 
-/// The units that a symbol outside choices needs, in any order, some perhaps more than once.
+/// What is gathered for the dependencies of a unit: the names that it mentions, and the units that it needs, in any order, some
+/// perhaps more than once.
+#[derive(Drop)]
+struct Needs {
+    found: FoundNames,
+    units: Vec<u32>,
+}
+
+/// Gathers what a symbol outside choices needs.
 fn push_symbol_needs(
     tree: &Tree,
     modules: &Option<Sym>,
     symbol: &Symbol<'_>,
-    walk: &mut VisitedSet,
-    names: &mut Vec<NameId>,
-    units: &mut Vec<u32>,
+    needs: &mut Needs,
 ) -> Result<(), AllocError>
     requires consistent { IsConsistent tree.now.tree }
     requires fits { SymbolFits tree.now.exprs (length tree.now.tree.symbols) symbol.now }
     requires modules { modules.now ≡ modules_symbol tree.now.tree }
     requires there { IfSome modules.now (λ s. s < length tree.now.tree.symbols) }
-    requires found { HasFound tree.now.exprs walk.old names.old.items }
-    requires no_names { names.old.items ≡ [] }
-    requires no_units { units.old.items ≡ [] }
-    ensures units { (d : ℕ) → OnOk result (has units.new.items d ≡ has (needed_by_symbol tree.now.tree (symbol_view tree.now.exprs symbol.now)) d) }
-    ensures below { OnOk result (AreUnits tree.now.tree units.new.items) }
-    ensures room { OnOk result (length walk.new ≡ length tree.now.exprs.nodes) }
+    requires begun { HasBegun tree.now.exprs needs.old }
+    ensures units { (d : ℕ) → OnOk result (has needs.new.units.items d ≡ has (needed_by_symbol tree.now.tree (symbol_view tree.now.exprs symbol.now)) d) }
+    ensures below { OnOk result (AreUnits tree.now.tree needs.new.units.items) }
+    ensures room { OnOk result (length needs.new.found.visited ≡ length tree.now.exprs.nodes) }
 {
-    push_symbol(tree, symbol, walk, names)?;
-    push_reverse_dependencies(tree, symbol.selectors, units)?;
-    push_reverse_dependencies(tree, symbol.impliers, units)?;
-    push_modules(tree, modules, symbol.kind, units)?;
-    push_units(tree, names.as_slice(), units)
+    symbol.push_names(tree, &mut needs.found)?;
+    push_reverse_dependencies(tree, symbol.selectors, &mut needs.units)?;
+    push_reverse_dependencies(tree, symbol.impliers, &mut needs.units)?;
+    push_modules(tree, modules, symbol.kind, &mut needs.units)?;
+    push_units(tree, needs.found.names.as_slice(), &mut needs.units)
 }
 
-/// The units that a choice needs, in any order, some perhaps more than once.
-fn push_choice_needs(
-    tree: &Tree,
-    choice: &Choice<'_>,
-    walk: &mut VisitedSet,
-    names: &mut Vec<NameId>,
-    units: &mut Vec<u32>,
-) -> Result<(), AllocError>
+/// Gathers what a choice needs.
+fn push_choice_needs(tree: &Tree, choice: &Choice<'_>, needs: &mut Needs) -> Result<(), AllocError>
     requires consistent { IsConsistent tree.now.tree }
     requires fits { ChoiceFits tree.now.exprs (length tree.now.tree.symbols) choice.now }
-    requires found { HasFound tree.now.exprs walk.old names.old.items }
-    requires no_names { names.old.items ≡ [] }
-    requires no_units { units.old.items ≡ [] }
-    ensures units { (d : ℕ) → OnOk result (has units.new.items d ≡ has (needed_by_choice tree.now.tree (choice_view tree.now.exprs choice.now)) d) }
-    ensures below { OnOk result (AreUnits tree.now.tree units.new.items) }
-    ensures room { OnOk result (length walk.new ≡ length tree.now.exprs.nodes) }
+    requires begun { HasBegun tree.now.exprs needs.old }
+    ensures units { (d : ℕ) → OnOk result (has needs.new.units.items d ≡ has (needed_by_choice tree.now.tree (choice_view tree.now.exprs choice.now)) d) }
+    ensures below { OnOk result (AreUnits tree.now.tree needs.new.units.items) }
+    ensures room { OnOk result (length needs.new.found.visited ≡ length tree.now.exprs.nodes) }
 {
-    push_choice(tree, choice, walk, names)?;
-    push_units(tree, names.as_slice(), units)
+    choice.push_names(tree, &mut needs.found)?;
+    push_units(tree, needs.found.names.as_slice(), &mut needs.units)
 }
 
-/// The units that a unit needs, in any order, some perhaps more than once.
+/// Gathers what a unit needs.
 fn push_needed(
     tree: &Tree,
     modules: &Option<Sym>,
     u: u32,
-    walk: &mut VisitedSet,
-    names: &mut Vec<NameId>,
-    units: &mut Vec<u32>,
+    needs: &mut Needs,
 ) -> Result<(), AllocError>
     requires consistent { IsConsistent tree.now.tree }
     requires unit { u < length tree.now.tree.units }
     requires modules { modules.now ≡ modules_symbol tree.now.tree }
     requires there { IfSome modules.now (λ s. s < length tree.now.tree.symbols) }
-    requires found { HasFound tree.now.exprs walk.old names.old.items }
-    requires no_names { names.old.items ≡ [] }
-    requires no_units { units.old.items ≡ [] }
-    ensures units { (d : ℕ) → OnOk result (has units.new.items d ≡ has (needed_by tree.now.tree (slice_get tree.now.tree.units u)) d) }
-    ensures below { OnOk result (AreUnits tree.now.tree units.new.items) }
-    ensures room { OnOk result (length walk.new ≡ length tree.now.exprs.nodes) }
+    requires begun { HasBegun tree.now.exprs needs.old }
+    ensures units { (d : ℕ) → OnOk result (has needs.new.units.items d ≡ has (needed_by tree.now.tree (slice_get tree.now.tree.units u)) d) }
+    ensures below { OnOk result (AreUnits tree.now.tree needs.new.units.items) }
+    ensures room { OnOk result (length needs.new.found.visited ≡ length tree.now.exprs.nodes) }
 {
     match tree.unit(u) {
-        Unit::Symbol(s) => push_symbol_needs(tree, modules, &tree.symbol(s), walk, names, units),
-        Unit::Choice(c) => push_choice_needs(tree, &tree.choice(c), walk, names, units),
+        Unit::Symbol(s) => push_symbol_needs(tree, modules, &tree.symbol(s), needs),
+        Unit::Choice(c) => push_choice_needs(tree, &tree.choice(c), needs),
     }
 }
 
-/// The dependencies of a unit, ascending, each once.
-fn needed(
-    tree: &Tree,
-    modules: &Option<Sym>,
-    u: u32,
-    walk: &mut VisitedSet,
-    names: &mut Vec<NameId>,
-    units: &mut Vec<u32>,
-) -> Result<(), AllocError>
+/// Gathers the dependencies of a unit, ascending, each once.
+fn needed(tree: &Tree, modules: &Option<Sym>, u: u32, needs: &mut Needs) -> Result<(), AllocError>
     requires consistent { IsConsistent tree.now.tree }
     requires unit { u < length tree.now.tree.units }
     requires modules { modules.now ≡ modules_symbol tree.now.tree }
     requires there { IfSome modules.now (λ s. s < length tree.now.tree.symbols) }
-    requires room { length walk.old ≡ length tree.now.exprs.nodes }
-    ensures needed { OnOk result (units.new.items ≡ dependencies tree.now.tree u) }
-    ensures room { OnOk result (length walk.new ≡ length tree.now.exprs.nodes) }
+    requires room { length needs.old.found.visited ≡ length tree.now.exprs.nodes }
+    ensures needed { OnOk result (needs.new.units.items ≡ dependencies tree.now.tree u) }
+    ensures room { OnOk result (length needs.new.found.visited ≡ length tree.now.exprs.nodes) }
 {
-    names.clear();
-    units.clear();
-    walk.begin();
-    push_needed(tree, modules, u, walk, names, units)?;
-    units.sort_unstable();
-    units.dedup();
+    needs.found.names.clear();
+    needs.found.visited.begin();
+    needs.units.clear();
+    push_needed(tree, modules, u, needs)?;
+    needs.units.sort_unstable();
+    needs.units.dedup();
     Ok(())
 }
 
@@ -231,12 +215,16 @@ pub fn links_of(alloc: Global, tree: &Tree) -> Result<Links, AllocError>
         links: Vec::new(alloc),
     };
     made.starts.push(0)?;
-    let mut walk = tree.arena().walk()?;
-    let mut names = Vec::new(alloc);
-    let mut units = Vec::new(alloc);
+    let mut needs = Needs {
+        found: FoundNames {
+            visited: tree.arena().walk()?,
+            names: Vec::new(alloc),
+        },
+        units: Vec::new(alloc),
+    };
     for u in 0..tree.len() {
-        needed(tree, &modules, u, &mut walk, &mut names, &mut units)?;
-        link(&mut made, units.as_slice())?;
+        needed(tree, &modules, u, &mut needs)?;
+        link(&mut made, needs.units.as_slice())?;
     }
     Ok(made)
 }

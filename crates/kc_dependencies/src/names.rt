@@ -1,178 +1,137 @@
 //! The names that units mention. A condition that several attributes of a unit share is walked once.
-ghost use Rattle.std.specs.Prelude.{◌≡◌, ◌<◌, ◌||◌, ℕ, Bool, List, length, OnOk, Some};
+ghost use Rattle.std.specs.Prelude.{◌≡◌, ◌<◌, ◌||◌, ℕ, Bool, List, All, length, OnOk, Some};
 ghost use Rattle.std.specs.List.{list_any};
 ghost use Rattle.kc_expr.specs.between.Arena.{node_expr};
 ghost use Rattle.kc_expr.specs.between.Visits.{passes_some_name, mentions, HasFound};
-ghost use Rattle.kc_tree.specs.between.Views.{SymbolFits, ChoiceFits};
-ghost use Rattle.kc_rules_model.specs.Dependencies.{names_in_member_prompts};
-ghost use Rattle.kc_dependencies.specs.checker.StoredRules.{AreNodes, AreDefaults, AreRanges, AreReverseDependencies, AreMemberDefaults, AreMembers};
-ghost use Rattle.kc_dependencies.specs.checker.Links.{in_exprs, in_defaults, in_ranges, in_reverse_dependencies, in_symbol, in_member_defaults, in_members, in_prompt, counted_prompt, in_choice};
+ghost use Rattle.kc_tree.specs.TreeModel.{TreeModel};
+ghost use Rattle.kc_tree.specs.between.Views.{DefaultFits, RangeFits, ReverseDependencyFits, MemberDefaultFits, SymbolFits, ChoiceFits};
+ghost use Rattle.kc_dependencies.specs.checker.Links.{in_default, in_range, in_reverse_dependency, in_member, in_member_default, in_symbol, in_prompt, counted_prompt, in_choice};
 
 use kc_expr::{ExprId, NameId, VisitedSet};
 use kc_tree::{Choice, Default, MemberDefault, Range, ReverseDependency, Sym, Symbol, Tree};
 use std::alloc::AllocError;
 
-/// Appends the names in an expression, but for those in parts that were visited for this unit before.
-fn push_expr(
-    tree: &Tree,
-    id: ExprId,
-    walk: &mut VisitedSet,
-    names: &mut Vec<NameId>,
-) -> Result<(), AllocError>
-    requires fits { id < length tree.now.exprs.nodes }
-    requires found { HasFound tree.now.exprs walk.old names.old.items }
-    ensures names { (p : List ℕ → Bool) → OnOk result (passes_some_name tree.now.exprs p names.new.items ≡ (passes_some_name tree.now.exprs p names.old.items || mentions p (node_expr tree.now.exprs id))) }
-    ensures found { OnOk result (HasFound tree.now.exprs walk.new names.new.items) }
-{
-    tree.arena().push_new_names(id, walk, names)
+/// The names that were found in the parts of a unit, and the expressions that were visited for them.
+#[derive(Drop)]
+pub(crate) struct FoundNames {
+    pub visited: VisitedSet,
+    pub names: Vec<NameId>,
 }
 
-/// Appends the names in some expressions.
-fn push_exprs(
+/// A part of a unit that mentions names.
+pub(crate) trait MentionsNames {
+    /// Whether its expressions and symbols are those of a tree.
+    ghost fits: { TreeModel → Self → Type 0 };
+
+    /// Whether a name in it passes a test of names.
+    ghost passes: { TreeModel → (List ℕ → Bool) → Self → Bool };
+
+    /// Appends the names in it, but for those in expressions that were visited before. An `Err` means out of memory.
+    fn push_names(&self, tree: &Tree, found: &mut FoundNames) -> Result<(), AllocError>
+        requires fits { fits tree.now self.now }
+        requires found { HasFound tree.now.exprs found.old.visited found.old.names.items }
+        ensures names { (p : List ℕ → Bool) → OnOk result (passes_some_name tree.now.exprs p found.new.names.items ≡ (passes_some_name tree.now.exprs p found.old.names.items || passes tree.now p self.now)) }
+        ensures found { OnOk result (HasFound tree.now.exprs found.new.visited found.new.names.items) };
+}
+
+/// Appends the names in some parts.
+fn push_all<P: MentionsNames>(
     tree: &Tree,
-    ids: &[ExprId],
-    walk: &mut VisitedSet,
-    names: &mut Vec<NameId>,
+    parts: &[P],
+    found: &mut FoundNames,
 ) -> Result<(), AllocError>
-    requires fits { AreNodes tree.now.exprs ids.now }
-    requires found { HasFound tree.now.exprs walk.old names.old.items }
-    ensures names { (p : List ℕ → Bool) → OnOk result (passes_some_name tree.now.exprs p names.new.items ≡ (passes_some_name tree.now.exprs p names.old.items || in_exprs tree.now.exprs p ids.now)) }
-    ensures found { OnOk result (HasFound tree.now.exprs walk.new names.new.items) }
+    requires fits { All (P.fits tree.now) parts.now }
+    requires found { HasFound tree.now.exprs found.old.visited found.old.names.items }
+    ensures names { (p : List ℕ → Bool) → OnOk result (passes_some_name tree.now.exprs p found.new.names.items ≡ (passes_some_name tree.now.exprs p found.old.names.items || list_any (P.passes tree.now p) parts.now)) }
+    ensures found { OnOk result (HasFound tree.now.exprs found.new.visited found.new.names.items) }
 {
-    for id in ids {
-        push_expr(tree, *id, walk, names)?;
+    for part in parts {
+        part.push_names(tree, found)?;
     }
     Ok(())
 }
 
-/// Appends the names in some defaults.
-fn push_defaults(
-    tree: &Tree,
-    defaults: &[Default],
-    walk: &mut VisitedSet,
-    names: &mut Vec<NameId>,
-) -> Result<(), AllocError>
-    requires fits { AreDefaults tree.now.exprs defaults.now }
-    requires found { HasFound tree.now.exprs walk.old names.old.items }
-    ensures names { (p : List ℕ → Bool) → OnOk result (passes_some_name tree.now.exprs p names.new.items ≡ (passes_some_name tree.now.exprs p names.old.items || in_defaults tree.now.exprs p defaults.now)) }
-    ensures found { OnOk result (HasFound tree.now.exprs walk.new names.new.items) }
-{
-    for default in defaults {
-        push_expr(tree, default.value, walk, names)?;
-        push_expr(tree, default.condition, walk, names)?;
+impl MentionsNames for ExprId {
+    ghost fits = { λ tree id. id < length tree.exprs.nodes };
+
+    ghost passes = { λ tree p id. mentions p (node_expr tree.exprs id) };
+
+    fn push_names(&self, tree: &Tree, found: &mut FoundNames) -> Result<(), AllocError> {
+        tree.arena()
+            .push_new_names(*self, &mut found.visited, &mut found.names)
     }
-    Ok(())
 }
 
-/// Appends the names in some ranges.
-fn push_ranges(
-    tree: &Tree,
-    ranges: &[Range],
-    walk: &mut VisitedSet,
-    names: &mut Vec<NameId>,
-) -> Result<(), AllocError>
-    requires fits { AreRanges tree.now.exprs ranges.now }
-    requires found { HasFound tree.now.exprs walk.old names.old.items }
-    ensures names { (p : List ℕ → Bool) → OnOk result (passes_some_name tree.now.exprs p names.new.items ≡ (passes_some_name tree.now.exprs p names.old.items || in_ranges tree.now.exprs p ranges.now)) }
-    ensures found { OnOk result (HasFound tree.now.exprs walk.new names.new.items) }
-{
-    for range in ranges {
-        push_expr(tree, range.low, walk, names)?;
-        push_expr(tree, range.high, walk, names)?;
-        push_expr(tree, range.condition, walk, names)?;
+impl MentionsNames for Default {
+    ghost fits = { λ tree d. DefaultFits (length tree.exprs.nodes) d };
+
+    ghost passes = { λ tree p d. in_default tree.exprs p d };
+
+    fn push_names(&self, tree: &Tree, found: &mut FoundNames) -> Result<(), AllocError> {
+        self.value.push_names(tree, found)?;
+        self.condition.push_names(tree, found)
     }
-    Ok(())
 }
 
-/// Appends the names in the conditions of selects or implies.
-fn push_conditions(
-    tree: &Tree,
-    all: &[ReverseDependency],
-    walk: &mut VisitedSet,
-    names: &mut Vec<NameId>,
-) -> Result<(), AllocError>
-    requires fits { AreReverseDependencies tree.now.exprs tree.now.tree all.now }
-    requires found { HasFound tree.now.exprs walk.old names.old.items }
-    ensures names { (p : List ℕ → Bool) → OnOk result (passes_some_name tree.now.exprs p names.new.items ≡ (passes_some_name tree.now.exprs p names.old.items || in_reverse_dependencies tree.now.exprs p all.now)) }
-    ensures found { OnOk result (HasFound tree.now.exprs walk.new names.new.items) }
-{
-    for force in all {
-        push_expr(tree, force.condition, walk, names)?;
+impl MentionsNames for Range {
+    ghost fits = { λ tree r. RangeFits (length tree.exprs.nodes) r };
+
+    ghost passes = { λ tree p r. in_range tree.exprs p r };
+
+    fn push_names(&self, tree: &Tree, found: &mut FoundNames) -> Result<(), AllocError> {
+        self.low.push_names(tree, found)?;
+        self.high.push_names(tree, found)?;
+        self.condition.push_names(tree, found)
     }
-    Ok(())
 }
 
-/// Appends the names in the attributes of a symbol outside choices and in the conditions by which others select or imply it, but
-/// for expressions that `walk` has visited. An `Err` means out of memory.
-pub(crate) fn push_symbol(
-    tree: &Tree,
-    symbol: &Symbol<'_>,
-    walk: &mut VisitedSet,
-    names: &mut Vec<NameId>,
-) -> Result<(), AllocError>
-    requires fits { SymbolFits tree.now.exprs (length tree.now.tree.symbols) symbol.now }
-    requires found { HasFound tree.now.exprs walk.old names.old.items }
-    ensures names { (p : List ℕ → Bool) → OnOk result (passes_some_name tree.now.exprs p names.new.items ≡ (passes_some_name tree.now.exprs p names.old.items || in_symbol tree.now.exprs p symbol.now)) }
-    ensures found { OnOk result (HasFound tree.now.exprs walk.new names.new.items) }
-{
-    push_exprs(tree, symbol.prompts, walk, names)?;
-    push_defaults(tree, symbol.defaults, walk, names)?;
-    push_ranges(tree, symbol.ranges, walk, names)?;
-    push_exprs(tree, symbol.direct, walk, names)?;
-    push_conditions(tree, symbol.selectors, walk, names)?;
-    push_conditions(tree, symbol.impliers, walk, names)
-}
+/// Of a select or imply only the condition counts.
+impl MentionsNames for ReverseDependency {
+    ghost fits = { λ tree f. ReverseDependencyFits (length tree.exprs.nodes) (length tree.tree.symbols) f };
 
-/// Appends the names in the conditions of a member's prompts.
-fn push_prompts(
-    tree: &Tree,
-    member: Sym,
-    walk: &mut VisitedSet,
-    names: &mut Vec<NameId>,
-) -> Result<(), AllocError>
-    requires fits { member < length tree.now.tree.symbols }
-    requires found { HasFound tree.now.exprs walk.old names.old.items }
-    ensures names { (p : List ℕ → Bool) → OnOk result (passes_some_name tree.now.exprs p names.new.items ≡ (passes_some_name tree.now.exprs p names.old.items || list_any p (names_in_member_prompts tree.now.tree member))) }
-    ensures found { OnOk result (HasFound tree.now.exprs walk.new names.new.items) }
-{
-    push_exprs(tree, tree.symbol(member).prompts, walk, names)
-}
+    ghost passes = { λ tree p f. in_reverse_dependency tree.exprs p f };
 
-/// Appends the names in the defaults of a choice.
-fn push_member_defaults(
-    tree: &Tree,
-    defaults: &[MemberDefault],
-    walk: &mut VisitedSet,
-    names: &mut Vec<NameId>,
-) -> Result<(), AllocError>
-    requires fits { AreMemberDefaults tree.now.exprs tree.now.tree defaults.now }
-    requires found { HasFound tree.now.exprs walk.old names.old.items }
-    ensures names { (p : List ℕ → Bool) → OnOk result (passes_some_name tree.now.exprs p names.new.items ≡ (passes_some_name tree.now.exprs p names.old.items || in_member_defaults tree.now.tree tree.now.exprs p defaults.now)) }
-    ensures found { OnOk result (HasFound tree.now.exprs walk.new names.new.items) }
-{
-    for default in defaults {
-        push_expr(tree, default.condition, walk, names)?;
-        push_prompts(tree, default.member, walk, names)?;
+    fn push_names(&self, tree: &Tree, found: &mut FoundNames) -> Result<(), AllocError> {
+        self.condition.push_names(tree, found)
     }
-    Ok(())
 }
 
-/// Appends the names in the members' prompts.
-fn push_members(
-    tree: &Tree,
-    members: &[Sym],
-    walk: &mut VisitedSet,
-    names: &mut Vec<NameId>,
-) -> Result<(), AllocError>
-    requires fits { AreMembers tree.now.tree members.now }
-    requires found { HasFound tree.now.exprs walk.old names.old.items }
-    ensures names { (p : List ℕ → Bool) → OnOk result (passes_some_name tree.now.exprs p names.new.items ≡ (passes_some_name tree.now.exprs p names.old.items || in_members tree.now.tree p members.now)) }
-    ensures found { OnOk result (HasFound tree.now.exprs walk.new names.new.items) }
-{
-    for member in members {
-        push_prompts(tree, *member, walk, names)?;
+/// Of a member of a choice only the conditions of its prompts count.
+impl MentionsNames for Sym {
+    ghost fits = { λ tree s. s < length tree.tree.symbols };
+
+    ghost passes = { λ tree p s. in_member tree.tree p s };
+
+    fn push_names(&self, tree: &Tree, found: &mut FoundNames) -> Result<(), AllocError> {
+        push_all(tree, tree.symbol(*self).prompts, found)
     }
-    Ok(())
+}
+
+impl MentionsNames for MemberDefault {
+    ghost fits = { λ tree d. MemberDefaultFits (length tree.exprs.nodes) (length tree.tree.symbols) d };
+
+    ghost passes = { λ tree p d. in_member_default tree.tree tree.exprs p d };
+
+    fn push_names(&self, tree: &Tree, found: &mut FoundNames) -> Result<(), AllocError> {
+        self.condition.push_names(tree, found)?;
+        self.member.push_names(tree, found)
+    }
+}
+
+/// The names in the attributes of a symbol outside choices and in the conditions by which others select or imply it.
+impl MentionsNames for Symbol<'_> {
+    ghost fits = { λ tree symbol. SymbolFits tree.exprs (length tree.tree.symbols) symbol };
+
+    ghost passes = { λ tree p symbol. in_symbol tree.exprs p symbol };
+
+    fn push_names(&self, tree: &Tree, found: &mut FoundNames) -> Result<(), AllocError> {
+        push_all(tree, self.prompts, found)?;
+        push_all(tree, self.defaults, found)?;
+        push_all(tree, self.ranges, found)?;
+        push_all(tree, self.direct, found)?;
+        push_all(tree, self.selectors, found)?;
+        push_all(tree, self.impliers, found)
+    }
 }
 
 /// Appends the names in the condition of a choice's prompt, if there is one.
@@ -180,16 +139,15 @@ fn push_members(
 fn push_prompt(
     tree: &Tree,
     prompt: Option<ExprId>,
-    walk: &mut VisitedSet,
-    names: &mut Vec<NameId>,
+    found: &mut FoundNames,
 ) -> Result<(), AllocError>
     requires fits { (i : ℕ) → prompt ≡ Some i → i < length tree.now.exprs.nodes }
-    requires found { HasFound tree.now.exprs walk.old names.old.items }
-    ensures names { (p : List ℕ → Bool) → OnOk result (passes_some_name tree.now.exprs p names.new.items ≡ (passes_some_name tree.now.exprs p names.old.items || in_prompt tree.now.exprs p prompt)) }
-    ensures found { OnOk result (HasFound tree.now.exprs walk.new names.new.items) }
+    requires found { HasFound tree.now.exprs found.old.visited found.old.names.items }
+    ensures names { (p : List ℕ → Bool) → OnOk result (passes_some_name tree.now.exprs p found.new.names.items ≡ (passes_some_name tree.now.exprs p found.old.names.items || in_prompt tree.now.exprs p prompt)) }
+    ensures found { OnOk result (HasFound tree.now.exprs found.new.visited found.new.names.items) }
 {
     match prompt {
-        Some(id) => push_expr(tree, id, walk, names),
+        Some(id) => id.push_names(tree, found),
         None => Ok(()),
     }
 }
@@ -205,20 +163,15 @@ fn counted_prompt(tree: &Tree, choice: &Choice<'_>) -> Option<ExprId>
     }
 }
 
-/// Appends the names in the conditions of a choice's prompt, where it counts, defaults and members' prompts, but for expressions
-/// that `walk` has visited. An `Err` means out of memory.
-pub(crate) fn push_choice(
-    tree: &Tree,
-    choice: &Choice<'_>,
-    walk: &mut VisitedSet,
-    names: &mut Vec<NameId>,
-) -> Result<(), AllocError>
-    requires fits { ChoiceFits tree.now.exprs (length tree.now.tree.symbols) choice.now }
-    requires found { HasFound tree.now.exprs walk.old names.old.items }
-    ensures names { (p : List ℕ → Bool) → OnOk result (passes_some_name tree.now.exprs p names.new.items ≡ (passes_some_name tree.now.exprs p names.old.items || in_choice tree.now.tree tree.now.exprs p choice.now)) }
-    ensures found { OnOk result (HasFound tree.now.exprs walk.new names.new.items) }
-{
-    push_prompt(tree, counted_prompt(tree, choice), walk, names)?;
-    push_member_defaults(tree, choice.defaults, walk, names)?;
-    push_members(tree, choice.members, walk, names)
+/// The names in the conditions of a choice's prompt, where it counts, defaults and members' prompts.
+impl MentionsNames for Choice<'_> {
+    ghost fits = { λ tree choice. ChoiceFits tree.exprs (length tree.tree.symbols) choice };
+
+    ghost passes = { λ tree p choice. in_choice tree.tree tree.exprs p choice };
+
+    fn push_names(&self, tree: &Tree, found: &mut FoundNames) -> Result<(), AllocError> {
+        push_prompt(tree, counted_prompt(tree, self), found)?;
+        push_all(tree, self.defaults, found)?;
+        push_all(tree, self.members, found)
+    }
 }

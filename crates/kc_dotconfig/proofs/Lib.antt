@@ -1,3 +1,4 @@
+pub mod Common
 pub mod Insertions
 pub mod LineAccumulation
 pub mod ReadingSteps
@@ -7,3 +8,4 @@ pub mod UserValueFits
 pub mod FragmentFits
 pub mod AscendingUnits
 pub mod GatheredLines
+pub mod Groups

@@ -1,27 +1,19 @@
 -- A configuration file read to its end, a block at a time.
-use Rattle.std.proofs.Common.{true, ◌≡◌, ◌⊎◌, inl, inr, ℕ, ◌+◌, ◌-◌, ◌^◌, ◌<◌, ◌≤◌, map, List, [], ◌∷◌, ◌++◌, length, take, refl, sym, ◌∙◌, ap, subst, append_assoc, length-append, arith}
-use Rattle.std.specs.Prelude.{Option, Some, None, Result, Ok, Err, IfOk, IfErr, OnOk}
-use Rattle.kc_dotconfig_model.specs.Formats.{FileFormat}
+use Rattle.std.proofs.Common.{◌^◌}
+use Rattle.std.specs.Prelude.{Option, Some, None}
+use Rattle.kc_dotconfig.proofs.Common.{true, ◌≡◌, ◌⊎◌, inl, inr, ℕ, ◌+◌, ◌-◌, ◌<◌, ◌≤◌, map, List, [], ◌∷◌, ◌++◌, length, take, refl, sym, ◌∙◌, ap, subst, append_assoc, length-append, arith, Result, Ok, Err, IfOk, IfErr, OnOk, FileFormat, append-nil, Tree, LoadKind, Malformed, NotUtf8, LineTooLong}
+use Rattle.kc_dotconfig.proofs.Common.{TooManyLines, OutOfMemory, TooLarge, Accumulator, MAX_CONFIG_BLOCK_BYTES, MAX_CONFIG_BYTES, MAX_CONFIG_LINES, complete, IsFirstFault, IsConsistent, is_name_prefix, FitsTree, users_of, notice_pair, joined, Holds, AcceptsBytes, EndsWell, EndsBadly, IsGathered}
+use Rattle.kc_dotconfig.proofs.Common.{IsAscending, AreBelow}
 use Rattle.kc_dotconfig_model.specs.declared.fault.LoadFault.{LoadFault}
 use Rattle.std.specs.Io.KnownBytes.{Consumes, Keeps, IsAtEnd}
-use Rattle.std.proofs.lemmas.List.{append-nil}
-use Rattle.kc_tree_model.specs.Trees.{Tree}
 use Rattle.kc_value.specs.Streams.{one_failure_more}
-use Rattle.kc_dotconfig_model.specs.declared.fault.LoadKind.{LoadKind}
-use Rattle.kc_dotconfig_model.specs.declared.fault.LoadKind.TheVariants.{Malformed, NotUtf8, LineTooLong, TooManyLines, Read, OutOfMemory, TooLarge}
-use Rattle.kc_dotconfig.specs.declared.accumulator.Accumulator.{Accumulator}
+use Rattle.kc_dotconfig_model.specs.declared.fault.LoadKind.TheVariants.{Read}
 use Rattle.kc_dotconfig.specs.declared.fragment.Fragment.{Fragment}
-use Rattle.kc_value.specs.declared.limits.TheConstants.{MAX_CONFIG_BLOCK_BYTES, MAX_CONFIG_BYTES, MAX_CONFIG_LINES}
-use Rattle.kc_dotconfig_model.specs.LoadFaults.{complete, IsFirstFault, OccursAt}
-use Rattle.kc_tree_model.specs.TreeLookup.{IsConsistent}
-use Rattle.kc_dotconfig_model.specs.PrefixGrammar.{is_name_prefix}
-use Rattle.kc_dotconfig.specs.Fragments.{FitsTree, users_of, notice_pair}
+use Rattle.kc_dotconfig_model.specs.LoadFaults.{OccursAt}
 use Rattle.kc_dotconfig.proofs.UserValueFits.{fragment_fits}
-use Rattle.kc_dotconfig.specs.ReadResults.{IsReadAs, IsRefused, IsCutShort, ReportsFault}
-use Rattle.kc_dotconfig.specs.checker.GatheredLines.{joined}
+use Rattle.kc_dotconfig.specs.ReadResults.{IsReadAs, IsFileRefused, IsCutShort, ReportsFault}
 use Rattle.kc_dotconfig.proofs.Insertions.{whole_users, whole_rises, whole_below}
-use Rattle.kc_dotconfig.specs.checker.Accumulation.{fault_line, Holds, AcceptsBytes, EndsWell, EndsBadly, IsGathered, IsFragmentOf}
-use Rattle.kc_dotconfig.specs.checker.UserValueOrder.{IsAscending, AreBelow}
+use Rattle.kc_dotconfig.specs.checker.Accumulation.{fault_line, IsFragmentOf}
 use Rattle.kc_dotconfig_model.proofs.FirstFaults.{failed_reads}
 use Rattle.kc_dotconfig_model.proofs.FaultsAtCuts.{clean, known_newlines, empty_cut}
 
@@ -110,7 +102,7 @@ if_any_err (Err e) P p = p e
 
 -- out of memory with the line 0, or a refusal of the bytes read, is what a reported fault implies
 pub reports_refused : (format : FileFormat) (tree : Tree) (a c : Option (List ℕ)) (f f_after : ℕ) (kind : LoadKind) (number : ℕ)
-    → ((kind ≡ OutOfMemory) × (number ≡ 0)) ⊎ IsRefused format tree a c kind number → ReportsFault format tree a c f f_after kind number
+    → ((kind ≡ OutOfMemory) × (number ≡ 0)) ⊎ IsFileRefused format tree a c kind number → ReportsFault format tree a c f f_after kind number
 reports_refused format tree a c f f_after Malformed number h = elim h [ inl e ↦ (let other = e.0 in cc) | inr r ↦ r ]
 reports_refused format tree a c f f_after NotUtf8 number h = elim h [ inl e ↦ (let other = e.0 in cc) | inr r ↦ r ]
 reports_refused format tree a c f f_after LineTooLong number h = elim h [ inl e ↦ (let other = e.0 in cc) | inr r ↦ r ]
@@ -128,7 +120,7 @@ pub refused_in : (format : FileFormat) (tree : Tree) (a b c : Option (List ℕ))
     → HasRead format tree a b line g size → Consumes b c block → length block ≤ MAX_CONFIG_BLOCK_BYTES
     → ((kind ≡ OutOfMemory) × (number ≡ 0)) ⊎ ((known rest : List ℕ) → Holds format tree known line g → length known ≡ size
     → IsFirstFault format tree complete (known ++ (block ++ rest)) kind number)
-    → ((kind ≡ OutOfMemory) × (number ≡ 0)) ⊎ IsRefused format tree a c kind number
+    → ((kind ≡ OutOfMemory) × (number ≡ 0)) ⊎ IsFileRefused format tree a c kind number
 refused_in format tree a b c line g size block kind number r consumed short fault = elim fault [
   | inl e ↦ inl e
   | inr first ↦ inr (record {
@@ -147,7 +139,7 @@ refused_in format tree a b c line g size block kind number r consumed short faul
 pub refused_at_end : (format : FileFormat) (tree : Tree) (a b c : Option (List ℕ)) (line : List ℕ) (g : Accumulator) (size : ℕ) (kind : LoadKind) (number : ℕ)
     → HasRead format tree a b line g size → Consumes b c [] → IsAtEnd c
     → ((kind ≡ OutOfMemory) × (number ≡ 0)) ⊎ ((known : List ℕ) → Holds format tree known line g → IsFirstFault format tree complete known kind number)
-    → ((kind ≡ OutOfMemory) × (number ≡ 0)) ⊎ IsRefused format tree a c kind number
+    → ((kind ≡ OutOfMemory) × (number ≡ 0)) ⊎ IsFileRefused format tree a c kind number
 refused_at_end format tree a b c line g size kind number r consumed end fault = elim fault [
   | inl e ↦ inl e
   | inr first ↦ inr (record {

@@ -27,7 +27,7 @@ pub record IsReadAs (format : FileFormat) (tree : Tree) (before after : Option (
 
 -- the bytes read have a first fault, of this kind and line: either they are the whole configuration file, or the fault is the
 -- first whatever bytes follow; no fault occurs before the last `MAX_CONFIG_BLOCK_BYTES` of the bytes read
-pub record IsRefused (format : FileFormat) (tree : Tree) (before after : Option (List ℕ)) (kind : LoadKind) (number : ℕ) : Type 0 where
+pub record IsFileRefused (format : FileFormat) (tree : Tree) (before after : Option (List ℕ)) (kind : LoadKind) (number : ℕ) : Type 0 where
   pub known : List ℕ
   pub consumed : Consumes before after known
   pub first : (IsAtEnd after × IsFirstFault format tree complete known kind number)
@@ -47,4 +47,4 @@ abbrev pub ReportsFault : FileFormat → Tree → (before after : Option (List �
 ReportsFault format tree before after failed failed_after OutOfMemory number = number ≡ 0
 ReportsFault format tree before after failed failed_after Read number = IsCutShort format tree before after number
     × (failed < 2 ^ 64 - 1 → failed < failed_after)
-ReportsFault format tree before after failed failed_after kind number = IsRefused format tree before after kind number
+ReportsFault format tree before after failed failed_after kind number = IsFileRefused format tree before after kind number

@@ -1,3 +1,4 @@
 pub mod Accumulation
 pub mod UserValueOrder
 pub mod GatheredLines
+pub mod Groups

@@ -18,7 +18,8 @@ ghost use Rattle.kc_dotconfig.specs.checker.GatheredLines.{lines_in, lines_more,
 use super::accumulator::Accumulator;
 use super::assigned_values::AssignedValues;
 use super::fragment::Fragment;
-use super::gathered_lines::{add_line, with_lines};
+use super::gathered_lines::with_lines;
+use super::maps::add_item;
 use super::meanings::{Meaning, read_line};
 use kc_dotconfig_model::{ChoiceLine, Format, LoadKind, Notice, NoticeKind};
 use kc_rules::Settled;
@@ -59,21 +60,15 @@ fn take_assignment(gathered: &mut Accumulator, unit: u32, user: UserValue) -> Re
 }
 
 /// Lists what the next line gives to a member of a choice, whose unit is `unit`. An `Err` means out of memory.
-fn list_choice(
-    gathered: &mut Accumulator,
-    unit: u32,
-    member: Sym,
-    is_y: bool,
-) -> Result<(), AllocError>
+fn list_choice(gathered: &mut Accumulator, unit: u32, given: MemberLine) -> Result<(), AllocError>
     requires few { gathered.old.lines < MAX_CONFIG_LINES }
     ensures entries { gathered.new.assigns ≡ gathered.old.assigns }
     ensures members { gathered.new.members.entries ≡ gathered.old.members.entries }
     ensures notices { gathered.new.notices.items ≡ gathered.old.notices.items }
-    ensures chosen { OnOk result (gathered.new.chosen.items ≡ gathered.old.chosen.items ++ record { unit = unit; given = record { member = member; is_y = is_y }; line = gathered.old.lines + 1 } ∷ []) }
+    ensures chosen { OnOk result (gathered.new.chosen.items ≡ gathered.old.chosen.items ++ record { unit = unit; given = given; line = gathered.old.lines + 1 } ∷ []) }
     ensures lines { gathered.new.lines ≡ gathered.old.lines }
 {
     let line = gathered.lines + 1;
-    let given = MemberLine { member, is_y };
     gathered.chosen.push(ChoiceLine { unit, given, line })?;
     Ok(())
 }
@@ -88,7 +83,8 @@ fn take_chosen(gathered: &mut Accumulator, unit: u32, s: Sym) -> Result<(), Allo
     ensures lines { OnOk result (gathered.new.lines ≡ gathered.old.lines + 1) }
     ensures err { OnErr result (gathered.new.lines ≡ gathered.old.lines) }
 {
-    list_choice(gathered, unit, s, true)?;
+    let is_y = true;
+    list_choice(gathered, unit, MemberLine { member: s, is_y })?;
     take_assignment(gathered, unit, UserValue::Member(s))
 }
 
@@ -103,7 +99,8 @@ fn take_unchosen(gathered: &mut Accumulator, unit: u32, s: Sym) -> Result<(), Al
     ensures lines { OnOk result (gathered.new.lines ≡ gathered.old.lines + 1) }
     ensures err { OnErr result (gathered.new.lines ≡ gathered.old.lines) }
 {
-    list_choice(gathered, unit, s, false)?;
+    let is_y = false;
+    list_choice(gathered, unit, MemberLine { member: s, is_y })?;
     gathered.lines += 1;
     Ok(())
 }
@@ -123,7 +120,7 @@ fn take_member(
     ensures lines { OnOk result (gathered.new.lines ≡ gathered.old.lines + 1) }
     ensures err { OnErr result (gathered.new.lines ≡ gathered.old.lines) }
 {
-    add_line(alloc, &mut gathered.members, unit, line)?;
+    add_item(alloc, &mut gathered.members, unit, line)?;
     gathered.lines += 1;
     gathered.next = unit.saturating_add(1);
     Ok(())

@@ -4,6 +4,7 @@ ghost use Rattle.std.specs.BTreeMap.{insert_entry};
 ghost use Rattle.std.specs.Ordering.{nat_cmp};
 ghost use Rattle.kc_dotconfig.specs.checker.UserValueOrder.{IsAscending, AreBelow};
 
+use super::maps::put;
 use kc_rules_model::UserValue;
 use std::alloc::{AllocError, Global};
 use std::collections::BTreeMap;
@@ -52,29 +53,9 @@ fn map_of(
 {
     let mut map = BTreeMap::new(alloc);
     for (unit, user) in listed {
-        match map.insert(unit, user) {
-            Ok(before) => drop(before),
-            Err(_) => return Err(AllocError),
-        }
+        put(&mut map, unit, user)?;
     }
     Ok(map)
-}
-
-/// Sets the user value of a unit in a map, and replaces an earlier one.
-pub(crate) fn put(
-    map: &mut BTreeMap<u32, UserValue>,
-    unit: u32,
-    user: UserValue,
-) -> Result<(), AllocError>
-    ensures { OnOk result (map.new.entries ≡ insert_entry nat_cmp map.old.entries unit user) }
-{
-    match map.insert(unit, user) {
-        Ok(before) => {
-            drop(before);
-            Ok(())
-        }
-        Err(_) => Err(AllocError),
-    }
 }
 
 impl AssignedValues {
@@ -110,15 +91,10 @@ impl AssignedValues {
     pub(crate) fn into_map(self) -> Result<BTreeMap<u32, UserValue>, AllocError>
         ensures { IfOk result (λ map. map.entries ≡ self) }
     {
-        let AssignedValues {
-            alloc,
-            listed,
-            mapped,
-        } = self;
-        if mapped.is_empty() {
-            map_of(alloc, listed)
+        if self.mapped.is_empty() {
+            map_of(self.alloc, self.listed)
         } else {
-            Ok(mapped)
+            Ok(self.mapped)
         }
     }
 
@@ -126,14 +102,9 @@ impl AssignedValues {
     pub(crate) fn into_list(self) -> Result<Vec<(u32, UserValue)>, AllocError>
         ensures { IfOk result (λ list. list.items ≡ self) }
     {
-        let AssignedValues {
-            alloc,
-            listed,
-            mapped,
-        } = self;
-        if mapped.is_empty() {
-            return Ok(listed);
+        if self.mapped.is_empty() {
+            return Ok(self.listed);
         }
-        mapped.into_iter().collect(alloc)
+        self.mapped.into_iter().collect(self.alloc)
     }
 }

@@ -1,44 +1,13 @@
 //! What the lines of a configuration file assign to members of choices.
-ghost use Rattle.std.specs.Prelude.{◌≡◌, ◌==◌, ◌∷◌, [], ℕ, IfOk, OnOk, if◌then◌else◌};
-ghost use Rattle.kc_dotconfig.specs.checker.GatheredLines.{lines_in, lines_more, with_unit, joined};
+ghost use Rattle.std.specs.Prelude.{◌≡◌, IfOk, OnOk};
+ghost use Rattle.kc_dotconfig.specs.checker.GatheredLines.{with_unit, joined};
 ghost use Rattle.kc_dotconfig_model.specs.OtherChoices.{kept_last};
 
-use super::assigned_values::{AssignedValues, put};
+use super::assigned_values::AssignedValues;
+use super::maps::put;
 use kc_rules_model::{MemberLine, MemberLines, UserValue};
 use std::alloc::{AllocError, Global};
 use std::collections::{BTreeMap, BTreeSet};
-
-/// One assignment of a member.
-fn one_line(alloc: Global, line: MemberLine) -> Result<Vec<MemberLine>, AllocError>
-    ensures { IfOk result (λ lines. lines.items ≡ line ∷ []) }
-{
-    let mut lines = Vec::with_capacity(alloc, 1)?;
-    lines.push(line)?;
-    Ok(lines)
-}
-
-/// Adds an assignment of a member to those gathered for its choice's unit. An `Err` means out of memory.
-pub(crate) fn add_line(
-    alloc: Global,
-    gathered: &mut BTreeMap<u32, Vec<MemberLine>>,
-    unit: u32,
-    line: MemberLine,
-) -> Result<(), AllocError>
-    ensures { OnOk result ((u : ℕ) → lines_in gathered.new.entries u ≡ (if u == unit then lines_more (lines_in gathered.old.entries u) line else lines_in gathered.old.entries u)) }
-{
-    if let Some(lines) = gathered.get_mut(&unit) {
-        lines.push(line)?;
-        return Ok(());
-    }
-    let lines = one_line(alloc, line)?;
-    match gathered.insert(unit, lines) {
-        Ok(before) => {
-            drop(before);
-            Ok(())
-        }
-        Err(_) => Err(AllocError),
-    }
-}
 
 /// Each member's last assignment, in order. An `Err` means out of memory.
 pub fn last_lines(alloc: Global, lines: &[MemberLine]) -> Result<Vec<MemberLine>, AllocError>

@@ -8,6 +8,7 @@ mod fragment;
 mod fragment_reader;
 mod gathered_lines;
 mod line_buffer;
+mod maps;
 mod meanings;
 
 pub use fragment::Fragment;
@@ -16,4 +17,5 @@ pub use gathered_lines::last_lines;
 pub use kc_dotconfig_model::{
     ChoiceLine, Format, LoadFault, LoadKind, Notice, NoticeKind, Prefix, Strings,
 };
+pub use maps::{add_item, put};
 pub use meanings::{Meaning, read_line};

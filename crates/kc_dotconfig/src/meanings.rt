@@ -1,5 +1,5 @@
 //! The meaning of a line of a configuration file.
-ghost use Rattle.std.specs.Prelude.{◌≡◌, ◌<◌, ℕ, IfOk, IfSome, Some, length, is_some, slice_get, option_map};
+ghost use Rattle.std.specs.Prelude.{◌≡◌, ◌<◌, ℕ, IfOk, IfSome, Some, length, is_some, slice_get, option_map, if◌then◌else◌};
 ghost use Rattle.kc_tree_model.specs.Trees.{Symbol};
 ghost use Rattle.kc_tree_model.specs.TreeLookup.{symbol_named};
 ghost use Rattle.kc_value.specs.Number.{number_of_text};
@@ -56,35 +56,16 @@ fn tri_of_text(kind: Kind, text: &str) -> Option<Tri>
     }
 }
 
-/// Interprets `y` for a member of a choice.
-fn chosen(language: Language, unit: u32, s: Sym) -> Meaning
-    ensures { meaning_view result ≡ assigns unit (member_user language s) }
+/// Interprets a value for a member of a choice: `y`, or another one.
+fn read_member(language: Language, unit: u32, s: Sym, is_y: bool) -> Meaning
+    ensures { meaning_view result ≡ (if is_y then assigns unit (member_user language s) else unchosen_meaning language unit s) }
 {
     if language.is_linux_6_12() {
-        Meaning::Line(
-            unit,
-            MemberLine {
-                member: s,
-                is_y: true,
-            },
-        )
-    } else {
-        Meaning::Member(unit, s)
+        let line = MemberLine { member: s, is_y };
+        return Meaning::Line(unit, line);
     }
-}
-
-/// Interprets another value than `y` for a member of a choice.
-fn unchosen(language: Language, unit: u32, s: Sym) -> Meaning
-    ensures { meaning_view result ≡ unchosen_meaning language unit s }
-{
-    if language.is_linux_6_12() {
-        Meaning::Line(
-            unit,
-            MemberLine {
-                member: s,
-                is_y: false,
-            },
-        )
+    if is_y {
+        Meaning::Member(unit, s)
     } else {
         Meaning::Unchosen(unit, s)
     }
@@ -97,8 +78,8 @@ fn read_tri(language: Language, unit: u32, s: Sym, choice: Option<u32>, tri: Opt
     match (choice, tri) {
         (_, None) => Meaning::Noted(NoticeKind::NotOfType),
         (None, Some(tri)) => Meaning::Tri(unit, tri),
-        (Some(_), Some(Tri::Y)) => chosen(language, unit, s),
-        (Some(_), Some(_)) => unchosen(language, unit, s),
+        (Some(_), Some(Tri::Y)) => read_member(language, unit, s, true),
+        (Some(_), Some(_)) => read_member(language, unit, s, false),
     }
 }
 
@@ -147,22 +128,6 @@ fn read_raw(alloc: Global, unit: u32, text: &str) -> Result<Meaning, AllocError>
     }
 }
 
-/// Interprets the value of a string by the form of strings.
-fn read_string(
-    alloc: Global,
-    language: Language,
-    strings: Strings,
-    unit: u32,
-    text: &str,
-) -> Result<Meaning, AllocError>
-    ensures { IfOk result (λ meaning. meaning_view meaning ≡ string_meaning language strings unit text.now (string_text strings text.now)) }
-{
-    match strings {
-        Strings::Escaped => read_escaped(alloc, language, unit, text),
-        Strings::Raw => read_raw(alloc, unit, text),
-    }
-}
-
 /// Whether a text is a number of an int or hex.
 fn is_number(kind: Kind, text: &str) -> bool
     ensures { result ≡ is_some (number_of_text kind text.now) }
@@ -202,7 +167,10 @@ fn read_text(
     ensures { IfOk result (λ meaning. meaning_view meaning ≡ meaning_of_kind language strings kind unit s choice text.now) }
 {
     match kind {
-        Kind::Text => read_string(alloc, language, strings, unit, text),
+        Kind::Text => match strings {
+            Strings::Escaped => read_escaped(alloc, language, unit, text),
+            Strings::Raw => read_raw(alloc, unit, text),
+        },
         Kind::Int => read_number(alloc, unit, kind, text),
         Kind::Hex => read_number(alloc, unit, kind, text),
         Kind::Bool => Ok(read_tri(language, unit, s, choice, tri_of_text(kind, text))),
@@ -243,7 +211,7 @@ fn read_unset(tree: &Tree, s: Sym) -> Meaning
 {
     let symbol = tree.symbol(s);
     match (symbol.choice, symbol.kind) {
-        (Some(_), _) => unchosen(tree.language(), symbol.unit, s),
+        (Some(_), _) => read_member(tree.language(), symbol.unit, s, false),
         (None, Kind::Bool) => Meaning::Tri(symbol.unit, Tri::N),
         (None, Kind::Tristate) => Meaning::Tri(symbol.unit, Tri::N),
         (None, _) => Meaning::Nothing,

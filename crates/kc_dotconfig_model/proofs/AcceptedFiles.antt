@@ -1,25 +1,14 @@
 -- Each line of a file has its number and place, and the lines of an accepted file have meanings.
-use Rattle.std.proofs.Common.{◌≡◌, inl, inr, ℕ, zero, suc, ◌+◌, ◌<◌, Bool, true, false, not, ◌==◌, cond, List, [], ◌∷◌, ◌++◌, Option, Some, None, length, refl, sym, ◌∙◌, ap, subst, arith}
-use Rattle.std.specs.Prelude.{slice_get}
-use Rattle.std.specs.List.{onto_first}
-use Rattle.std.proofs.lemmas.Bool.{eqb-true, and_from}
-use Rattle.std.proofs.lemmas.List.Sums.{sum_by-cons, sum_by-append}
-use Rattle.kc_tree_model.specs.Trees.{Tree}
-use Rattle.kc_dotconfig_model.specs.Formats.{FileFormat}
-use Rattle.kc_dotconfig_model.specs.declared.fault.LoadKind.TheVariants.{Malformed}
-use Rattle.kc_value.specs.Lines.{has_no_byte, newline_count}
-use Rattle.kc_dotconfig_model.specs.ConfigLines.{LineMeaning, IsMalformed}
-use Rattle.kc_tree_model.specs.LogicalLines.{without_white_end}
-use Rattle.kc_dotconfig_model.specs.ConfigFiles.{file_lines, FileMeans}
-use Rattle.kc_dotconfig_model.specs.LoadFaults.{IsLineAt}
-use Rattle.kc_dotconfig_model.specs.between.LineMeanings.{line_meaning, with_rest, meanings_of_lines, file_meanings}
+use Rattle.kc_dotconfig_model.proofs.Common.{◌≡◌, inl, inr, ℕ, zero, suc, ◌+◌, ◌<◌, Bool, true, false, not, ◌==◌, cond, List, [], ◌∷◌, ◌++◌, Option, Some, None, length, refl, sym, ◌∙◌, ap, subst, arith, slice_get, onto_first, eqb-true, and_from, sum_by-cons, sum_by-append, Tree, FileFormat}
+use Rattle.kc_dotconfig_model.proofs.Common.{Malformed, has_no_byte, newline_count, LineMeaning, IsMalformed, without_white_end, file_lines, FileMeans, IsLineAt, with_rest, meanings_of_lines, file_meanings}
+use Rattle.kc_dotconfig_model.specs.between.LineMeanings.{line_meaning}
 use Rattle.kc_dotconfig_model.specs.FileLaws.{AcceptedFilesAreRead}
 use Rattle.kc_dotconfig_model.proofs.LineLaws.{line_read, file_read}
 
-count_more : (b : ℕ) (bytes : List ℕ) → newline_count (b ∷ bytes) ≡ cond (b == 10) 1 0 + newline_count bytes
+pub count_more : (b : ℕ) (bytes : List ℕ) → newline_count (b ∷ bytes) ≡ cond (b == 10) 1 0 + newline_count bytes
 count_more b bytes = sum_by-cons (λ c. cond (c == 10) 1 0) b bytes
 
-count_ends : (earlier : List ℕ) → newline_count (earlier ++ 10 ∷ []) ≡ newline_count earlier + 1
+pub count_ends : (earlier : List ℕ) → newline_count (earlier ++ 10 ∷ []) ≡ newline_count earlier + 1
 count_ends earlier = sum_by-append (λ c. cond (c == 10) 1 0) earlier (10 ∷ [])
 
 -- after one more line
@@ -84,9 +73,6 @@ some_line b bytes e = go (b == 10) (file_lines bytes) e where
 no_bytes : (bytes : List ℕ) → file_lines bytes ≡ [] → bytes ≡ []
 no_bytes [] e = refl
 no_bytes (b ∷ bytes) e = absurd (some_line b bytes e)
-
-abbrev Placed : List ℕ → List ℕ → ℕ → Type 0
-Placed bytes line n = (start : ℕ) × IsLineAt bytes line n start
 
 -- the line at index `k` of `file_lines`, counted from 0, is the line of the file with the number `k + 1`, counted from 1
 pub placed : (bytes : List ℕ) (k n : ℕ) (line : List ℕ) → n ≡ k + 1 → slice_get (file_lines bytes) k ≡ Some line → (start : ℕ) × IsLineAt bytes line n start

@@ -1,17 +1,7 @@
 -- The first fault of small files, and of the same files where a read failed after them.
-use Rattle.std.proofs.Common.{◌≡◌, inl, inr, ℕ, ◌≤◌, true, List, [], ◌∷◌, ◌++◌, Some, None, length, refl, arith}
-use Rattle.std.specs.Prelude.{codes}
-use Rattle.kc_value.specs.declared.tri.Tri.TheVariants.{Y}
+use Rattle.kc_dotconfig_model.proofs.Common.{◌≡◌, inl, inr, ℕ, ◌≤◌, true, List, [], ◌∷◌, ◌++◌, Some, None, length, refl, arith, codes, Y, tree_a, Malformed, Read, has_no_byte, Escaped, FileFormat, LineMeaning, assigns, complete, cut_short, IsFirstFault, IsSound, IsCutFile}
 use Rattle.kc_rules_model.specs.declared.values.UserValue.TheVariants.{Tri as TriUser}
-use Rattle.kc_rules_model.proofs.RowTrees.{tree_a}
-use Rattle.kc_dotconfig_model.specs.declared.fault.LoadKind.TheVariants.{Malformed, Read}
-use Rattle.kc_value.specs.Lines.{has_no_byte}
-use Rattle.kc_dotconfig_model.specs.declared.format.Strings.TheVariants.{Escaped}
-use Rattle.kc_dotconfig_model.specs.Formats.{FileFormat}
-use Rattle.kc_dotconfig_model.specs.ConfigLines.{LineMeaning, assigns}
-use Rattle.kc_dotconfig_model.specs.LoadFaults.{complete, cut_short, IsFirstFault}
 use Rattle.kc_dotconfig_model.specs.between.LineMeanings.{line_meaning}
-use Rattle.kc_dotconfig_model.specs.between.PartialFiles.{IsSound, IsCut}
 use Rattle.kc_dotconfig_model.proofs.LineLaws.{line_read}
 use Rattle.kc_dotconfig_model.proofs.TrimmedLines.{low_utf8}
 use Rattle.kc_dotconfig_model.proofs.FirstFaults.{failed_reads}
@@ -38,7 +28,7 @@ first_sound = record {
   has_meaning = (line_read plain tree_a (codes "CONFIG_A=y") (assigns 0 (TriUser Y)) refl).0 first_read;
 }
 
-known_front : IsCut plain tree_a front [] first
+known_front : IsCutFile plain tree_a front [] first
 known_front = record {
   front = front;
   whole = refl;
@@ -52,7 +42,7 @@ known_front = record {
 }
 
 -- after it a line that isn't whole
-known_more : (line : List ℕ) → length line ≤ 8 → has_no_byte 10 line ≡ true → IsCut plain tree_a (front ++ line) ([] ++ line) first
+known_more : (line : List ℕ) → length line ≤ 8 → has_no_byte 10 line ≡ true → IsCutFile plain tree_a (front ++ line) ([] ++ line) first
 known_more line few one = held plain tree_a front [] first known_front line one (omega arith) (omega arith) (omega arith)
 
 none_read : line_meaning plain tree_a (codes "CON") ≡ None

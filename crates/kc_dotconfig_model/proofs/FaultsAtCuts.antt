@@ -1,30 +1,14 @@
 -- The first fault, where a part of a file is known.
-use Rattle.std.proofs.Common.{◌≡◌, ◌⊎◌, inl, inr, ℕ, ◌+◌, ◌<◌, ◌≤◌, true, false, not, ◌==◌, List, [], ◌∷◌, ◌++◌, length, take, refl, sym, ◌∙◌, ap, subst, append_assoc, length-append, arith}
-use Rattle.std.specs.List.{AllZip}
-use Rattle.std.specs.Str.{IsUtf8}
-use Rattle.std.proofs.lemmas.Bool.{and_from, false≢true}
-use Rattle.std.proofs.lemmas.List.{append-nil}
-use Rattle.std.proofs.Math.Seq.{take-append_seam}
-use Rattle.std.proofs.lemmas.Str.{IsUtf8-nil}
-use Rattle.std.proofs.lemmas.List.Folds.{list_all-append}
-use Rattle.kc_tree_model.specs.Trees.{Tree}
-use Rattle.kc_dotconfig_model.specs.Formats.{FileFormat}
-use Rattle.kc_dotconfig_model.specs.declared.fault.LoadKind.{LoadKind}
-use Rattle.kc_dotconfig_model.specs.declared.fault.LoadKind.TheVariants.{Malformed, NotUtf8, LineTooLong, TooManyLines, Read, OutOfMemory, TooLarge}
-use Rattle.kc_value.specs.Lines.{has_no_byte, newline_count, HasWholeLines}
-use Rattle.kc_dotconfig_model.specs.ConfigLines.{LineMeaning, Means, silent, empty, IsMalformed}
-use Rattle.kc_tree_model.specs.LogicalLines.{without_white_end}
-use Rattle.kc_dotconfig_model.specs.ConfigFiles.{file_lines, FileMeans}
-use Rattle.kc_value.specs.declared.limits.TheConstants.{MAX_CONFIG_BYTES, MAX_CONFIG_LINES, MAX_LINE_BYTES}
-use Rattle.kc_dotconfig_model.specs.LoadFaults.{complete, IsLineAt, OccursAt, rank_of, IsFirstFault, IsAccepted}
-use Rattle.kc_dotconfig_model.specs.between.PartialFiles.{IsSound, IsCut}
+use Rattle.kc_dotconfig_model.proofs.Common.{◌≡◌, ◌⊎◌, inl, inr, ℕ, ◌+◌, ◌<◌, ◌≤◌, true, false, not, ◌==◌, List, [], ◌∷◌, ◌++◌, length, take, refl, sym, ◌∙◌, ap, subst, append_assoc, length-append, arith, AllZip, IsUtf8, and_from, false≢true, append-nil, take-append_seam, IsUtf8-nil}
+use Rattle.kc_dotconfig_model.proofs.Common.{list_all-append, Tree, FileFormat, LoadKind, Malformed, NotUtf8, LineTooLong, TooManyLines, TooLarge, has_no_byte, newline_count, HasWholeLines, LineMeaning, Means, silent, empty, IsMalformed, without_white_end, file_lines, FileMeans, MAX_CONFIG_BYTES}
+use Rattle.kc_dotconfig_model.proofs.Common.{MAX_CONFIG_LINES, MAX_LINE_BYTES, complete, IsLineAt, OccursAt, rank_of, IsFirstFault, IsAccepted, IsSound, IsCutFile}
 use Rattle.kc_dotconfig_model.proofs.Cuts.{split, LinePlace, earlier, this, later, line_place, Ends, no_shorter, no_longer, same_front, a_line, newlines_append, none_in_line, first_of_lines, last_of_lines, lines_after_ended, one_of, zip_length, zip_append, ended_count}
 
 abbrev Part : FileFormat → Tree → List ℕ → List ℕ → List LineMeaning → List ℕ → List ℕ → Type 0
-Part format tree known line meanings more bytes = IsCut format tree known line meanings × (bytes ≡ known ++ more)
+Part format tree known line meanings more bytes = IsCutFile format tree known line meanings × (bytes ≡ known ++ more)
 
 -- A known part of a file, and the bytes after it.
-module _ (format : FileFormat) (tree : Tree) (known line : List ℕ) (meanings : List LineMeaning) (c : IsCut format tree known line meanings) where
+module _ (format : FileFormat) (tree : Tree) (known line : List ℕ) (meanings : List LineMeaning) (c : IsCutFile format tree known line meanings) where
   whole_is : (more : List ℕ) → known ++ more ≡ c.front ++ (line ++ more)
   whole_is more = ap (λ t. t ++ more) c.whole ∙ append_assoc c.front line more
 
@@ -104,8 +88,7 @@ module _ (format : FileFormat) (tree : Tree) (known line : List ℕ) (meanings :
         | this same after ↦ (let e = ap length same in let h = no_shorter line more found at.rest c.one_line at.ends after in omega arith)
         | later h ↦ omega arith
       ]
-  clean more Read byte number h = absurd h
-  clean more OutOfMemory byte number h = absurd h
+  clean more _ byte number h = absurd h
 
   -- a fault after the known bytes is the first, if no other at its byte comes before it
   first_by : (more : List ℕ) (kind : LoadKind) (number : ℕ) → OccursAt format tree (known ++ more) kind (length known) number
@@ -193,23 +176,14 @@ module _ (format : FileFormat) (tree : Tree) (known line : List ℕ) (meanings :
   after_large : (more : List ℕ) (n : ℕ) → (OccursAt format tree (known ++ more) TooLarge (length known) n → ⊥) → (other : LoadKind)
       → OccursAt format tree (known ++ more) other (length known) n → 1 ≤ rank_of other
   after_large more n a TooLarge at = absurd (a at)
-  after_large more n a TooManyLines at = omega arith
-  after_large more n a LineTooLong at = omega arith
-  after_large more n a NotUtf8 at = omega arith
-  after_large more n a Malformed at = omega arith
-  after_large more n a Read at = omega arith
-  after_large more n a OutOfMemory at = omega arith
+  after_large more n a _ at = omega arith
 
   after_many : (more : List ℕ) (n : ℕ) → (OccursAt format tree (known ++ more) TooLarge (length known) n → ⊥)
       → (OccursAt format tree (known ++ more) TooManyLines (length known) n → ⊥)
       → (other : LoadKind) → OccursAt format tree (known ++ more) other (length known) n → 2 ≤ rank_of other
   after_many more n a b TooLarge at = absurd (a at)
   after_many more n a b TooManyLines at = absurd (b at)
-  after_many more n a b LineTooLong at = omega arith
-  after_many more n a b NotUtf8 at = omega arith
-  after_many more n a b Malformed at = omega arith
-  after_many more n a b Read at = omega arith
-  after_many more n a b OutOfMemory at = omega arith
+  after_many more n a b _ at = omega arith
 
   after_long : (more : List ℕ) (n : ℕ) → (OccursAt format tree (known ++ more) TooLarge (length known) n → ⊥)
       → (OccursAt format tree (known ++ more) TooManyLines (length known) n → ⊥) → (OccursAt format tree (known ++ more) LineTooLong (length known) n → ⊥)
@@ -217,10 +191,7 @@ module _ (format : FileFormat) (tree : Tree) (known line : List ℕ) (meanings :
   after_long more n a b d TooLarge at = absurd (a at)
   after_long more n a b d TooManyLines at = absurd (b at)
   after_long more n a b d LineTooLong at = absurd (d at)
-  after_long more n a b d NotUtf8 at = omega arith
-  after_long more n a b d Malformed at = omega arith
-  after_long more n a b d Read at = omega arith
-  after_long more n a b d OutOfMemory at = omega arith
+  after_long more n a b d _ at = omega arith
 
   after_odd : (more : List ℕ) (n : ℕ) → (OccursAt format tree (known ++ more) TooLarge (length known) n → ⊥)
       → (OccursAt format tree (known ++ more) TooManyLines (length known) n → ⊥) → (OccursAt format tree (known ++ more) LineTooLong (length known) n → ⊥)
@@ -230,9 +201,7 @@ module _ (format : FileFormat) (tree : Tree) (known line : List ℕ) (meanings :
   after_odd more n a b d e TooManyLines at = absurd (b at)
   after_odd more n a b d e LineTooLong at = absurd (d at)
   after_odd more n a b d e NotUtf8 at = absurd (e at)
-  after_odd more n a b d e Malformed at = omega arith
-  after_odd more n a b d e Read at = omega arith
-  after_odd more n a b d e OutOfMemory at = omega arith
+  after_odd more n a b d e _ at = omega arith
 
   pub too_many : (more : List ℕ) → line ≡ [] → length meanings ≡ MAX_CONFIG_LINES → length known < MAX_CONFIG_BYTES → 0 < length more
       → IsFirstFault format tree complete (known ++ more) TooManyLines (length meanings + 1)
@@ -369,15 +338,13 @@ module _ (format : FileFormat) (tree : Tree) (known line : List ℕ) (meanings :
         go LineTooLong byte number (found, start, at, long, is_byte) = let sound = (found_sound found number start at).1.short in omega arith
         go NotUtf8 byte number (found, start, at, bad, is_byte) = bad ((found_sound found number start at).1.text)
         go Malformed byte number (found, start, at, bad, is_byte) = let sound = found_sound found number start at in bad sound.0 sound.1.has_meaning
-        go Read byte number h = h
-        go OutOfMemory byte number h = h
+        go _ byte number h = h
 
   all_mean : (lines : List (List ℕ)) (all : List LineMeaning) → AllZip (IsSound format tree) lines all
       → AllZip (λ l x. Means format tree (without_white_end l) x) lines all
   all_mean [] [] h = tt
-  all_mean [] (x ∷ all) h = absurd h
-  all_mean (l ∷ lines) [] h = absurd h
   all_mean (l ∷ lines) (x ∷ all) h = (h.0.has_meaning, all_mean lines all h.1)
+  all_mean _ _ h = absurd h
 
   -- a file that ends where its known part ends has the meanings of the complete lines and then that of the last line
   pub file_means : (last : List LineMeaning) → MeansLast last → FileMeans format tree known (meanings ++ last)
@@ -394,7 +361,7 @@ module _ (format : FileFormat) (tree : Tree) (known line : List ℕ) (meanings :
 
   -- with more bytes of its last line, without a newline and within the limits, the known part of a file stays without a fault
   pub held : (piece : List ℕ) → has_no_byte 10 piece ≡ true → length line + length piece ≤ MAX_LINE_BYTES → length meanings < MAX_CONFIG_LINES
-      → length known + length piece ≤ MAX_CONFIG_BYTES → IsCut format tree (known ++ piece) (line ++ piece) meanings
+      → length known + length piece ≤ MAX_CONFIG_BYTES → IsCutFile format tree (known ++ piece) (line ++ piece) meanings
   held piece one short room small = record {
     front = c.front;
     whole = ap (λ t. t ++ piece) c.whole ∙ append_assoc c.front line piece;
@@ -409,7 +376,7 @@ module _ (format : FileFormat) (tree : Tree) (known line : List ℕ) (meanings :
 
   -- with the newline after its last line, which is sound, the known part of a file stays without a fault, within the limits
   pub line_ended : (x : LineMeaning) → IsSound format tree line x → length meanings < MAX_CONFIG_LINES → length known < MAX_CONFIG_BYTES
-      → IsCut format tree (known ++ 10 ∷ []) [] (meanings ++ x ∷ [])
+      → IsCutFile format tree (known ++ 10 ∷ []) [] (meanings ++ x ∷ [])
   line_ended x sound room small =
       let lines : file_lines (known ++ 10 ∷ []) ≡ file_lines c.front ++ line ∷ [] = ap file_lines (whole_is (10 ∷ []))
       ∙ lines_after_ended c.front (line ++ 10 ∷ []) c.ended ∙ ap (λ ls. file_lines c.front ++ ls) (first_of_lines line [] c.one_line) in
@@ -426,7 +393,7 @@ module _ (format : FileFormat) (tree : Tree) (known line : List ℕ) (meanings :
         short = omega arith;
       }
 
-pub empty_cut : (format : FileFormat) (tree : Tree) → IsCut format tree [] [] []
+pub empty_cut : (format : FileFormat) (tree : Tree) → IsCutFile format tree [] [] []
 empty_cut format tree =
     record {
       front = [];

@@ -1,22 +1,14 @@
 -- The meanings and the assignments of small files.
-use Rattle.std.proofs.Common.{◌≡◌, ℕ, List, [], ◌∷◌, Option, Some, None, refl}
-use Rattle.std.specs.Prelude.{codes}
+use Rattle.kc_dotconfig_model.proofs.Common.{◌≡◌, ℕ, List, [], ◌∷◌, Option, Some, None, refl, codes, N, Y, Tree, UserValue, sets, tree_a, tree_pick, Linux, V6_12, NoticeKind, UnknownSymbol, NotOfType, Escaped, Raw, FileFormat, LineMeaning, assigns, notice, silent, file_assignment, assigned_over}
+use Rattle.kc_dotconfig_model.proofs.Common.{overlay, file_meanings}
 use Rattle.std.specs.Option.{option_map}
-use Rattle.kc_value.specs.declared.tri.Tri.TheVariants.{N, Y}
-use Rattle.kc_tree_model.specs.Trees.{Tree}
-use Rattle.kc_rules_model.specs.declared.values.UserValue.{UserValue}
 use Rattle.kc_rules_model.specs.declared.values.UserValue.TheVariants.{Tri as TriUser, Member as MemberUser}
-use Rattle.kc_rules_model.proofs.RowTrees.{sets, writes, tree_a, tree_string, tree_pick}
-use Rattle.kc_tokens.specs.declared.language.Language.TheVariants.{Linux}
+use Rattle.kc_rules_model.proofs.RowTrees.{writes, tree_string}
 use Rattle.kc_tokens.specs.declared.language.LinuxVersion.{LinuxVersion}
-use Rattle.kc_tokens.specs.declared.language.LinuxVersion.TheVariants.{Unknown, V6_1, V6_12}
-use Rattle.kc_dotconfig_model.specs.declared.notice.NoticeKind.{NoticeKind}
-use Rattle.kc_dotconfig_model.specs.declared.notice.NoticeKind.TheVariants.{UnknownSymbol, NotOfType, Escape}
-use Rattle.kc_dotconfig_model.specs.declared.format.Strings.TheVariants.{Escaped, Raw}
-use Rattle.kc_dotconfig_model.specs.Formats.{FileFormat}
-use Rattle.kc_dotconfig_model.specs.ConfigLines.{LineMeaning, assigns, notice, silent}
-use Rattle.kc_dotconfig_model.specs.ConfigFiles.{file_assignment, assigned_over, overlay, notices_from}
-use Rattle.kc_dotconfig_model.specs.between.LineMeanings.{line_meaning, file_meanings}
+use Rattle.kc_tokens.specs.declared.language.LinuxVersion.TheVariants.{Unknown, V6_1}
+use Rattle.kc_dotconfig_model.specs.declared.notice.NoticeKind.TheVariants.{Escape}
+use Rattle.kc_dotconfig_model.specs.ConfigFiles.{notices_from}
+use Rattle.kc_dotconfig_model.specs.between.LineMeanings.{line_meaning}
 
 -- a file's assignment and its notices, if no line is malformed
 abbrev read : FileFormat → Tree → List ℕ → Option (List (Option UserValue) × List (ℕ × NoticeKind))

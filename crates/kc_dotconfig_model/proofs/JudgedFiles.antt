@@ -1,22 +1,9 @@
 -- Each file is accepted or has a first fault.
-use Rattle.std.proofs.Common.{◌≡◌, ◌⊎◌, inl, inr, ℕ, ◌+◌, ◌<◌, ◌≤◌, true, not, ◌==◌, List, [], ◌∷◌, ◌++◌, Option, Some, None, length, refl, sym, ◌∙◌, ap, subst, append_assoc, arith}
-use Rattle.std.specs.Str.{IsUtf8, is_utf8}
-use Rattle.std.proofs.lemmas.Bool.{cases_Bool, cases_lt, false≢true, and_from, eqb-true}
-use Rattle.std.proofs.lemmas.List.{append-nil}
-use Rattle.std.proofs.lemmas.Str.{IsUtf8-from_is_utf8, is_utf8-from_IsUtf8}
-use Rattle.kc_tree_model.specs.Trees.{Tree}
-use Rattle.kc_dotconfig_model.specs.Formats.{FileFormat}
-use Rattle.kc_dotconfig_model.specs.declared.fault.LoadKind.{LoadKind}
-use Rattle.kc_dotconfig_model.specs.declared.fault.LoadKind.TheVariants.{Malformed, NotUtf8, LineTooLong, TooManyLines, Read, TooLarge}
-use Rattle.kc_value.specs.Lines.{has_no_byte, newline_count}
-use Rattle.kc_dotconfig_model.specs.PrefixGrammar.{is_name_prefix}
-use Rattle.kc_dotconfig_model.specs.ConfigLines.{LineMeaning}
-use Rattle.kc_tree_model.specs.LogicalLines.{without_white_end}
-use Rattle.kc_value.specs.declared.limits.TheConstants.{MAX_CONFIG_BYTES, MAX_CONFIG_LINES, MAX_LINE_BYTES}
-use Rattle.kc_dotconfig_model.specs.LoadFaults.{complete, cut_short, OccursAt, IsFirstFault, IsAccepted}
+use Rattle.kc_dotconfig_model.proofs.Common.{◌≡◌, ◌⊎◌, inl, inr, ℕ, ◌+◌, ◌<◌, ◌≤◌, true, not, ◌==◌, List, [], ◌∷◌, ◌++◌, Option, Some, None, length, refl, sym, ◌∙◌, ap, subst, append_assoc, arith, IsUtf8, is_utf8, cases_Bool, cases_lt, false≢true, and_from, eqb-true, append-nil, IsUtf8-from_is_utf8}
+use Rattle.kc_dotconfig_model.proofs.Common.{is_utf8-from_IsUtf8, Tree, FileFormat, LoadKind, Malformed, NotUtf8, LineTooLong, TooManyLines, Read, TooLarge, has_no_byte, newline_count, is_name_prefix, LineMeaning, without_white_end, MAX_CONFIG_BYTES, MAX_CONFIG_LINES, MAX_LINE_BYTES, complete}
+use Rattle.kc_dotconfig_model.proofs.Common.{cut_short, OccursAt, IsFirstFault, IsAccepted, IsSound, IsCutFile}
 use Rattle.kc_dotconfig_model.specs.FileLaws.{EachFileIsJudged, EachCutFileIsJudged}
 use Rattle.kc_dotconfig_model.specs.between.LineMeanings.{line_meaning}
-use Rattle.kc_dotconfig_model.specs.between.PartialFiles.{IsSound, IsCut}
 use Rattle.kc_dotconfig_model.proofs.LineLaws.{line_read}
 use Rattle.kc_dotconfig_model.proofs.FirstFaults.{failed_reads}
 use Rattle.kc_dotconfig_model.proofs.FaultsAtCuts.{AtEnd, too_large, too_many, too_long, not_utf8, malformed, accepted, held, line_ended, empty_cut}
@@ -29,7 +16,7 @@ no_length [] h = refl
 no_length (b ∷ line) h = absurd (omega arith)
 
 module _ (format : FileFormat) (valid : is_name_prefix format.prefix ≡ true) (tree : Tree) (known line : List ℕ) (meanings : List LineMeaning)
-    (c : IsCut format tree known line meanings) where
+    (c : IsCutFile format tree known line meanings) where
   -- the line so far has a fault at its end, or what follows judges
   at_line_end : (more : List ℕ) → AtEnd format tree known line meanings c more
       → ((x : LineMeaning) → IsSound format tree line x → Judged format tree (known ++ more)) → Judged format tree (known ++ more)
@@ -63,7 +50,7 @@ module _ (format : FileFormat) (valid : is_name_prefix format.prefix ≡ true) (
 
   -- a byte follows that is within the size, and either it is too many or goes on
   at_byte : (b : ℕ) (rest : List ℕ) → length known < MAX_CONFIG_BYTES
-      → (((line_new : List ℕ) (sayings_new : List LineMeaning) → IsCut format tree (known ++ b ∷ []) line_new sayings_new
+      → (((line_new : List ℕ) (sayings_new : List LineMeaning) → IsCutFile format tree (known ++ b ∷ []) line_new sayings_new
       → Judged format tree (known ++ b ∷ rest)))
       → Judged format tree (known ++ b ∷ rest)
   at_byte b rest less next = elim (cases_lt (length meanings) MAX_CONFIG_LINES) [
@@ -71,7 +58,7 @@ module _ (format : FileFormat) (valid : is_name_prefix format.prefix ≡ true) (
       | inl newline ↦
           let is = eqb-true b 10 newline in
           at_line_end (b ∷ rest) (inr (rest, (ap (λ x. x ∷ rest) is), less))
-          (λ x sound. next [] (meanings ++ x ∷ []) (subst (λ y. IsCut format tree (known ++ y ∷ []) [] (meanings ++ x ∷ [])) (sym is)
+          (λ x sound. next [] (meanings ++ x ∷ []) (subst (λ y. IsCutFile format tree (known ++ y ∷ []) [] (meanings ++ x ∷ [])) (sym is)
           (line_ended format tree known line meanings c x sound room less)))
       | inr other ↦ elim (cases_lt (length line) MAX_LINE_BYTES) [
         | inl short ↦
@@ -101,10 +88,10 @@ module _ (format : FileFormat) (valid : is_name_prefix format.prefix ≡ true) (
 
 -- the known bytes, and these after them
 judge : (format : FileFormat) → is_name_prefix format.prefix ≡ true → (tree : Tree) (more known line : List ℕ) (meanings : List LineMeaning)
-    → IsCut format tree known line meanings → Judged format tree (known ++ more)
+    → IsCutFile format tree known line meanings → Judged format tree (known ++ more)
 judge format valid tree [] known line meanings c = at_file_end format valid tree known line meanings c
 judge format valid tree (b ∷ rest) known line meanings c =
-    let later : (line_new : List ℕ) (sayings_new : List LineMeaning) → IsCut format tree (known ++ b ∷ []) line_new sayings_new
+    let later : (line_new : List ℕ) (sayings_new : List LineMeaning) → IsCutFile format tree (known ++ b ∷ []) line_new sayings_new
     → Judged format tree (known ++ b ∷ rest) =
     λ l s d. subst (Judged format tree) (append_assoc known (b ∷ []) rest) (judge format valid tree rest (known ++ b ∷ []) l s d) in
     elim (cases_lt (length known) MAX_CONFIG_BYTES) [

@@ -1,3 +1,5 @@
+pub mod Common
+pub mod Tables
 pub mod ValueLaws
 pub mod LineForms
 pub mod LineLaws

@@ -1,9 +1,8 @@
 -- Assignments that aren't the values that they are given.
-use Rattle.std.proofs.Common.{◌≡◌, [], ◌∷◌, Some, None, refl}
-use Rattle.kc_value.specs.declared.tri.Tri.TheVariants.{M, Y}
+use Rattle.kc_dotconfig_model.proofs.Common.{◌≡◌, [], ◌∷◌, Some, None, refl, M, Y, sets, tree_pick}
 use Rattle.kc_rules_model.specs.declared.values.UnitValue.TheVariants.{Member as MemberValue}
 use Rattle.kc_rules_model.specs.declared.values.UserValue.TheVariants.{Member as MemberUser}
-use Rattle.kc_rules_model.proofs.RowTrees.{n, m, y, sets, tree_pick, tree_imply}
+use Rattle.kc_rules_model.proofs.RowTrees.{n, m, y, tree_imply}
 use Rattle.kc_dotconfig_model.specs.MissedAssignments.{missed}
 
 invisible_member : (missed tree_pick (Some (MemberUser 2) ∷ None ∷ []) (MemberValue (Some 1) ∷ n ∷ []) ≡ 2 ∷ [])

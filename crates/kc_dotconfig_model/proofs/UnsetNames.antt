@@ -1,12 +1,8 @@
 -- What is before ` is not set` at the end of an unset text.
-use Rattle.std.proofs.Common.{◌≡◌, ◌≢◌, inl, inr, ℕ, ◌-◌, Bool, true, false, not, ◌&&◌, ◌||◌, ◌==◌, List, [], ◌∷◌, ◌++◌, length, take, length-append, refl, sym, ◌∙◌, ap, arith}
-use Rattle.std.specs.Prelude.{codes, nat_eq, nat_lt, bytes_eq}
+use Rattle.kc_dotconfig_model.proofs.Common.{◌≡◌, ◌≢◌, inl, inr, ℕ, ◌-◌, Bool, true, false, not, ◌&&◌, ◌||◌, ◌==◌, List, [], ◌∷◌, ◌++◌, length, take, length-append, refl, sym, ◌∙◌, ap, arith, codes, nat_lt, bytes_eq, take-append_seam, and_parts, cases_lt, eq-eqb, false≢true, lt-ltb}
+use Rattle.kc_dotconfig_model.proofs.Common.{bytes_eq-Decides, has_no_byte, is_name_not_set, is_unset_text}
+use Rattle.std.specs.Prelude.{nat_eq}
 use Rattle.std.specs.List.{list_any}
-use Rattle.std.proofs.Math.Seq.{take-append_seam}
-use Rattle.std.proofs.lemmas.Bool.{and_parts, cases_lt, eq-eqb, false≢true, lt-ltb}
-use Rattle.std.proofs.lemmas.Slice.Eq.{bytes_eq-Decides}
-use Rattle.kc_value.specs.Lines.{has_no_byte}
-use Rattle.kc_dotconfig_model.specs.ConfigLines.{is_name_not_set, is_unset_text}
 
 -- a text that doesn't end with ` is not set` is no unset text
 pub no_unset_text : (text whole : List ℕ) → whole ≡ text → ((front : List ℕ) → whole ≢ front ++ codes " is not set") → false ≡ is_unset_text text

@@ -1,27 +1,14 @@
 -- The text after `=` has the meaning that `value_meaning` returns, and no other.
-use Rattle.std.proofs.Common.{◌≡◌, ◌≢◌, ℕ, Bool, true, false, ◌==◌, cond, List, [], ◌∷◌, ◌++◌, Option, Some, None, ℤ, refl, sym, ◌∙◌, ap, subst}
-use Rattle.std.specs.Prelude.{is_some, option_map}
-use Rattle.std.proofs.lemmas.Bool.{false≢true, eqb-true}
-use Rattle.kc_value.specs.declared.tri.Tri.{Tri}
-use Rattle.kc_value.specs.declared.tri.Tri.TheVariants.{N, M, Y}
-use Rattle.kc_value.specs.declared.value.Kind.{Kind}
-use Rattle.kc_value.specs.declared.value.Kind.TheVariants.{Bool as Boolean, Tristate, Text, Int, Hex}
+use Rattle.std.proofs.Common.{ℤ}
+use Rattle.kc_dotconfig_model.proofs.Common.{◌≡◌, ◌≢◌, ℕ, Bool, true, false, ◌==◌, cond, List, [], ◌∷◌, ◌++◌, Option, Some, None, refl, sym, ◌∙◌, ap, subst, is_some, option_map, false≢true, eqb-true, Tri, N, M, Y, Kind, Tristate, Text, Int, Hex, IsBody, none, plain, pair, IsQuoted, Tree, Symbol}
+use Rattle.kc_dotconfig_model.proofs.Common.{unit_of, member_user, Language, is_tri_kind, number_of_text, NotOfType, Strings, Escaped, Raw, between_quotes, IsStringSpelling, LineMeaning, assigns, notice, silent, tri_of_text, unchosen_meaning, ValueMeans, tri, chosen, not_chosen, quoted, number}
+use Rattle.kc_dotconfig_model.proofs.Common.{no_int, no_hex, value_meaning}
+use Rattle.kc_value.specs.declared.value.Kind.TheVariants.{Bool as Boolean}
 use Rattle.kc_value.specs.Number.{int_text, hex_text}
-use Rattle.kc_value.specs.QuotedTexts.{IsBody, none, plain, pair, IsQuoted}
-use Rattle.kc_tree_model.specs.Trees.{Tree, Symbol}
-use Rattle.kc_tree_model.specs.TreeLookup.{unit_of}
 use Rattle.kc_rules_model.specs.declared.values.UserValue.TheVariants.{Text as TextUser}
-use Rattle.kc_rules_model.specs.Rule.{member_user}
-use Rattle.kc_tokens.specs.declared.language.Language.{Language}
 use Rattle.kc_rules_model.specs.Kinds.{is_y}
-use Rattle.kc_value.specs.Kinds.{is_tri_kind}
-use Rattle.kc_value.specs.Number.{number_of_text}
-use Rattle.kc_dotconfig_model.specs.declared.notice.NoticeKind.TheVariants.{NotOfType}
-use Rattle.kc_dotconfig_model.specs.declared.format.Strings.{Strings}
-use Rattle.kc_dotconfig_model.specs.declared.format.Strings.TheVariants.{Escaped, Raw}
-use Rattle.kc_dotconfig_model.specs.Formats.{between_quotes, IsStringSpelling}
-use Rattle.kc_dotconfig_model.specs.ConfigLines.{LineMeaning, assigns, notice, silent, tri_of_text, unchosen_meaning, ValueMeans, tri, chosen, not_chosen, quoted, number, no_int, no_hex, no_tri, no_text, no_number}
-use Rattle.kc_dotconfig_model.specs.between.LineMeanings.{ended, unquoted_rest, unquoted, before_quote, raw_text, string_text, tri_meaning, string_meaning, without_number, number_meaning, meaning_of_kind, value_meaning}
+use Rattle.kc_dotconfig_model.specs.ConfigLines.{no_tri, no_text, no_number}
+use Rattle.kc_dotconfig_model.specs.between.LineMeanings.{ended, unquoted_rest, unquoted, before_quote, raw_text, string_text, tri_meaning, string_meaning, without_number, number_meaning, meaning_of_kind}
 
 -- what is read after an opening quote is a body and a closing quote
 record IsRest (rest means : List ℕ) : Type 0 where
@@ -104,9 +91,8 @@ before_quote_is (c ∷ d ∷ rest) means e =
     ap (λ l. c ∷ l) (before_quote_is (d ∷ rest) o.0 o.1) ∙ ap (λ l. l ++ 34 ∷ []) (sym o.2)
 
 before_its_quote : (means : List ℕ) → before_quote (means ++ 34 ∷ []) ≡ Some means
-before_its_quote [] = refl
-before_its_quote (c ∷ []) = refl
 before_its_quote (c ∷ d ∷ means) = ap (option_map (λ text. c ∷ text)) (before_its_quote (d ∷ means))
+before_its_quote _ = refl
 
 raw_is : (text means : List ℕ) → raw_text text ≡ Some means → text ≡ between_quotes means
 raw_is [] means e = cc
@@ -167,37 +153,29 @@ value_means strings tree s symbol text = means_at_kind strings tree s symbol tex
 is_tri_meant : (kind : Kind) (text : List ℕ) (t : Tri) → tri_of_text kind text ≡ Some t → is_tri_kind kind ≡ true
 is_tri_meant Boolean text t e = refl
 is_tri_meant Tristate text t e = refl
-is_tri_meant Text text t e = cc
-is_tri_meant Int text t e = cc
-is_tri_meant Hex text t e = cc
+is_tri_meant _ text t e = cc
 
 of_tri_kind : (language : Language) (strings : Strings) (kind : Kind) (u s : ℕ) (choice : Option ℕ) (text : List ℕ) → is_tri_kind kind ≡ true
     → meaning_of_kind language strings kind u s choice text ≡ tri_meaning language u s choice (tri_of_text kind text)
 of_tri_kind language strings Boolean u s choice text e = refl
 of_tri_kind language strings Tristate u s choice text e = refl
-of_tri_kind language strings Text u s choice text e = absurd (false≢true e)
-of_tri_kind language strings Int u s choice text e = absurd (false≢true e)
-of_tri_kind language strings Hex u s choice text e = absurd (false≢true e)
+of_tri_kind language strings _ u s choice text e = absurd (false≢true e)
 
 of_number_kind : (language : Language) (strings : Strings) (kind : Kind) (u s : ℕ) (choice : Option ℕ) (text : List ℕ) → is_tri_kind kind ≡ false → kind ≢ Text
     → meaning_of_kind language strings kind u s choice text ≡ number_meaning u kind text
-of_number_kind language strings Boolean u s choice text e other = absurd (false≢true (sym e))
-of_number_kind language strings Tristate u s choice text e other = absurd (false≢true (sym e))
 of_number_kind language strings Text u s choice text e other = absurd (other refl)
 of_number_kind language strings Int u s choice text e other = refl
 of_number_kind language strings Hex u s choice text e other = refl
+of_number_kind language strings _ u s choice text e other = absurd (false≢true (sym e))
 
 number_kind : (kind : Kind) (text : List ℕ) → is_some (number_of_text kind text) ≡ true → (is_tri_kind kind ≡ false) × (kind ≢ Text)
-number_kind Boolean text e = absurd (false≢true e)
-number_kind Tristate text e = absurd (false≢true e)
-number_kind Text text e = absurd (false≢true e)
 number_kind Int text e = (refl, λ same. cc)
 number_kind Hex text e = (refl, λ same. cc)
+number_kind _ text e = absurd (false≢true e)
 
 not_y : (t : Tri) → t ≢ Y → is_y t ≡ false
-not_y N other = refl
-not_y M other = refl
 not_y Y other = absurd (other refl)
+not_y _ other = refl
 
 no_int_number : number_of_text Int [] ≡ None
 unfolding int_text

@@ -4,7 +4,7 @@ use Rattle.std.specs.List.{AllZip, list_all}
 use Rattle.std.specs.Str.{is_utf8}
 use Rattle.kc_value.specs.Lines.{pieces}
 use Rattle.kc_tree_model.specs.Trees.{Tree}
-use Rattle.kc_system.specs.Solutions.{user_of}
+use Rattle.kc_solver.specs.Solutions.{user_of}
 use Rattle.kc_rules_model.specs.declared.values.UserValue.{UserValue}
 use Rattle.kc_rules_model.specs.declared.values.UserValue.TheVariants.{Tri as TriUser, Text as TextUser, Member as MemberUser, Lines as LinesUser}
 use Rattle.kc_rules_model.specs.declared.values.MemberLine.{MemberLine}

@@ -14,7 +14,7 @@ use super::tristate_rules::tri_rule;
 use super::valuation::Valuation;
 use kc_rules_model::{MemberLine, Profile, UnitValue, UserValue};
 use kc_tree::{Choice, Sym, Symbol, Unit};
-use kc_value::{Kind, Tri};
+use kc_value::{Kind, Text, Tri};
 use std::alloc::{AllocError, Global};
 
 /// The tristate that a user value is, if it is one.
@@ -70,7 +70,10 @@ fn symbol_rule(
     match symbol.kind {
         Kind::Bool => Ok(UnitValue::Tri(tri_rule(under, profile, symbol, assigned_tri(user)))),
         Kind::Tristate => Ok(UnitValue::Tri(tri_rule(under, profile, symbol, assigned_tri(user)))),
-        Kind::Text => Ok(UnitValue::Text(string_rule(alloc, under, symbol, assigned_text(user))?)),
+        Kind::Text => {
+            let text = string_rule(under, symbol, assigned_text(user));
+            Ok(UnitValue::Text(Text::copied(alloc, text)?))
+        }
         Kind::Int => Ok(UnitValue::Text(number_rule(alloc, under, symbol, assigned_text(user))?)),
         Kind::Hex => Ok(UnitValue::Text(number_rule(alloc, under, symbol, assigned_text(user))?)),
     }

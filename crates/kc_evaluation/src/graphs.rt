@@ -4,7 +4,7 @@ ghost use Rattle.kc_rules_model.specs.Dependencies.{dependencies};
 ghost use Rattle.kc_rules_model.specs.checker.GraphLaw.{rules_graph};
 
 use super::rules::Rules;
-use kc_system::Graph;
+use kc_solver::Graph;
 
 impl Graph for Rules {
     ghost size = { λ r. length r.tree.tree.units };

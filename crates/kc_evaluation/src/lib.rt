@@ -16,7 +16,7 @@ pub use evaluation::{assigned_lines, assigned_member, assigned_text, assigned_tr
 pub use kc_dependencies::{Links, links_of, modules_of};
 pub use member_lines::{first_listed, first_unlisted, is_listed, last_y, selected_by_lines};
 pub use rules::Rules;
-pub use symbol_values::{has_no_member, is_below, is_n};
+pub use symbol_values::{has_no_member, is_below, is_n, letter_of};
 pub use text_rules::{
     active_default, active_range, bound, default_text, is_upside_down, is_within, number_of,
 };

@@ -4,7 +4,7 @@ ghost use Rattle.std.specs.List.{list_any};
 ghost use Rattle.std.specs.List.Sorted.{IsNonDecreasing};
 ghost use Rattle.kc_tree.specs.between.Views.{choice_view, ChoiceFits};
 ghost use Rattle.kc_dependencies.specs.checker.StoredRules.{AreMembers};
-ghost use Rattle.kc_rules_model.specs.MemberLines.{is_listed, last_y, first_listed, selected_without_y, selected_by_lines};
+ghost use Rattle.kc_rules_model.specs.MemberLines.{is_listed, last_y, first_listed, selected_by_lines};
 ghost use Rattle.kc_rules_model.specs.Rule.{is_visible_member, default_member};
 ghost use Rattle.kc_evaluation.specs.checker.Choices.{is_free};
 ghost use Rattle.kc_evaluation.specs.checker.ValuationView.{valuation_tree, valuation_exprs, valuation_values};
@@ -120,17 +120,21 @@ pub fn first_unlisted(
     Ok(first_without_number(under, members, numbers.as_slice()))
 }
 
-/// The selection where no visible member has `y`: the default member, unless it is listed; then the first visible member that
-/// isn't listed; where all visible ones are listed, the first of them in the list.
-fn selected_without_y(
+/// The selection of a choice by the rules of Linux 6.12, from what lines give to its members: of the visible ones with `y` the last
+/// in the list, if there is one; else the default member, unless it is listed; then the first visible member that isn't listed;
+/// where all visible ones are listed, the first of them in the list. An `Err` means out of memory.
+pub fn selected_by_lines(
     alloc: Global,
     under: &Valuation<'_>,
     choice: &Choice<'_>,
     lines: &[MemberLine],
 ) -> Result<Option<Sym>, AllocError>
     requires fits { ChoiceFits (valuation_exprs under.now) (length (valuation_tree under.now).symbols) choice.now }
-    ensures ok { let tree = valuation_tree under.now in let values = valuation_values under.now in IfOk result (λ m. m ≡ selected_without_y (is_visible_member tree values) choice.now.members.now (default_member tree (choice_view (valuation_exprs under.now) choice.now) values) lines.now) }
+    ensures ok { let tree = valuation_tree under.now in let values = valuation_values under.now in IfOk result (λ m. m ≡ selected_by_lines (is_visible_member tree values) choice.now.members.now (default_member tree (choice_view (valuation_exprs under.now) choice.now) values) lines.now) }
 {
+    if let Some(s) = last_y(under, lines) {
+        return Ok(Some(s));
+    }
     match default_member(under, choice) {
         None => Ok(None),
         Some(default) => {
@@ -142,22 +146,5 @@ fn selected_without_y(
                 None => Ok(first_listed(under, lines)),
             }
         }
-    }
-}
-
-/// The selection of a choice by the rules of Linux 6.12, from what lines give to its members: of the visible ones with `y` the last
-/// in the list, if there is one. An `Err` means out of memory.
-pub fn selected_by_lines(
-    alloc: Global,
-    under: &Valuation<'_>,
-    choice: &Choice<'_>,
-    lines: &[MemberLine],
-) -> Result<Option<Sym>, AllocError>
-    requires fits { ChoiceFits (valuation_exprs under.now) (length (valuation_tree under.now).symbols) choice.now }
-    ensures ok { let tree = valuation_tree under.now in let values = valuation_values under.now in IfOk result (λ m. m ≡ selected_by_lines (is_visible_member tree values) choice.now.members.now (default_member tree (choice_view (valuation_exprs under.now) choice.now) values) lines.now) }
-{
-    match last_y(under, lines) {
-        Some(s) => Ok(Some(s)),
-        None => selected_without_y(alloc, under, choice, lines),
     }
 }

@@ -18,7 +18,7 @@ use kc_tree::Sym;
 use kc_value::{Kind, Tri};
 
 /// The letter of a tristate: `n`, `m` or `y`.
-pub(crate) fn letter_of(value: Tri) -> &'static str
+pub fn letter_of(value: Tri) -> &'static str
     ensures { result.now ≡ letter value }
 {
     match value {

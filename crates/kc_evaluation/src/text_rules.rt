@@ -43,25 +43,18 @@ pub fn default_text<'a>(under: &'a Valuation<'a>, symbol: &Symbol<'_>) -> &'a st
 }
 
 /// The value of a symbol of type string: the user's text if the symbol is visible, otherwise the text of its first default whose
-/// condition isn't `n`, empty without one. An `Err` means out of memory.
-pub(crate) fn string_rule(
-    alloc: Global,
-    under: &Valuation<'_>,
+/// condition isn't `n`, empty without one.
+pub(crate) fn string_rule<'a>(
+    under: &'a Valuation<'a>,
     symbol: &Symbol<'_>,
-    user: Option<&str>,
-) -> Result<Text, AllocError>
+    user: Option<&'a str>,
+) -> &'a str
     requires fits { SymbolFits (valuation_exprs under.now) (length (valuation_tree under.now).symbols) symbol.now }
-    ensures ok { IfOk result (λ text. text ≡ string_rule_of (valuation_tree under.now) (valuation_values under.now) (symbol_view (valuation_exprs under.now) symbol.now) (option_copied user.entry)) }
+    ensures value { result.now ≡ string_rule_of (valuation_tree under.now) (valuation_values under.now) (symbol_view (valuation_exprs under.now) symbol.now) (option_copied user.entry) }
 {
     match user {
-        Some(text) => {
-            if is_visible(under, symbol) {
-                Text::copied(alloc, text)
-            } else {
-                Text::copied(alloc, default_text(under, symbol))
-            }
-        }
-        None => Text::copied(alloc, default_text(under, symbol)),
+        Some(text) if is_visible(under, symbol) => text,
+        _ => default_text(under, symbol),
     }
 }
 

@@ -1,53 +1,43 @@
 -- Trees that the reader accepts are given back by the expansion: both read the same files in the same order.
-use Rattle.std.proofs.Common.{◌≡◌, ℕ, zero, suc, ◌+◌, Bool, true, false, ◌&&◌, ◌||◌, cond, List, [], ◌∷◌, ◌++◌, length, take, drop, map, reverse, Option, Some, None, Result, Ok, Err, refl, sym, ap, ◌∙◌, subst, arith}
-use Rattle.std.specs.Prelude.{not, nat_lt, nat_le, bytes_eq, codes, decimal, filter_map, is_some, is_none, sum_by}
+use Rattle.kc_expansion.proofs.Common.{◌≡◌, ℕ, zero, suc, ◌+◌, Bool, true, false, ◌&&◌, ◌||◌, cond, List, [], ◌∷◌, ◌++◌, length, take, drop, map, reverse, Option, Some, None, Result, Ok, Err, refl, sym, ap, ◌∙◌, subst, arith, nat_lt, nat_le, bytes_eq, codes, filter_map, is_some, is_none, sum_by}
+use Rattle.kc_expansion.proofs.Common.{list_any, cons_option, is_utf8, nat_list_eq_equiv, MAX_FILES, MAX_TREE_BYTES, MAX_OPEN_FILES, MAX_TEXT_BYTES, MAX_WORK, MAX_LINE_BYTES, TreeKind, SourceLoop, TooDeep, TooMany, TreeFault, Block, file_at, index_of_file, PhysicalLine, LogicalLine}
+use Rattle.kc_expansion.proofs.Common.{split_at_newlines, without_return, is_continued, joined_bytes, continuation_count, begins_help, source, Statement, head, attribute, path_of_head, Group, Position, file_end, innermost, sourced_path, is_in_list, without_repeats, FileSource, size_in, open_files}
+use Rattle.kc_expansion.proofs.Common.{files_read, with_group, with_statement, path_to_read, at_file_end, continue_after_file, continue_after_source, continue_after_statement, continue_after_line, read_lines, read_root, environment_asked, meant_line, MacroKind, Place, read_file, Program, returns}
+use Rattle.kc_expansion.proofs.Common.{fails, stops, does, ◌>>=◌, line_tokens, WrittenToken, written_as, line_content, sources, line_bytes, is_help_line, tokens_as_they_are, ExpandedFile, ReadingState, initial_state, Progress, progress, WrittenLine, written_line, counted, has_key, key_of}
+use Rattle.kc_expansion.proofs.Common.{stored_file, place, one_file, SourceReader, source_line, pattern_read, path_read, source_followed, short_line, content_written, line_written, bytes_of_lines, lines_written, help_after, lines_read, contents_read, sourced_read, source_read, root_read, World}
+use Rattle.kc_expansion.proofs.Common.{returned, Outcome, outcome, questions_or_fault, without_answer, same_text, split_bytes, text_of_key, IsFileOf, neither_first}
+use Rattle.std.specs.Prelude.{not, decimal}
 use Rattle.std.specs.Option.{option_or}
-use Rattle.std.specs.List.{All, list_any, cons_option}
-use Rattle.std.specs.Str.{is_utf8}
+use Rattle.std.specs.List.{All}
 use Rattle.std.proofs.lemmas.Bool.{leb-false}
-use Rattle.std.proofs.lemmas.Cmp.{nat_list_eq_equiv}
 use Rattle.std.proofs.lemmas.List.{drop-map}
 use Rattle.std.proofs.lemmas.List.Elements.{All-cons, All-nil}
 use Rattle.std.proofs.lemmas.List.Folds.{list_any-append}
 use Rattle.std.proofs.lemmas.List.Sums.{sum_by-cons}
-use Rattle.kc_value.specs.declared.limits.TheConstants.{MAX_FILES, MAX_TREE_BYTES, MAX_OPEN_FILES, MAX_TEXT_BYTES, MAX_WORK, MAX_LINE_BYTES}
-use Rattle.kc_tree_model.specs.declared.fault.TreeKind.{TreeKind}
-use Rattle.kc_tree_model.specs.declared.fault.TreeKind.TheVariants.{SourceLoop, MissingFile, TooDeep, TooMany}
-use Rattle.kc_tree_model.specs.declared.fault.TreeFault.{TreeFault}
-use Rattle.kc_tree_model.specs.declared.keyword.Block.{Block}
-use Rattle.kc_tree_model.specs.TreeFiles.{Files, file_at, index_of_file}
-use Rattle.kc_tree_model.specs.LogicalLines.{PhysicalLine, LogicalLine, split_at_newlines, without_return, is_continued, joined_bytes, continuation_count, help_line_count, begins_help, logical_lines_from, lines_of}
-use Rattle.kc_tree_model.specs.Statements.{config, choice, menu, condition, comment, source, mainmenu, ends, Statement, head, attribute, block_of_head, path_of_head}
-use Rattle.kc_tree_model.specs.Blocks.{Group, GroupHead, Position, of_head, file_end, from_head, open_blocks, innermost, sourced_path}
-use Rattle.kc_tree_model.specs.Limits.{is_in_list, without_repeats, FileSource, size_in, open_files, files_read, source_fault as reader_fault}
-use Rattle.kc_tree_model.specs.TreeReading.{Outcome as Reading, statement_on_line, with_group, with_statement, path_to_read, at_file_end, continue_after_file, continue_after_source, continue_after_statement, continue_after_line, read_lines, read_file as read_whole_file, read_root, reading}
+use Rattle.kc_tree_model.specs.declared.fault.TreeKind.TheVariants.{MissingFile}
+use Rattle.kc_tree_model.specs.TreeFiles.{Files}
+use Rattle.kc_tree_model.specs.LogicalLines.{help_line_count, logical_lines_from, lines_of}
+use Rattle.kc_tree_model.specs.Statements.{block_of_head}
+use Rattle.kc_tree_model.specs.Blocks.{GroupHead, of_head, from_head, open_blocks}
+use Rattle.kc_tree_model.specs.Limits.{source_fault as reader_fault}
+use Rattle.kc_tree_model.specs.TreeReading.{Outcome as Reading, statement_on_line, read_file as read_whole_file, reading}
 use Rattle.kc_tree_model.specs.TreeFaults.{first_tree_fault}
 use Rattle.kc_tree_model.specs.MoreFiles.{AreAmong}
 use Rattle.kc_tree_model.proofs.NestedTrees.OpenTrees.{EndsMatch, ends_first}
 use Rattle.kc_tree_model.proofs.NestedTrees.LineFits.{Fits, line_fits}
 use Rattle.kc_tree_model.proofs.NestedTrees.OpenBlocks.{popped}
 use Rattle.kc_tree_model.proofs.NestedTrees.ReadingNests.{AllBlocks, Since, Closes, Reads, after_given, file_closes}
-use Rattle.kc_macros_model.specs.EnvironmentLines.{environment_asked, meant_line}
 use Rattle.kc_macros_model.proofs.EnvironmentLines.{meant_same}
-use Rattle.kc_macros_model.specs.declared.fault.MacroKind.{MacroKind}
 use Rattle.kc_macros_model.specs.declared.fault.MacroKind.TheVariants as kinds
-use Rattle.kc_macros_model.specs.Programs.{Place, spend, report, ask, read_file, find_file, list_folder, Program, returns, fails, stops, does, ◌>>=◌}
 use Rattle.kc_macros_model.specs.Expansion.{fault}
-use Rattle.kc_macros_model.specs.LineTokens.{line_tokens}
 use Rattle.kc_macros_model.specs.declared.token_sort.TokenSort.TheVariants.{Word}
-use Rattle.kc_macros_model.specs.WrittenTokens.{WrittenToken, written_as}
-use Rattle.kc_macros_model.specs.Assignments.{line_content}
-use Rattle.kc_macros_model.specs.LineForms.{sources, with_nth_token, line_bytes, quoted_text_token, is_help_line}
+use Rattle.kc_macros_model.specs.LineForms.{with_nth_token, quoted_text_token}
 use Rattle.kc_macros_model.specs.PathPatterns.{files_of_pattern}
-use Rattle.kc_macros_model.specs.PlainLines.{tokens_as_they_are}
-use Rattle.kc_macros_model.specs.ReadingStates.{ExpandedFile, ReadingState, initial_state, Progress, progress, WrittenLine, written_line, counted, has_key, is_taken, free_key, key_of, stored_file}
-use Rattle.kc_macros_model.specs.TreeExpansion.{place, one_file, SourceReader, source_line, pattern_read, path_read, source_followed, short_line, content_written, line_written, bytes_of_lines, lines_written, help_after, lines_read, source_fault, contents_read, sourced_read, source_read, root_read, tree_read}
-use Rattle.kc_macros_model.specs.Worlds.{World, returned, Outcome, outcome, expansion, questions_or_fault, without_answer, wanted}
-use Rattle.kc_macros_model.proofs.Keys.{same_text}
-use Rattle.kc_macros_model.proofs.LineCounts.{split_bytes}
+use Rattle.kc_macros_model.specs.ReadingStates.{is_taken, free_key}
+use Rattle.kc_macros_model.specs.TreeExpansion.{source_fault, tree_read}
+use Rattle.kc_macros_model.specs.Worlds.{expansion, wanted}
 use Rattle.kc_macros_model.proofs.PlainLines.{own_tokens, own_bytes, line_by_form, short_stays, plain_line_stays, whole_lines, one_source, BeginsWithSource, source_word_stays, IsSource, source_of_path}
-use Rattle.kc_expansion.specs.TreeLaws.{text_of_key, IsFileOf, AcceptedTreesStay, AcceptedTreesWantNothing}
-use Rattle.kc_macros_model.proofs.CleanTexts.{neither_first}
+use Rattle.kc_expansion.specs.TreeLaws.{AcceptedTreesStay, AcceptedTreesWantNothing}
 use Rattle.kc_expansion.proofs.AcceptedLines.{turned, IsAcceptedLine, IsPlainPath, accepted_line}
 
 -- a program that reads files alone and returns a value with a fact
@@ -56,11 +46,7 @@ Gives w P (returns x) = P x
 Gives w P (fails f) = ⊥
 Gives w P stops = ⊥
 Gives w P (does (read_file path) k) = Gives w P (k (w.bytes path))
-Gives w P (does (spend at work) k) = ⊥
-Gives w P (does (report notice) k) = ⊥
-Gives w P (does (ask at question) k) = ⊥
-Gives w P (does (find_file path) k) = ⊥
-Gives w P (does (list_folder folder) k) = ⊥
+Gives w P (does x k) = ⊥
 
 gives_both : {A B : Type 0} (w : World) (Q : A → Type 0) (P : B → Type 0) (p : Program A) (f : A → Program B) → Gives w Q p → ((x : A) → Q x → Gives w P (f x))
     → Gives w P (p >>= f)
@@ -68,22 +54,14 @@ gives_both w Q P (returns x) f h k = k x h
 gives_both w Q P (fails g) f h k = h
 gives_both w Q P stops f h k = h
 gives_both w Q P (does (read_file path) n) f h k = gives_both w Q P (n (w.bytes path)) f h k
-gives_both w Q P (does (spend at work) n) f h k = absurd h
-gives_both w Q P (does (report notice) n) f h k = absurd h
-gives_both w Q P (does (ask at question) n) f h k = absurd h
-gives_both w Q P (does (find_file path) n) f h k = absurd h
-gives_both w Q P (does (list_folder folder) n) f h k = absurd h
+gives_both w Q P (does x n) f h k = absurd h
 
 gives_more : {A : Type 0} (w : World) (Q P : A → Type 0) (p : Program A) → Gives w Q p → ((x : A) → Q x → P x) → Gives w P p
 gives_more w Q P (returns x) h k = k x h
 gives_more w Q P (fails g) h k = h
 gives_more w Q P stops h k = h
 gives_more w Q P (does (read_file path) n) h k = gives_more w Q P (n (w.bytes path)) h k
-gives_more w Q P (does (spend at work) n) h k = absurd h
-gives_more w Q P (does (report notice) n) h k = absurd h
-gives_more w Q P (does (ask at question) n) h k = absurd h
-gives_more w Q P (does (find_file path) n) h k = absurd h
-gives_more w Q P (does (list_folder folder) n) h k = absurd h
+gives_more w Q P (does x n) h k = absurd h
 
 -- what such a program comes to
 record IsQuiet {A : Type 0} (P : A → Type 0) (left : ℕ) (o : Outcome A) : Type 0 where
@@ -117,11 +95,7 @@ module _ {A : Type 0} (w : World) (P : A → Type 0) where
         ending = q.ending;
         holds = q.holds;
       }
-  quiet_outcome all left (does (spend at work) k) h = absurd h
-  quiet_outcome all left (does (report notice) k) h = absurd h
-  quiet_outcome all left (does (ask at question) k) h = absurd h
-  quiet_outcome all left (does (find_file path) k) h = absurd h
-  quiet_outcome all left (does (list_folder folder) k) h = absurd h
+  quiet_outcome all left (does x k) h = absurd h
 
 -- tests
 swap : (a p o : Bool) → (a || (p || o)) ≡ (p || (a || o))
@@ -142,15 +116,8 @@ not_false false h = let z : ⊥ = cc in absurd z
 
 -- blocks of a file are no files
 no_file : (g : GroupHead) (b : Block) → from_head block_of_head g ≡ Some b → from_head path_of_head g ≡ None
-no_file (of_head (config name)) b e = refl
-no_file (of_head choice) b e = refl
-no_file (of_head (menu title)) b e = refl
-no_file (of_head (condition c)) b e = refl
-no_file (of_head (comment title)) b e = refl
 no_file (of_head (source path)) b e = let z : ⊥ = cc in absurd z
-no_file (of_head mainmenu) b e = refl
-no_file (of_head (ends c)) b e = refl
-no_file file_end b e = refl
+no_file g b e = refl
 
 no_files : (gs hs : List Group) → AllBlocks gs → filter_map sourced_path (gs ++ hs) ≡ filter_map sourced_path hs
 no_files [] hs own = refl
@@ -162,16 +129,8 @@ same_open r start read s = ap (λ gs. r.root ∷ filter_map sourced_path gs) s.o
 
 -- a statement that sources a path
 source_statement : (o : Option Statement) (path : List ℕ) → path_to_read o ≡ Some path → o ≡ Some (head (source path))
-source_statement None path e = let z : ⊥ = cc in absurd z
-source_statement (Some (attribute a)) path e = let z : ⊥ = cc in absurd z
-source_statement (Some (head (config name))) path e = let z : ⊥ = cc in absurd z
-source_statement (Some (head choice)) path e = let z : ⊥ = cc in absurd z
-source_statement (Some (head (menu title))) path e = let z : ⊥ = cc in absurd z
-source_statement (Some (head (condition c))) path e = let z : ⊥ = cc in absurd z
-source_statement (Some (head (comment title))) path e = let z : ⊥ = cc in absurd z
 source_statement (Some (head (source p))) path e = let h : p ≡ path = cc in ap (λ x. Some (head (source x))) h
-source_statement (Some (head mainmenu)) path e = let z : ⊥ = cc in absurd z
-source_statement (Some (head (ends b))) path e = let z : ⊥ = cc in absurd z
+source_statement x path e = let z : ⊥ = cc in absurd z
 
 -- one that sources none leaves the files that were read
 same_files : (at : Position) (o : Option Statement) (read : List Group) → path_to_read o ≡ None → filter_map sourced_path (with_statement at o read)
@@ -605,11 +564,8 @@ module _ (w : World) (r : FileSource) (among : AreAmong r.bytes w.bytes) where
     where
       no_test : (a b c d : Bool) (x y z : MacroKind) → a ≡ false → b ≡ false → c ≡ false → d ≡ false
           → cond a (Some x) (cond b (Some y) (cond (c || d) (Some z) None)) ≡ None
-      no_test true b c d x y z ha hb hc hd = let n : ⊥ = cc in absurd n
-      no_test false true c d x y z ha hb hc hd = let n : ⊥ = cc in absurd n
-      no_test false false true d x y z ha hb hc hd = let n : ⊥ = cc in absurd n
-      no_test false false false true x y z ha hb hc hd = let n : ⊥ = cc in absurd n
       no_test false false false false x y z ha hb hc hd = refl
+      no_test a b c d x y z ha hb hc hd = let n : ⊥ = cc in absurd n
 
   -- the state where a source begins
   source_begins : (start read : List Group) (opened : List (List ℕ)) (position : Position) (path : List ℕ) (s : ReadingState) (room : HasRoom r read path)

@@ -1,10 +1,7 @@
 -- Runs of two programs one after another, in one world.
-use Rattle.std.proofs.Common.{◌≡◌, ℕ, List, [], ◌∷◌, ◌++◌, refl, sym, ap, ◌∙◌, subst, append_assoc}
-use Rattle.kc_macros_model.specs.Programs.{Fault, Program, ◌>>=◌}
-use Rattle.kc_macros_model.specs.Worlds.{World, Ending, returned, failed, stopped, Outcome, outcome}
+use Rattle.kc_expansion.proofs.Common.{◌≡◌, ℕ, List, [], ◌∷◌, ◌++◌, refl, sym, ap, ◌∙◌, subst, append_assoc, Fault, Program, ◌>>=◌, World, Ending, returned, failed, stopped, Outcome, outcome, RunState, with_questions, after_outcome, RunsIn}
 use Rattle.kc_macros_model.proofs.Outcomes.{continued_by, composed}
-use Rattle.kc_answers.specs.RunStates.{RunState, with_question, with_questions, after_outcome}
-use Rattle.kc_macros.proofs.RunLemmas.{RunsIn}
+use Rattle.kc_answers.specs.RunStates.{with_question}
 
 with_questions_append : (seen xs ys : List (List ℕ)) → with_questions seen (xs ++ ys) ≡ with_questions (with_questions seen xs) ys
 with_questions_append seen [] ys = refl

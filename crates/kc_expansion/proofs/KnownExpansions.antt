@@ -1,13 +1,7 @@
 -- Expansions of known trees.
-use Rattle.std.proofs.Common.{◌≡◌, ℕ, Bool, false, ◌||◌, List, Option, Some, None, refl, sym, ap, ◌∙◌, ◌⊎◌, inl, inr}
-use Rattle.std.specs.Prelude.{is_some}
-use Rattle.kc_macros_model.specs.ReadingStates.{ExpandedFile}
-use Rattle.kc_macros_model.specs.Worlds.{World, Outcome, expansion}
+use Rattle.kc_expansion.proofs.Common.{◌≡◌, ℕ, Bool, false, ◌||◌, List, Option, Some, None, refl, ap, ◌∙◌, ◌⊎◌, inl, inr, is_some, ExpandedFile, World, Outcome, RecordedAnswers, HasAnswers, FileContent, FolderContent, TreeContents, IsContentRead, IsFolderRead, IsWorldOf}
 use Rattle.kc_macros_model.specs.ProgramLaws.{IsReadInPart}
-use Rattle.kc_macros_model.specs.AnswerFiles.{RecordedAnswers}
 use Rattle.kc_macros_model.proofs.FailedReads.{failed_reads}
-use Rattle.kc_macros.specs.Runs.{HasAnswers}
-use Rattle.kc_files.specs.TreeContents.{FileContent, FolderContent, TreeContents, IsContentRead, IsFolderRead, IsWorldOf}
 use Rattle.kc_expansion.specs.Expansions.{known_bytes, known_world, KnownFilesDetermineTheExpansion}
 
 file_there : (content : FileContent) (bytes : Option (List ℕ)) (unreadable : Bool) → (content ≡ None → ⊥) → IsContentRead content bytes unreadable

@@ -1,3 +1,4 @@
+pub mod Common
 pub mod WrittenFileLemmas
 pub mod SourceFaultLemmas
 pub mod FileProgramLemmas

@@ -1,17 +1,13 @@
 -- The lines of a file by their places, and what is written for them.
-use Rattle.std.proofs.Common.{◌≡◌, ℕ, zero, suc, ◌+◌, ◌<◌, ◌≤◌, Bool, true, false, cond, List, [], ◌∷◌, ◌++◌, length, take, drop, map, refl, sym, ap, ◌∙◌, append_assoc, arith, length-drop}
-use Rattle.std.specs.Prelude.{◌-◌, ◌==◌, replicate, slice_range, bytes_eq}
+use Rattle.std.proofs.Common.{length-drop}
+use Rattle.kc_expansion.proofs.Common.{◌≡◌, ℕ, zero, suc, ◌+◌, ◌<◌, ◌≤◌, Bool, true, false, cond, List, [], ◌∷◌, ◌++◌, length, take, drop, map, refl, sym, ap, ◌∙◌, append_assoc, arith, ◌-◌, ◌==◌, replicate, slice_range, bytes_eq, PhysicalLine, split_at_newlines, without_return, is_continued}
+use Rattle.kc_expansion.proofs.Common.{joined_bytes, continuation_count, Program, returns, ◌>>=◌, ReadingState, Progress, progress, WrittenLine, SourceReader, place, line_written, bytes_of_lines, lines_written, help_after, lines_read, split_bytes, is_first_continued, text_up_to, WrittenFile}
+use Rattle.kc_expansion.proofs.Common.{same_rest}
 use Rattle.std.proofs.lemmas.List.{append_cancel_right, take-append-drop}
-use Rattle.kc_tree_model.specs.LogicalLines.{PhysicalLine, split_at_newlines, with_first_byte, without_return, is_continued, joined_bytes, continuation_count}
-use Rattle.kc_macros_model.specs.Programs.{Program, returns, ◌>>=◌}
-use Rattle.kc_macros_model.specs.ReadingStates.{ReadingState, Progress, progress, WrittenLine}
-use Rattle.kc_macros_model.specs.TreeExpansion.{SourceReader, place, line_written, bytes_of_lines, newlines_of, lines_written, help_after, lines_read}
+use Rattle.kc_tree_model.specs.LogicalLines.{with_first_byte}
+use Rattle.kc_macros_model.specs.TreeExpansion.{newlines_of}
 use Rattle.kc_value.specs.Lines.{newline_count}
-use Rattle.kc_macros_model.proofs.LineCounts.{count_both, count_clean, AreCleanLines, no_lines, next_line, split_clean, split_bytes, lines_both, taken_clean, drop_twice}
-use Rattle.kc_expansion.specs.checker.LineViews.{is_first_continued}
-use Rattle.kc_expansion.specs.checker.WrittenViews.{text_up_to}
-use Rattle.kc_expansion.specs.declared.written_file.WrittenFile.{WrittenFile}
-use Rattle.kc_files.proofs.ProgramLemmas.{same_rest}
+use Rattle.kc_macros_model.proofs.LineCounts.{count_both, count_clean, AreCleanLines, no_lines, next_line, split_clean, lines_both, taken_clean, drop_twice}
 
 -- the bytes between two places, followed by those from the second place on, are the bytes from the first place on
 pub range_before_rest : (bytes : List ℕ) (at next : ℕ) → at ≤ next → slice_range bytes at next ++ drop next bytes ≡ drop at bytes

@@ -1,27 +1,22 @@
 -- The tokens that the reader has of a line, and those that the expansion has of it.
-use Rattle.std.proofs.Common.{◌≡◌, ℕ, suc, ◌+◌, ◌-◌, ◌<◌, Bool, true, false, ◌&&◌, ◌||◌, cond, List, [], ◌∷◌, ◌++◌, length, take, get_or, refl, sym, ap, ◌∙◌, subst, append_assoc, arith, length-append}
-use Rattle.std.specs.Prelude.{◌==◌, pred, not, nat_lt, nat_le}
-use Rattle.std.specs.List.{list_all, list_any}
-use Rattle.std.specs.Cmp.{first_so, second_so}
-use Rattle.std.proofs.Math.Seq.{take-append_seam, get_or-append_seam}
-use Rattle.std.proofs.lemmas.Bool.{eqb-true, lt-ltb, le-leb}
-use Rattle.std.proofs.lemmas.List.{append-nil}
+use Rattle.std.proofs.Common.{◌-◌, length-append}
+use Rattle.std.specs.Prelude.{pred, not}
+use Rattle.kc_expansion.proofs.Common.{◌≡◌, ℕ, suc, ◌+◌, ◌<◌, Bool, true, false, ◌&&◌, ◌||◌, cond, List, [], ◌∷◌, ◌++◌, length, take, get_or, refl, sym, ap, ◌∙◌, subst, append_assoc, arith, ◌==◌, nat_lt, nat_le, list_all, list_any, first_so, second_so, take-append_seam, eqb-true, append-nil}
+use Rattle.kc_expansion.proofs.Common.{Language, Strict, Equal, TokenKind, Word, Quoted, Relation, quoted_text, is_operand_kind, Lexeme, is_white_byte, is_word_byte, IsToken, IsLongest, IsCut, comment, white, token, LineToken, line_tokens, neither_first, neither_second, plain_items}
+use Rattle.std.proofs.Math.Seq.{get_or-append_seam}
+use Rattle.std.proofs.lemmas.Bool.{lt-ltb, le-leb}
 use Rattle.kc_value.specs.QuotedTexts.{IsBody, none, plain, pair, unescaped}
 use Rattle.kc_value.proofs.QuotedLaws.{body_means}
-use Rattle.kc_tokens.specs.declared.language.Language.{Language}
-use Rattle.kc_tokens.specs.declared.language.Language.TheVariants.{Strict, Linux}
-use Rattle.kc_tokens.specs.declared.token.Relop.TheVariants.{Equal, NotEqual, Less, Greater, LessEqual, GreaterEqual}
-use Rattle.kc_tokens.specs.declared.token.TokenKind.{TokenKind}
-use Rattle.kc_tokens.specs.declared.token.TokenKind.TheVariants.{Word, Quoted, Relation, Not, And, Or, Open, Close}
-use Rattle.kc_tokens.specs.QuotedTexts.{between_quotes, quoted_text}
-use Rattle.kc_expr.specs.Grammar.{is_operand_kind}
-use Rattle.kc_tokens.specs.Token.{is_quote, Lexeme, is_white_byte, is_word_byte}
-use Rattle.kc_tokens.specs.TokenGrammar.{HasDollarsInPairs, other as unpaired, paired, HasDollarsOf, IsToken, IsLongest, IsCut, ends, comment, white, token}
+use Rattle.kc_tokens.specs.declared.language.Language.TheVariants.{Linux}
+use Rattle.kc_tokens.specs.declared.token.Relop.TheVariants.{NotEqual, Less, Greater, LessEqual, GreaterEqual}
+use Rattle.kc_tokens.specs.declared.token.TokenKind.TheVariants.{Not, And, Or, Open, Close}
+use Rattle.kc_tokens.specs.QuotedTexts.{between_quotes}
+use Rattle.kc_tokens.specs.Token.{is_quote}
+use Rattle.kc_tokens.specs.TokenGrammar.{HasDollarsInPairs, other as unpaired, paired, HasDollarsOf, ends}
 use Rattle.kc_macros_model.specs.References.{item_bytes, first_item, items, is_unterminated}
-use Rattle.kc_macros_model.specs.LineTokens.{LineToken, gap, run, quoted, other, broken, token_bytes, extent, is_run_byte, run_token, quoted_token, first_token, line_tokens}
+use Rattle.kc_macros_model.specs.LineTokens.{gap, run, quoted, other, broken, token_bytes, extent, is_run_byte, run_token, quoted_token, first_token}
 use Rattle.kc_macros_model.specs.PlainLines.{is_kept_item, has_dollar, text_of_items}
-use Rattle.kc_macros_model.proofs.CleanTexts.{neither_first, neither_second}
-use Rattle.kc_macros_model.proofs.PlainTokens.{plain_items, no_unterminated, all_kept}
+use Rattle.kc_macros_model.proofs.PlainTokens.{no_unterminated, all_kept}
 use Rattle.kc_macros_model.proofs.QuotedBodies.{IsQuotedBody, body_none, body_byte, body_pair, byte_first, body_items, body_extent}
 use Rattle.kc_macros_model.proofs.TokenCuts.{ends_run, begins_with_run, AreWordBytes, no_word_bytes, next_word_byte, IsQuote, double_quote, single_quote}
 use Rattle.kc_macros_model.proofs.TokensOfLines.{tokens_passed}
@@ -225,16 +220,7 @@ no_dollar_token language Word [] rest is = absurd (omega (arith, is.0))
 no_dollar_token language Word (c ∷ s) rest is = other_byte c 36 is_word_byte (first_so (is_word_byte c) (list_all is_word_byte s) is.1) refl
 no_dollar_token language Quoted text rest is = dollar_by (ap (λ x. x ++ rest) is.parts) (other_byte is.quote 36 is_quote is.sort refl)
 no_dollar_token language (Relation Equal) text rest is = dollar_by (ap (λ x. x ++ rest) is) refl
-no_dollar_token language (Relation NotEqual) text rest is = dollar_by (ap (λ x. x ++ rest) is) refl
-no_dollar_token language (Relation Less) text rest is = dollar_by (ap (λ x. x ++ rest) is) refl
-no_dollar_token language (Relation Greater) text rest is = dollar_by (ap (λ x. x ++ rest) is) refl
-no_dollar_token language (Relation LessEqual) text rest is = dollar_by (ap (λ x. x ++ rest) is) refl
-no_dollar_token language (Relation GreaterEqual) text rest is = dollar_by (ap (λ x. x ++ rest) is) refl
-no_dollar_token language Not text rest is = dollar_by (ap (λ x. x ++ rest) is) refl
-no_dollar_token language And text rest is = dollar_by (ap (λ x. x ++ rest) is) refl
-no_dollar_token language Or text rest is = dollar_by (ap (λ x. x ++ rest) is) refl
-no_dollar_token language Open text rest is = dollar_by (ap (λ x. x ++ rest) is) refl
-no_dollar_token language Close text rest is = dollar_by (ap (λ x. x ++ rest) is) refl
+no_dollar_token language y text rest is = dollar_by (ap (λ x. x ++ rest) is) refl
 
 no_dollar_front : (language : Language) (at : ℕ) (s : List ℕ) (ps : List Lexeme) → IsCut language at s ps → begins_with_dollar s ≡ false
 no_dollar_front language at s ps ends = refl

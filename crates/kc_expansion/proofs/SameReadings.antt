@@ -1,22 +1,14 @@
 -- Files that agree on all paths that a reading meets are read alike.
-use Rattle.std.proofs.Common.{◌≡◌, ℕ, zero, suc, ◌+◌, Bool, true, false, ◌||◌, not, cond, List, [], ◌∷◌, Option, Some, None, Result, Ok, Err, refl, ap, sym, ◌∙◌, subst, length}
-use Rattle.std.specs.Prelude.{bytes_eq, filter_map, is_some, nat_le, nat_lt, sum_by}
-use Rattle.std.specs.List.{cons_option, fold, AllByRecursion}
-use Rattle.std.proofs.lemmas.Cmp.{nat_list_eq_equiv}
-use Rattle.kc_value.specs.declared.limits.TheConstants.{MAX_FILES, MAX_TREE_BYTES, MAX_OPEN_FILES}
-use Rattle.kc_tokens.specs.declared.language.Language.{Language}
-use Rattle.kc_tree_model.specs.declared.fault.TreeKind.{TreeKind}
-use Rattle.kc_tree_model.specs.declared.fault.TreeKind.TheVariants.{SourceLoop, MissingFile, TooDeep, TooMany}
-use Rattle.kc_tree_model.specs.declared.fault.TreeFault.{TreeFault}
-use Rattle.kc_tree_model.specs.declared.keyword.Block.{Block}
-use Rattle.kc_tree_model.specs.TreeFiles.{file_at, index_of_file}
-use Rattle.kc_tree_model.specs.LogicalLines.{LogicalLine, lines_of}
-use Rattle.kc_tree_model.specs.Statements.{Statement, head, attribute, path_of_head}
-use Rattle.kc_tree_model.specs.Blocks.{Group, Position, sourced_path, file_end, innermost}
-use Rattle.kc_tree_model.specs.Limits.{is_in_list, FileSource, bytes_in, size_in, files_read, open_files, source_fault}
-use Rattle.kc_tree_model.specs.TreeReading.{statement_on_line, with_statement, with_group, path_to_read, Outcome, at_file_end, continue_after_file, continue_after_source, continue_after_statement, continue_after_line, read_lines, read_file, read_root, reading}
-use Rattle.kc_macros_model.specs.Worlds.{returned, expansion}
-use Rattle.kc_expansion.specs.TreeLaws.{paths_read, text_of_key, IsGivenBack, ReadingsStay}
+use Rattle.kc_expansion.proofs.Common.{◌≡◌, ℕ, zero, suc, ◌+◌, Bool, true, false, ◌||◌, not, cond, List, [], ◌∷◌, Option, Some, None, Result, Ok, Err, refl, ap, sym, ◌∙◌, subst, length, bytes_eq, filter_map, is_some, nat_le, nat_lt, sum_by, cons_option, nat_list_eq_equiv, MAX_FILES, MAX_TREE_BYTES}
+use Rattle.kc_expansion.proofs.Common.{MAX_OPEN_FILES, Language, TreeKind, SourceLoop, TooDeep, TooMany, TreeFault, Block, file_at, index_of_file, LogicalLine, Statement, head, attribute, path_of_head, Group, Position, sourced_path, file_end, innermost, is_in_list, FileSource, size_in, files_read}
+use Rattle.kc_expansion.proofs.Common.{open_files, with_statement, with_group, path_to_read, at_file_end, continue_after_file, continue_after_source, continue_after_statement, continue_after_line, read_lines, read_root, returned, paths_read, text_of_key}
+use Rattle.std.specs.List.{fold, AllByRecursion}
+use Rattle.kc_tree_model.specs.declared.fault.TreeKind.TheVariants.{MissingFile}
+use Rattle.kc_tree_model.specs.LogicalLines.{lines_of}
+use Rattle.kc_tree_model.specs.Limits.{bytes_in, source_fault}
+use Rattle.kc_tree_model.specs.TreeReading.{statement_on_line, Outcome, read_file, reading}
+use Rattle.kc_macros_model.specs.Worlds.{expansion}
+use Rattle.kc_expansion.specs.TreeLaws.{IsGivenBack, ReadingsStay}
 use Rattle.kc_expansion.proofs.AcceptedTrees.{accepted_trees_stay, unfolded_none}
 
 -- a reading without a fault has none in a part of it
@@ -24,11 +16,6 @@ part_none : (p : List Group → Outcome) (at : Position) (o : Outcome) (k : Opti
     → o.fault ≡ None
 part_none p at o (Some f) e h = h
 part_none p at o None e h = e
-
-kind_none : (f : List ℕ → List Group → Outcome) (p : List Group → Outcome) (at : Position) (path : List ℕ) (read : List Group) (k : Option TreeKind)
-    → (continue_after_source f p at path read k).fault ≡ None → k ≡ None
-kind_none f p at path read (Some k) h = let z : ⊥ = cc in absurd z
-kind_none f p at path read None h = refl
 
 end_read : (file : ℕ) (read : List Group) (o : Option (Group × Block)) → (at_file_end file read o).read ≡ read
 end_read file read None = refl

@@ -1,22 +1,20 @@
 -- Trees that are expanded again.
-use Rattle.std.proofs.Common.{◌≡◌, ℕ, Bool, true, false, ◌||◌, cond, List, [], ◌∷◌, Some, None, refl, sym, ap, ◌∙◌}
-use Rattle.std.specs.Prelude.{bytes_eq, codes}
-use Rattle.std.specs.Str.{is_utf8, chars}
-use Rattle.std.specs.Map.{lookup}
+use Rattle.std.specs.Str.{is_utf8}
+use Rattle.kc_expansion.proofs.Common.{◌≡◌, ℕ, Bool, true, false, ◌||◌, cond, List, [], ◌∷◌, Some, None, refl, sym, ap, ◌∙◌, bytes_eq, codes, lookup, is_in_list, ExpandedFile, has_key, World, paths_read, text_of_key, IsFileOf}
+use Rattle.std.specs.Str.{chars}
 use Rattle.std.specs.Fmt.{digits}
 use Rattle.std.proofs.lemmas.List.Elements.{All-weaker}
 use Rattle.kc_tokens.specs.Token.{next_token}
 use Rattle.kc_tokens.specs.declared.language.LinuxVersion.{LinuxVersion}
 use Rattle.kc_expr.specs.Grammar.{read_expr}
 use Rattle.kc_tree_model.specs.LogicalLines.{lines_of}
-use Rattle.kc_tree_model.specs.Limits.{is_in_list, source_fault}
+use Rattle.kc_tree_model.specs.Limits.{source_fault}
 use Rattle.kc_tree_model.specs.TreeReading.{statement_on_line, reading}
 use Rattle.kc_tree_model.specs.TreeFaults.{tree_faults, first_tree_fault}
 use Rattle.kc_macros_model.specs.Expansion.{text_value}
-use Rattle.kc_macros_model.specs.ReadingStates.{ExpandedFile, has_key}
 use Rattle.kc_macros_model.specs.TreeExpansion.{tree_read}
-use Rattle.kc_macros_model.specs.Worlds.{World, expansion}
-use Rattle.kc_expansion.specs.TreeLaws.{paths_read, by_key, text_of_key, IsFileOf, ExpandedTreesStay, AllFilesStay, LosesAFile}
+use Rattle.kc_macros_model.specs.Worlds.{expansion}
+use Rattle.kc_expansion.specs.TreeLaws.{by_key, ExpandedTreesStay, AllFilesStay, LosesAFile}
 use Rattle.kc_expansion.proofs.AcceptedLines.{turned}
 use Rattle.kc_expansion.proofs.AcceptedTrees.{accepted_trees_stay}
 

@@ -1,7 +1,5 @@
 -- The text of a file as it is written.
-use Rattle.std.proofs.Common.{◌≡◌, ℕ, suc, List, [], ◌∷◌, ◌++◌, take, drop, sym, ap, ◌∙◌, append_assoc, arith}
-use Rattle.std.specs.Prelude.{replicate, codes, slice_range, ◌-◌}
-use Rattle.std.proofs.lemmas.List.{append-nil}
+use Rattle.kc_expansion.proofs.Common.{◌≡◌, ℕ, suc, List, [], ◌∷◌, ◌++◌, take, drop, sym, ap, ◌∙◌, append_assoc, arith, replicate, codes, slice_range, ◌-◌, append-nil}
 
 pub newline_more : (b : List ℕ) (n left : ℕ) → suc n ≡ left → (b ++ 10 ∷ []) ++ replicate n 10 ≡ b ++ replicate left 10
 newline_more b n left e = append_assoc b (10 ∷ []) (replicate n 10) ∙ ap (λ k. b ++ replicate k 10) e

@@ -17,38 +17,40 @@ ghost use Rattle.kc_expansion.specs.checker.ReadingViews.{state_of, file_run_of}
 use super::choice_names::ChoiceNames;
 use super::faults::fault;
 use super::line_steps::LineState;
-use super::open_files::{OpenFiles, with_path};
-use super::reading_state::Reading;
-use super::source_faults::ReadCounts;
+use super::open_files::OpenFiles;
+use super::read_counts::ReadCounts;
+use super::tree_expander::TreeExpander;
 use super::tree_reading::read_lines;
 use kc_answers::Answers;
-use kc_files::{ExpandedFiles, ExpandedTree, FileRead, Store, TreeFiles};
-use kc_macros::{Bindings, MacroFault, MacroKind, MacroNotice, Place, Run, Stop};
+use kc_files::{ExpandedFiles, ExpandedTree, FileCache, FileRead, TreeFiles};
+use kc_macros::{
+    Bindings, ExpansionState, MacroFault, MacroKind, MacroNotice, Place, Stop, with_innermost,
+};
 use kc_value::{MAX_FILES, MAX_TREE_BYTES, Seed};
 use std::alloc::{AllocError, Global};
 use std::rc::Rc;
 
 /// The expansion of a tree: its notices, and its expanded files or its fault.
 #[derive(Drop)]
-pub struct Expansion {
+pub struct ExpansionOutcome {
     pub notices: Vec<MacroNotice>,
     pub tree: Result<ExpandedTree, MacroFault>,
 }
 
 /// The reading of a tree at its start.
-fn new_reading(alloc: Global, seed: Seed, answers: &Answers, all_answered: bool) -> Reading<'_>
+fn new_reading(alloc: Global, seed: Seed, answers: &Answers, all_answered: bool) -> TreeExpander<'_>
     ensures run { result.lines.run ≡ run_at_start answers.now all_answered }
     ensures state { state_of result ≡ initial_state }
     ensures known { known_of result.store ≡ nothing_known }
 {
-    Reading {
+    TreeExpander {
         alloc,
         lines: LineState {
-            run: Run::new(alloc, seed, answers, all_answered),
+            run: ExpansionState::new(alloc, seed, answers, all_answered),
             bindings: Bindings::new(alloc, seed),
             choices: ChoiceNames::new(alloc, seed),
         },
-        store: Store::new(alloc, seed),
+        store: FileCache::new(alloc, seed),
         expanded: ExpandedFiles::new(alloc, seed),
         counts: ReadCounts { files: 0, bytes: 0 },
         listed: 0,
@@ -57,7 +59,7 @@ fn new_reading(alloc: Global, seed: Seed, answers: &Answers, all_answered: bool)
 
 /// Reads the first file of a tree and all files that its lines source; returns its expanded text.
 fn read_root<F: TreeFiles>(
-    reading: &mut Reading<'_>,
+    reading: &mut TreeExpander<'_>,
     files: &mut F,
     root: &[u8],
 ) -> Result<Rc<Vec<u8>>, Stop>
@@ -78,7 +80,7 @@ fn read_root<F: TreeFiles>(
     if bytes.len() > MAX_TREE_BYTES {
         return Err(fault(reading.alloc, at, MacroKind::TooMany));
     }
-    let paths = with_path(reading.alloc, root, &[])?;
+    let paths = with_innermost(reading.alloc, root, &[])?;
     let opened = OpenFiles {
         root,
         paths: &paths,
@@ -91,11 +93,11 @@ fn read_root<F: TreeFiles>(
 }
 
 /// The notices of a reading, and its expanded files. Nothing else of it is kept, and it is dropped here and in `into_questions` alone.
-fn into_notices(reading: Reading<'_>) -> (Vec<MacroNotice>, ExpandedFiles)
+fn into_notices(reading: TreeExpander<'_>) -> (Vec<MacroNotice>, ExpandedFiles)
     ensures notices { map notice_of result.0.items ≡ reading.entry.lines.run.notices }
     ensures files { result.1 ≡ reading.entry.expanded }
 {
-    let Reading {
+    let TreeExpander {
         lines,
         expanded,
         ..
@@ -104,10 +106,10 @@ fn into_notices(reading: Reading<'_>) -> (Vec<MacroNotice>, ExpandedFiles)
 }
 
 /// The questions without an answer that a reading asked.
-fn into_questions(reading: Reading<'_>) -> Result<Vec<Vec<u8>>, AllocError>
+fn into_questions(reading: TreeExpander<'_>) -> Result<Vec<Vec<u8>>, AllocError>
     ensures { IfOk result (λ questions. texts_of questions ≡ open_questions reading.entry.lines.run) }
 {
-    let Reading { lines, .. } = reading;
+    let TreeExpander { lines, .. } = reading;
     lines.run.into_open_questions()
 }
 
@@ -144,7 +146,7 @@ pub fn expand<F: TreeFiles>(
     files: &mut F,
     root: &[u8],
     answers: &Answers,
-) -> Result<Expansion, AllocError>
+) -> Result<ExpansionOutcome, AllocError>
     ensures same { StaysKnown (F.contents files.old) (F.contents files.new) }
     ensures expanded { IfOk result (λ e. IsCountedExpansion (F.contents files.old) (F.contents files.old).failures (F.contents files.new).failures answers.now root.now (map notice_of e.notices.items) (tree_of e.tree)) }
     ensures few { IfOk result (λ e. IfOk e.tree (λ expanded. length expanded ≤ MAX_FILES)) }
@@ -153,7 +155,7 @@ pub fn expand<F: TreeFiles>(
     let read = read_root(&mut reading, files, root);
     let (notices, sourced) = into_notices(reading);
     let tree = read_tree(alloc, read, sourced, root)?;
-    Ok(Expansion { notices, tree })
+    Ok(ExpansionOutcome { notices, tree })
 }
 
 /// The questions of a reading, or its fault where it asked none.

@@ -22,14 +22,14 @@ use kc_macro_forms::{
     with_bare_prompt, with_replacement, without_choice_name,
 };
 use kc_macro_lines::{LineContent, read_line};
-use kc_macros::{Assignment, Bindings, MacroKind, Place, Run, Stop, assign};
+use kc_macros::{Assignment, Bindings, ExpansionState, MacroKind, Place, Stop, assign};
 use kc_value::MAX_TEXT_BYTES;
 use std::alloc::{AllocError, Global};
 
 /// The state of a reading that the lines of a file change: the run, the variables, and the names of choices.
 #[derive(Drop)]
 pub(crate) struct LineState<'a> {
-    pub run: Run<'a>,
+    pub run: ExpansionState<'a>,
     pub bindings: Bindings,
     pub choices: ChoiceNames,
 }

@@ -1,5 +1,5 @@
 //! The paths that a `source` line reads.
-ghost use Rattle.std.specs.Prelude.{◌≡◌, ◌∷◌, [], ◌||◌, not, nat_lt, length, IfOk};
+ghost use Rattle.std.specs.Prelude.{◌≡◌, ◌∷◌, [], ◌||◌, not, nat_lt, length, Some, IfOk};
 ghost use Rattle.kc_macros_model.specs.Worlds.{returned};
 ghost use Rattle.kc_macros_model.specs.PathPatterns.{paths_with_files};
 ghost use Rattle.kc_macros_model.specs.TreeExpansion.{SourceReader, path_read};
@@ -14,9 +14,9 @@ ghost use Rattle.kc_expansion.specs.checker.ReadingViews.{state_of, file_run_of,
 ghost use Rattle.kc_files.specs.TreeContents.{StaysKnown};
 
 use super::faults::fault;
-use super::reading_state::Reading;
+use super::tree_expander::TreeExpander;
 use kc_files::{
-    FoundPaths, PatternStop, Store, TreeFiles, files_of_pattern, is_pattern, paths_with_files,
+    FileCache, FoundPaths, PatternStop, TreeFiles, files_of_pattern, is_pattern, paths_with_files,
 };
 use kc_macro_forms::SourceSort;
 use kc_macros::{MacroKind, Place, Stop};
@@ -32,13 +32,13 @@ fn lacks_files(paths: &[Vec<u8>], optional: bool) -> bool
 /// The files that a pattern matches, also those that can't be read; a pattern without files is a fault, unless they may be
 /// missing, and so is a folder that is there and can't be listed.
 fn pattern_paths<F: TreeFiles>(
-    reading: &mut Reading<'_>,
+    reading: &mut TreeExpander<'_>,
     files: &mut F,
     at: Place<'_>,
     sort: SourceSort,
     pattern: &[u8],
-) -> Result<Option<Vec<Vec<u8>>>, Stop>
-    ensures { (sub : SourceReader) → Steps (file_run_of (F.contents files.old) reading.old) (file_run_of (F.contents files.new) reading.new) (pattern_followed sub (place_of at.entry) (source_sort_of sort) pattern.now (state_of reading.old)) (λ found. paths_left sub (place_of at.entry) pattern.now found (state_of reading.new)) result }
+) -> Result<Vec<Vec<u8>>, Stop>
+    ensures { (sub : SourceReader) → Steps (file_run_of (F.contents files.old) reading.old) (file_run_of (F.contents files.new) reading.new) (pattern_followed sub (place_of at.entry) (source_sort_of sort) pattern.now (state_of reading.old)) (λ found. paths_left sub (place_of at.entry) pattern.now (Some found) (state_of reading.new)) result }
 {
     match files_of_pattern(
         reading.alloc,
@@ -52,7 +52,7 @@ fn pattern_paths<F: TreeFiles>(
                 return Err(fault(reading.alloc, at, MacroKind::MissingFile));
             }
             reading.listed = found.listed;
-            Ok(Some(found.paths))
+            Ok(found.paths)
         }
         Err(PatternStop::TooMany) => Err(fault(reading.alloc, at, MacroKind::TooMany)),
         Err(PatternStop::Unlisted) => Err(fault(reading.alloc, at, MacroKind::MissingFile)),
@@ -63,7 +63,7 @@ fn pattern_paths<F: TreeFiles>(
 /// A list of one path, or of none where no file is at it.
 fn path_if_there<F: TreeFiles>(
     alloc: Global,
-    store: &mut Store,
+    store: &mut FileCache,
     files: &mut F,
     path: &[u8],
 ) -> Result<Vec<Vec<u8>>, AllocError>
@@ -80,7 +80,7 @@ fn path_if_there<F: TreeFiles>(
 /// The files that a `source` line reads as a list: those of a pattern, or one that may be missing; `None` where it reads the
 /// one file of its path.
 pub(crate) fn paths_to_read<F: TreeFiles>(
-    reading: &mut Reading<'_>,
+    reading: &mut TreeExpander<'_>,
     files: &mut F,
     at: Place<'_>,
     sort: SourceSort,
@@ -89,7 +89,8 @@ pub(crate) fn paths_to_read<F: TreeFiles>(
     ensures { (sub : SourceReader) → Steps (file_run_of (F.contents files.old) reading.old) (file_run_of (F.contents files.new) reading.new) (path_read sub (place_of at.entry) (source_sort_of sort) path.now (state_of reading.old)) (λ found. paths_left sub (place_of at.entry) path.now found (state_of reading.new)) result }
 {
     if is_pattern(path) {
-        return pattern_paths(reading, files, at, sort, path);
+        let found = pattern_paths(reading, files, at, sort, path)?;
+        return Ok(Some(found));
     }
     if sort.optional {
         let paths = path_if_there(reading.alloc, &mut reading.store, files, path)?;

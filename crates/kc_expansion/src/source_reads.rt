@@ -12,8 +12,8 @@ ghost use Rattle.kc_expansion.specs.checker.StepResults.{StepsTo};
 
 use super::faults::fault;
 use super::open_files::OpenFiles;
-use super::reading_state::Reading;
 use super::source_faults::bytes_to_read;
+use super::tree_expander::TreeExpander;
 use kc_files::{FileRead, TreeFiles};
 use kc_macros::{Place, Stop};
 use kc_value::MAX_OPEN_FILES;
@@ -21,7 +21,7 @@ use std::rc::Rc;
 
 /// Reads the bytes of the file of a path, and counts them; a fault where it may not be read.
 pub(crate) fn file_to_read<F: TreeFiles>(
-    reading: &mut Reading<'_>,
+    reading: &mut TreeExpander<'_>,
     files: &mut F,
     opened: &OpenFiles<'_>,
     at: Place<'_>,
@@ -43,7 +43,7 @@ pub(crate) fn file_to_read<F: TreeFiles>(
 
 /// Counts a list of files as a file without bytes; a fault where it may not be read.
 pub(crate) fn list_to_read(
-    reading: &mut Reading<'_>,
+    reading: &mut TreeExpander<'_>,
     opened: &OpenFiles<'_>,
     at: Place<'_>,
     name: &[u8],
@@ -63,19 +63,19 @@ pub(crate) fn list_to_read(
 
 /// Keeps the expanded text of a path; returns its key.
 pub(crate) fn keep_text(
-    reading: &mut Reading<'_>,
+    reading: &mut TreeExpander<'_>,
     root: &[u8],
     path: &[u8],
     text: Rc<Vec<u8>>,
 ) -> Result<Vec<u8>, Stop>
     ensures { (contents : TreeContents) → Reads (file_run_of contents reading.old) (file_run_of contents reading.new) (returns (stored_file root.now path.now (progress text.value.items (state_of reading.old)))) (end_of (λ key. progress key.items (state_of reading.new)) result) }
 {
-    Ok(reading.expanded.keep(root, path, text)?)
+    Ok(reading.expanded.insert(root, path, text)?)
 }
 
 /// Keeps the text of a list of files; returns its key.
 pub(crate) fn keep_list(
-    reading: &mut Reading<'_>,
+    reading: &mut TreeExpander<'_>,
     root: &[u8],
     name: &[u8],
     text: Vec<u8>,

@@ -15,22 +15,22 @@ ghost use Rattle.kc_expansion.specs.checker.WrittenViews.{text_up_to};
 use super::file_lines::{LineHere, line_here, put_source};
 use super::line_places::LineStart;
 use super::line_steps::SourceLine;
-use super::open_files::{OpenFiles, with_path};
-use super::reading_state::Reading;
+use super::open_files::OpenFiles;
 use super::source_lines::push_source_line;
 use super::source_paths::paths_to_read;
 use super::source_reads::{file_to_read, keep_list, keep_text, list_to_read};
+use super::tree_expander::TreeExpander;
 use super::written_file::WrittenFile;
 use kc_files::{TreeFiles, has_bracket, list_name, path_meant};
 use kc_macro_forms::{SourceSort, line_bytes, source_line};
-use kc_macros::{Place, Stop};
+use kc_macros::{Place, Stop, with_innermost};
 use kc_value::{MAX_OPEN_FILES, MAX_TREE_BYTES};
 use std::rc::Rc;
 
 /// Reads the file of a path with all that it sources; returns the key of its expanded text.
 #[cycle(reading)]
 fn read_source<F: TreeFiles>(
-    reading: &mut Reading<'_>,
+    reading: &mut TreeExpander<'_>,
     files: &mut F,
     opened: &OpenFiles<'_>,
     at: Place<'_>,
@@ -40,7 +40,7 @@ fn read_source<F: TreeFiles>(
     ensures reads { Reads (file_run_of (F.contents files.old) reading.old) (file_run_of (F.contents files.new) reading.new) (reader_of opened.now (place_of at.entry) (one_file path.now) (state_of reading.old)) (end_of (λ key. progress key.items (state_of reading.new)) result) }
 {
     let bytes = file_to_read(reading, files, opened, at, path)?;
-    let paths = with_path(reading.alloc, path, opened.paths)?;
+    let paths = with_innermost(reading.alloc, path, opened.paths)?;
     let inner = OpenFiles {
         root: opened.root,
         paths: &paths,
@@ -52,7 +52,7 @@ fn read_source<F: TreeFiles>(
 /// Reads the files of a list; returns the key of the list's text, whose lines source them.
 #[cycle(reading)]
 fn read_list<F: TreeFiles>(
-    reading: &mut Reading<'_>,
+    reading: &mut TreeExpander<'_>,
     files: &mut F,
     opened: &OpenFiles<'_>,
     at: Place<'_>,
@@ -63,7 +63,7 @@ fn read_list<F: TreeFiles>(
     ensures reads { Reads (file_run_of (F.contents files.old) reading.old) (file_run_of (F.contents files.new) reading.new) (reader_of opened.now (place_of at.entry) (file_list name.now (items_of paths.now)) (state_of reading.old)) (end_of (λ key. progress key.items (state_of reading.new)) result) }
 {
     list_to_read(reading, opened, at, name)?;
-    let open_paths = with_path(reading.alloc, name, opened.paths)?;
+    let open_paths = with_innermost(reading.alloc, name, opened.paths)?;
     let inner = OpenFiles {
         root: opened.root,
         paths: &open_paths,
@@ -75,7 +75,7 @@ fn read_list<F: TreeFiles>(
 /// Reads files in order; returns a `source` line of the key of each.
 #[cycle(reading)]
 fn list_lines<F: TreeFiles>(
-    reading: &mut Reading<'_>,
+    reading: &mut TreeExpander<'_>,
     files: &mut F,
     opened: &OpenFiles<'_>,
     at: Place<'_>,
@@ -95,7 +95,7 @@ fn list_lines<F: TreeFiles>(
 /// Reads the file or the files that a `source` of this path and sort means; returns the key of the expanded text.
 #[cycle(reading)]
 fn read_path<F: TreeFiles>(
-    reading: &mut Reading<'_>,
+    reading: &mut TreeExpander<'_>,
     files: &mut F,
     opened: &OpenFiles<'_>,
     at: Place<'_>,
@@ -117,7 +117,7 @@ fn read_path<F: TreeFiles>(
 /// Follows a `source` line; returns the line that sources the expanded text instead. A line whose path has a `[` stays.
 #[cycle(reading)]
 fn follow_source<F: TreeFiles>(
-    reading: &mut Reading<'_>,
+    reading: &mut TreeExpander<'_>,
     files: &mut F,
     opened: &OpenFiles<'_>,
     at: Place<'_>,
@@ -137,7 +137,7 @@ fn follow_source<F: TreeFiles>(
 /// Writes the logical line at a place; returns the place after it and after the help text that follows it.
 #[cycle(reading)]
 fn next_line<F: TreeFiles>(
-    reading: &mut Reading<'_>,
+    reading: &mut TreeExpander<'_>,
     files: &mut F,
     opened: &OpenFiles<'_>,
     file: &[u8],
@@ -163,7 +163,7 @@ fn next_line<F: TreeFiles>(
 /// Reads the lines of a file with these bytes, and all files that the lines source; returns the expanded text of the file.
 #[cycle(reading)]
 pub(crate) fn read_lines<F: TreeFiles>(
-    reading: &mut Reading<'_>,
+    reading: &mut TreeExpander<'_>,
     files: &mut F,
     opened: &OpenFiles<'_>,
     file: &[u8],

@@ -1,12 +1,9 @@
 -- The text of a symbol's reasons, line after line.
-use Rattle.std.proofs.Common.{◌≡◌, ℕ, zero, suc, ◌<◌, List, [], ◌∷◌, ◌++◌, length, Option, Some, None, refl, ap, sym, ◌∙◌, append_assoc, arith}
-use Rattle.std.specs.Prelude.{slice_get, option_map, unwrap_or}
-use Rattle.kc_tree_model.specs.Trees.{Tree, Symbol}
-use Rattle.kc_rules_model.specs.declared.values.UnitValue.{UnitValue}
-use Rattle.kc_dotconfig_model.specs.declared.format.Strings.{Strings}
+use Rattle.std.proofs.Common.{zero, suc, ◌<◌, length}
+use Rattle.std.specs.Prelude.{option_map, unwrap_or}
+use Rattle.kc_explanation.proofs.Common.{◌≡◌, ℕ, List, [], ◌∷◌, ◌++◌, Some, refl, ap, sym, ◌∙◌, append_assoc, arith, slice_get, Tree, Symbol, UnitValue, Strings, Position}
 use Rattle.kc_reasons_model.specs.PlainReasons.{PlainReasons}
 use Rattle.kc_reasons_model.specs.SymbolLines.{SymbolLines}
-use Rattle.kc_tree_model.specs.Blocks.{Position}
 use Rattle.kc_located_reasons.specs.LocatedNeeds.{LocatedPart}
 use Rattle.kc_explanation.specs.Explained.{hindrance_line, explained, explained_at}
 use Rattle.kc_explanation.specs.Located.{ReasonPlaces, located_first_line, located_details, located_details_at, located_explained, located_explained_at, located_unmet, located_unmet_at}
@@ -43,21 +40,9 @@ located_explained_at_is strings paths tree values s lines r places there =
     ∙ ap (λ x. located_first_line strings paths tree values s r.chosen r.case places.given_at ++ (hindrance_line r.hindrance ++ x))
     (sym (located_details_is strings paths tree values s k.0 lines r places k.1))
 
--- two texts, each appended to what was there; three; four
+-- two texts, each appended to what was there; three
 pub joined_two : (old one two a b : List ℕ) → one ≡ old ++ a → two ≡ one ++ b → two ≡ old ++ (a ++ b)
 joined_two old one two a b h1 h2 = h2 ∙ ap (λ x. x ++ b) h1 ∙ simp append_assoc
 
 pub joined_three : (old one two three a b c : List ℕ) → one ≡ old ++ a → two ≡ one ++ b → three ≡ two ++ c → three ≡ old ++ (a ++ (b ++ c))
 joined_three old one two three a b c h1 h2 h3 = h3 ∙ ap (λ x. x ++ c) (h2 ∙ ap (λ x. x ++ b) h1) ∙ simp append_assoc
-
-pub joined_four : (old one two three four a b c d : List ℕ) → one ≡ old ++ a → two ≡ one ++ b → three ≡ two ++ c → four ≡ three ++ d
-    → four ≡ old ++ (a ++ (b ++ (c ++ d)))
-joined_four old one two three four a b c d h1 h2 h3 h4 =
-    h4 ∙ ap (λ x. x ++ d) (h3 ∙ ap (λ x. x ++ c) (h2 ∙ ap (λ x. x ++ b) h1)) ∙ simp append_assoc
-
--- six texts, each appended to what was there
-pub joined : (old one two three four five six a b c d e f : List ℕ) → one ≡ old ++ a → two ≡ one ++ b → three ≡ two ++ c → four ≡ three ++ d
-    → five ≡ four ++ e → six ≡ five ++ f → six ≡ old ++ (a ++ (b ++ (c ++ (d ++ (e ++ f)))))
-joined old one two three four five six a b c d e f h1 h2 h3 h4 h5 h6 =
-    h6 ∙ ap (λ x. x ++ f) (h5 ∙ ap (λ x. x ++ e) (h4 ∙ ap (λ x. x ++ d) (h3 ∙ ap (λ x. x ++ c) (h2 ∙ ap (λ x. x ++ b) h1))))
-    ∙ simp append_assoc

@@ -1,5 +1,5 @@
 -- The walk that finds the tokens of an expression from right to left.
-use Rattle.std.proofs.Common.{◌≡◌, ℕ, Bool, true, false, cond, List, [], ◌∷◌, ◌++◌, map, reverse, refl, ap, sym, ◌∙◌, append_assoc, subst}
+use Rattle.std.proofs.Common.{◌≡◌, true, false, List, [], ◌∷◌, ◌++◌, map, reverse, refl, ap, sym, ◌∙◌, append_assoc}
 use Rattle.std.specs.Prelude.{codes}
 use Rattle.std.proofs.lemmas.List.{map-append, reverse-append}
 use Rattle.kc_tokens.specs.Token.{Lexeme}
@@ -7,25 +7,17 @@ use Rattle.kc_tokens.specs.TokenGrammar.{relation_text}
 use Rattle.kc_tokens.specs.declared.token.TokenKind.TheVariants.{Relation, Not, And, Or, Open, Close}
 use Rattle.kc_expr.specs.between.Arena.{Exprs}
 use Rattle.kc_expr.specs.Expr.{Expr, Operand, alone, related, negated, both, either, shown}
-use Rattle.kc_expr.specs.Grammar.{Level, ors, ands, factor}
+use Rattle.kc_expr.specs.Grammar.{ors, ands, factor}
 use Rattle.kc_reasons_model.specs.Spelling.{token, operand_token, in_parentheses, joined, under_not, spelling}
 use Rattle.kc_explanation.specs.declared.spelling.SpelledToken.{SpelledToken}
-use Rattle.kc_explanation.specs.declared.spelling.Place.{Place}
-use Rattle.kc_explanation.specs.declared.spelling.Place.TheVariants.{InOr, InAnd, Factor, BehindNot}
+use Rattle.kc_explanation.specs.declared.spelling.OperandPlace.{OperandPlace}
+use Rattle.kc_explanation.specs.declared.spelling.OperandPlace.TheVariants.{InOr, InAnd, Factor, BehindNot}
 use Rattle.kc_explanation.specs.between.SpelledTokens.{lexeme_of, lexemes_of, left_operand, right_operand}
 use Rattle.kc_tokens.specs.declared.token.Relop.{Relop}
-use Rattle.kc_explanation.specs.checker.SpellingWalk.{encloses_relations, encloses_ands, encloses_ors, is_enclosed, past_shown, enclosed, spelling_in_reverse, inside}
-use Rattle.std.proofs.lemmas.Bool.{false≢true}
-
--- the level of the grammar at a place
-abbrev pub level_of : Place → Level
-level_of InOr = ors
-level_of InAnd = ands
-level_of Factor = factor
-level_of BehindNot = factor
+use Rattle.kc_explanation.specs.checker.SpellingWalk.{is_enclosed, enclosed, spelling_in_reverse}
 
 -- the spelling at a place
-abbrev pub spelled_at : Place → Expr → List Lexeme
+abbrev pub spelled_at : OperandPlace → Expr → List Lexeme
 spelled_at InOr e = spelling ors e
 spelled_at InAnd e = spelling ands e
 spelled_at Factor e = spelling factor e
@@ -59,7 +51,7 @@ in_parentheses_either : (a b : Expr) → reverse (spelling_in_reverse InAnd b) �
 in_parentheses_either a b e f = turned_parentheses (spelling_in_reverse InAnd b ++ token Or (codes "||") ∷ spelling_in_reverse InOr a) (joined (token Or (codes "||")) (spelling ors a) (spelling ands b)) (turned_either a b e f)
 
 -- turned round, the walk's tokens are the spelling
-pub turned : (place : Place) (e : Expr) → reverse (spelling_in_reverse place e) ≡ spelled_at place e
+pub turned : (place : OperandPlace) (e : Expr) → reverse (spelling_in_reverse place e) ≡ spelled_at place e
 turned InOr (alone a) = refl
 turned InAnd (alone a) = refl
 turned Factor (alone a) = refl
@@ -99,7 +91,7 @@ found_turned exprs e none found last empty f h =
     ∙ ap reverse (f ∙ ap (λ ts. lexemes_of exprs ts ++ spelling_in_reverse InOr e) empty) ∙ turned InOr e
 
 -- what is in parentheses is spelled as a whole between them
-pub in_whole : (place : Place) (e : Expr) → is_enclosed place e ≡ true
+pub in_whole : (place : OperandPlace) (e : Expr) → is_enclosed place e ≡ true
     → spelling_in_reverse place e ≡ token Close (codes ")") ∷ (spelling_in_reverse InOr e ++ token Open (codes "(") ∷ [])
 in_whole place (related op a b) h = ap (λ c. enclosed c (operand_token b ∷ token (Relation op) (relation_text op) ∷ operand_token a ∷ [])) h
 in_whole place (both a b) h = ap (λ c. enclosed c (spelling_in_reverse Factor b ++ token And (codes "&&") ∷ spelling_in_reverse InAnd a)) h
@@ -108,19 +100,19 @@ in_whole place (alone a) h = cc
 in_whole place (negated e) h = cc
 in_whole place (shown e) h = cc
 
-pub bare_relation : (place : Place) (e : Expr) (op a b : _) → e ≡ related op a b → is_enclosed place e ≡ false
+pub bare_relation : (place : OperandPlace) (e : Expr) (op a b : _) → e ≡ related op a b → is_enclosed place e ≡ false
     → spelling_in_reverse place e ≡ operand_token b ∷ token (Relation op) (relation_text op) ∷ operand_token a ∷ []
 bare_relation place e op a b is h =
     ap (spelling_in_reverse place) is
     ∙ ap (λ c. enclosed c (operand_token b ∷ token (Relation op) (relation_text op) ∷ operand_token a ∷ [])) (sym (ap (is_enclosed place) is) ∙ h)
 
-pub bare_both : (place : Place) (e a b : Expr) → e ≡ both a b → is_enclosed place e ≡ false
+pub bare_both : (place : OperandPlace) (e a b : Expr) → e ≡ both a b → is_enclosed place e ≡ false
     → spelling_in_reverse place e ≡ spelling_in_reverse Factor b ++ token And (codes "&&") ∷ spelling_in_reverse InAnd a
 bare_both place e a b is h =
     ap (spelling_in_reverse place) is
     ∙ ap (λ c. enclosed c (spelling_in_reverse Factor b ++ token And (codes "&&") ∷ spelling_in_reverse InAnd a)) (sym (ap (is_enclosed place) is) ∙ h)
 
-pub bare_either : (place : Place) (e a b : Expr) → e ≡ either a b → is_enclosed place e ≡ false
+pub bare_either : (place : OperandPlace) (e a b : Expr) → e ≡ either a b → is_enclosed place e ≡ false
     → spelling_in_reverse place e ≡ spelling_in_reverse InAnd b ++ token Or (codes "||") ∷ spelling_in_reverse InOr a
 bare_either place e a b is h =
     ap (spelling_in_reverse place) is
@@ -149,28 +141,11 @@ pub ended_by_not : (before one two rest all operand : List Lexeme) → rest ≡ 
 ended_by_not before one two rest all operand is h f g =
     g ∙ ap (λ xs. xs ++ token Not (codes "!") ∷ []) f ∙ append_assoc before operand (token Not (codes "!") ∷ []) ∙ ap (λ xs. before ++ xs) (sym is) ∙ h
 
-pub enclosed_inside : (place : Place) (e : Expr) → is_enclosed place e ≡ true → inside place ≡ 1
-enclosed_inside InOr (related op a b) h = absurd (false≢true h)
-enclosed_inside InOr (both a b) h = absurd (false≢true h)
-enclosed_inside InOr (either a b) h = absurd (false≢true h)
-enclosed_inside InOr (alone a) h = absurd (false≢true h)
-enclosed_inside InOr (negated e) h = absurd (false≢true h)
-enclosed_inside InOr (shown e) h = absurd (false≢true h)
-enclosed_inside InAnd e h = refl
-enclosed_inside Factor e h = refl
-enclosed_inside BehindNot e h = refl
-
-pub past_inside : (place : Place) → inside (past_shown place) ≡ inside place
-past_inside InOr = refl
-past_inside InAnd = refl
-past_inside Factor = refl
-past_inside BehindNot = refl
-
 -- the tokens of one operand, and of a relation
-pub alone_token : (place : Place) (e : Expr) (a : Operand) → e ≡ alone a → spelling_in_reverse place e ≡ operand_token (left_operand e) ∷ []
+pub alone_token : (place : OperandPlace) (e : Expr) (a : Operand) → e ≡ alone a → spelling_in_reverse place e ≡ operand_token (left_operand e) ∷ []
 alone_token place e a is = ap (spelling_in_reverse place) is ∙ ap (λ x. operand_token (left_operand x) ∷ []) (sym is)
 
-pub relation_tokens : (place : Place) (e : Expr) (op : Relop) (a b : Operand) → e ≡ related op a b → is_enclosed place e ≡ false
+pub relation_tokens : (place : OperandPlace) (e : Expr) (op : Relop) (a b : Operand) → e ≡ related op a b → is_enclosed place e ≡ false
     → spelling_in_reverse place e ≡ operand_token (right_operand e) ∷ token (Relation op) (relation_text op) ∷ operand_token (left_operand e) ∷ []
 relation_tokens place e op a b is h =
     bare_relation place e op a b is h

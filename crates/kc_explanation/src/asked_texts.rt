@@ -7,13 +7,14 @@ ghost use Rattle.kc_reasons_model.specs.Reasons.{name_of_symbol, value_text};
 ghost use Rattle.kc_explanation.specs.Asked.{is_by_user, outcome_text, why_text, line_place, asked_value, asks_text};
 
 use super::explanation::name_of;
-use super::token_texts::{letter_of, push_text_of_kind};
+use super::token_texts::push_value_text;
 use super::words::hindrance_text;
 use itoa::Buffer;
 use kc_dotconfig_model::Strings;
-use kc_evaluation::Valuation;
-use kc_reasons::{Case, ChoiceCase, Hindrance, TextCase, TriCase};
-use kc_rules_model::{MemberLine, UserValue};
+use kc_evaluation::{Valuation, letter_of};
+use kc_minimal::push_spelled;
+use kc_reasons::{Case, ChoiceCase, Hindrance, TextCase, TriCase, is_given_y};
+use kc_rules_model::UserValue;
 use kc_tree::Sym;
 use kc_value::Kind;
 use std::alloc::AllocError;
@@ -76,8 +77,7 @@ pub fn push_value_of(
     requires there { s < length (valuation_tree under.now).symbols }
     ensures { OnOk result (out.new.items ≡ out.old.items ++ value_text strings (value_of_symbol (valuation_tree under.now) (valuation_values under.now) s)) }
 {
-    let seen = under.symbol(s);
-    push_text_of_kind(out, strings, seen.kind, seen.text)
+    push_value_text(out, strings, &under.symbol(s))
 }
 
 /// Appends what became of an assigned value that nothing hinders.
@@ -100,15 +100,6 @@ pub fn push_line_place(out: &mut Vec<u8>, path: &str, number: usize) -> Result<(
     out.extend_from_slice(b":")?;
     out.extend_from_slice(digits.format(number).as_bytes())?;
     Ok(())
-}
-
-/// Whether some assignments give a member `y`.
-fn gives_y(lines: &[MemberLine], s: Sym) -> bool
-    ensures { result ≡ is_given_y lines.now s }
-{
-    lines
-        .iter()
-        .any(|line| line.member.number() == s.number() && line.is_y)
 }
 
 /// Appends the letter of a member that is asked to be selected, or else not to be.
@@ -140,6 +131,7 @@ fn push_asked_member(
 }
 
 /// Appends what a user value asks of symbol `s` of this type. An `Err` means out of memory.
+#[tactic(auto, using(crate::proofs::Spellings::spelled_is))]
 pub fn push_asked_value(
     out: &mut Vec<u8>,
     under: &Valuation<'_>,
@@ -152,9 +144,9 @@ pub fn push_asked_value(
 {
     match user {
         UserValue::Tri(t) => out.extend_from_slice(letter_of(*t).as_bytes()),
-        UserValue::Text(text) => push_text_of_kind(out, strings, kind, text.as_str()),
+        UserValue::Text(text) => push_spelled(out, strings, kind, text.as_str()),
         UserValue::Member(m) => push_asked_member(out, under, s, *m),
-        UserValue::Lines(lines) => push_letter_of(out, gives_y(lines.as_slice(), s)),
+        UserValue::Lines(lines) => push_letter_of(out, is_given_y(lines.as_slice(), s)),
     }
 }
 

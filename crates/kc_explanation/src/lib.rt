@@ -2,6 +2,7 @@
 #![tactic(auto)]
 
 mod asked_texts;
+mod context;
 mod explanation;
 mod located_explanation;
 mod located_texts;
@@ -13,12 +14,12 @@ mod words;
 pub use asked_texts::{
     push_asked_value, push_asks, push_line_place, push_name, push_outcome, push_value_of, push_why,
 };
-pub use explanation::{is_without_prompt, name_of, push_explanation};
+pub use explanation::{is_without_prompt, name_of};
+pub use kc_evaluation::letter_of;
 pub use located_explanation::{
-    ReasonPlaces, place_at, push_located_details, push_located_explanation,
-    push_located_first_line, push_located_unmet,
+    ReasonPlaces, place_at, push_alternatives, push_explanation, push_located_alternatives,
+    push_located_details, push_located_explanation, push_located_first_line, push_located_unmet,
 };
-pub use located_texts::{path_of, push_located_alternatives, push_tree_place};
-pub use part_texts::push_alternatives;
+pub use located_texts::{path_of, push_tree_place};
 pub use spelling::{SpelledToken, spelled_tokens};
-pub use token_texts::{letter_of, push_expression};
+pub use token_texts::push_expression;

@@ -1,25 +1,30 @@
-//! The text that explains a symbol's value, with the places of lines.
-ghost use Rattle.std.specs.Prelude.{◌≡◌, ◌<◌, ◌++◌, ◌∷◌, ◌&&◌, [], ℕ, length, map, slice_get, option_map, codes, OnOk, Some, if◌then◌else◌};
-ghost use Rattle.kc_tree.specs.between.Views.{reverse_dependency_view};
+//! The text that explains a symbol's value, with the places of lines or without.
+ghost use Rattle.std.specs.Prelude.{◌≡◌, ◌<◌, ◌++◌, ◌∷◌, ◌&&◌, [], ℕ, length, map, slice_get, option_map, codes, All, OnOk, Some};
+ghost use Rattle.kc_tree.specs.between.Views.{reverse_dependency_view, symbol_view, SymbolFits};
 ghost use Rattle.kc_dependencies.specs.checker.StoredRules.{AreReverseDependencies};
 ghost use Rattle.kc_evaluation.specs.checker.ValuationView.{valuation_tree, valuation_exprs, valuation_values};
 ghost use Rattle.kc_rules_model.specs.SymbolValues.{environment};
+ghost use Rattle.kc_reasons.specs.between.Parts.{alternatives_view, AreThere};
 ghost use Rattle.kc_reasons.specs.between.ReasonsView.{reasons_view};
 ghost use Rattle.kc_symbol_lines.specs.between.LinesView.{position_view, symbol_lines_view};
 ghost use Rattle.kc_located_reasons.specs.between.PartsView.{located_alternatives_view, ArePartsThere};
-ghost use Rattle.kc_explanation.specs.Explained.{case_text, chosen_text};
-ghost use Rattle.kc_explanation.specs.Located.{place_in_parentheses, located_first_line, located_needs_lines, located_forcing_line, located_forcing_lines, located_alternative_lines, located_details_at, located_explained_at, located_unmet_at};
+ghost use Rattle.kc_explanation.specs.Explained.{case_text, chosen_text, alternative_lines, explained_at};
+ghost use Rattle.kc_explanation.specs.Located.{place_in_parentheses, located_first_line, located_forcing_line, located_forcing_lines, located_alternative_lines, located_details_at, located_explained_at, located_unmet_at};
+ghost use Rattle.kc_explanation.specs.checker.Contexts.{exprs_of, tree_of, values_of};
+ghost use Rattle.kc_explanation.specs.checker.PartLines.{needed_lines, forces_lines, detail_lines};
 ghost use Rattle.kc_explanation.specs.between.ReasonPlacesView.{places_view};
 
+use super::context::Context;
 use super::explanation::{is_without_prompt, name_of, push_case, push_chosen, push_hindrance_line};
-use super::located_texts::{push_located_alternatives, push_place};
-use super::token_texts::{push_text_of_kind, push_value};
+use super::located_texts::push_place_if;
+use super::part_texts::{PartText, push_part_lines};
+use super::token_texts::{push_value, push_value_text};
 use kc_dotconfig_model::Strings;
 use kc_evaluation::Valuation;
 use kc_located_reasons::LocatedPart;
-use kc_reasons::{Case, SymbolReasons};
+use kc_reasons::{Case, LowPart, SymbolReasons};
 use kc_symbol_lines::{Position, SymbolLines};
-use kc_tree::{ReverseDependency, Sym};
+use kc_tree::{ReverseDependency, Sym, Symbol};
 use kc_value::Text;
 use std::alloc::{AllocError, Global};
 
@@ -31,17 +36,7 @@ pub struct ReasonPlaces {
     pub unmet: Vec<Vec<LocatedPart>>,
 }
 
-/// Appends a place in parentheses, if there is one.
-fn push_place_if(out: &mut Vec<u8>, paths: &[Text], at: Option<Position>) -> Result<(), AllocError>
-    ensures { OnOk result (out.new.items ≡ out.old.items ++ place_in_parentheses paths.now (option_map position_view at)) }
-{
-    match at {
-        None => out.extend_from_slice(b""),
-        Some(at) => push_place(out, paths, at),
-    }
-}
-
-/// Appends what gives a value, and where, up to the end of the line.
+/// Appends what gives a value, and where, if there is a place, up to the end of the line.
 fn push_given(
     out: &mut Vec<u8>,
     under: &Valuation<'_>,
@@ -59,8 +54,8 @@ fn push_given(
     Ok(())
 }
 
-/// Appends the first line of the text that explains symbol `s`: its value and what gives it, and where. `paths` has those of the tree's
-/// files in the order of their numbers. An `Err` means out of memory.
+/// Appends the first line of the text that explains symbol `s`: its value and what gives it, and where, if there is a place. `paths`
+/// has those of the tree's files in the order of their numbers. An `Err` means out of memory.
 pub fn push_located_first_line(
     out: &mut Vec<u8>,
     under: &Valuation<'_>,
@@ -74,35 +69,11 @@ pub fn push_located_first_line(
     requires there { s < length (valuation_tree under.now).symbols }
     ensures { OnOk result (out.new.items ≡ out.old.items ++ located_first_line strings paths.now (valuation_tree under.now) (valuation_values under.now) s chosen case (option_map position_view at)) }
 {
-    let seen = under.symbol(s);
     out.extend_from_slice(name_of(under, s).as_bytes())?;
     out.extend_from_slice(b"=")?;
-    push_text_of_kind(out, strings, seen.kind, seen.text)?;
+    push_value_text(out, strings, &under.symbol(s))?;
     out.extend_from_slice(b": ")?;
     push_given(out, under, paths, chosen, case, at)?;
-    Ok(())
-}
-
-/// Appends a line for a symbol that selects or implies, and where.
-fn push_located_forcing_line(
-    out: &mut Vec<u8>,
-    under: &Valuation<'_>,
-    strings: Strings,
-    paths: &[Text],
-    word: &str,
-    force: ReverseDependency,
-    at: Option<Position>,
-) -> Result<(), AllocError>
-    requires by { force.by < length (valuation_tree under.now).symbols }
-    ensures { OnOk result (out.new.items ≡ out.old.items ++ located_forcing_line strings paths.now (valuation_tree under.now) (valuation_values under.now) word.now (Some (reverse_dependency_view (valuation_exprs under.now) force)) (option_map position_view at)) }
-{
-    let seen = under.symbol(force.by);
-    out.extend_from_slice(b"  ")?;
-    out.extend_from_slice(word.as_bytes())?;
-    out.extend_from_slice(name_of(under, force.by).as_bytes())?;
-    push_value(out, strings, &seen)?;
-    push_place_if(out, paths, at)?;
-    out.extend_from_slice(b"\n")?;
     Ok(())
 }
 
@@ -116,66 +87,233 @@ pub fn place_at(places: &[Position], number: usize) -> Option<Position>
     }
 }
 
-/// Appends a line for the select or imply with a number, and where, if there is one.
-fn push_located_numbered_line(
+/// The selects or the implies of a symbol, with the word before each of their lines, and their places, if these are told.
+#[derive(Clone, Copy)]
+struct Forces<'a> {
+    word: &'a str,
+    all: &'a [ReverseDependency],
+    places: &'a [Position],
+}
+
+/// Appends a line for a symbol that selects or implies, and where, if there is a place.
+fn push_forcing_line(
     out: &mut Vec<u8>,
-    under: &Valuation<'_>,
-    strings: Strings,
-    paths: &[Text],
+    by: &Context<'_>,
     word: &str,
-    all: &[ReverseDependency],
-    places: &[Position],
+    force: ReverseDependency,
+    at: Option<Position>,
+) -> Result<(), AllocError>
+    requires by { force.by < length (tree_of by.now).symbols }
+    ensures { OnOk result (out.new.items ≡ out.old.items ++ located_forcing_line by.now.strings by.now.paths.now (tree_of by.now) (values_of by.now) word.now (Some (reverse_dependency_view (exprs_of by.now) force)) (option_map position_view at)) }
+{
+    let seen = by.under.symbol(force.by);
+    out.extend_from_slice(b"  ")?;
+    out.extend_from_slice(word.as_bytes())?;
+    out.extend_from_slice(name_of(by.under, force.by).as_bytes())?;
+    push_value(out, by, &seen)?;
+    push_place_if(out, by.paths, at)?;
+    out.extend_from_slice(b"\n")?;
+    Ok(())
+}
+
+/// Appends a line for the select or imply with a number, if there is one, and where, if it has a place.
+fn push_numbered_line(
+    out: &mut Vec<u8>,
+    by: &Context<'_>,
+    forces: &Forces<'_>,
     number: usize,
 ) -> Result<(), AllocError>
-    requires fits { AreReverseDependencies (valuation_exprs under.now) (valuation_tree under.now) all.now }
-    ensures { OnOk result (out.new.items ≡ out.old.items ++ located_forcing_line strings paths.now (valuation_tree under.now) (valuation_values under.now) word.now (slice_get (map (reverse_dependency_view (valuation_exprs under.now)) all.now) number) (slice_get (map position_view places.now) number)) }
+    requires fits { AreReverseDependencies (exprs_of by.now) (tree_of by.now) forces.now.all.now }
+    ensures { OnOk result (out.new.items ≡ out.old.items ++ located_forcing_line by.now.strings by.now.paths.now (tree_of by.now) (values_of by.now) forces.now.word.now (slice_get (map (reverse_dependency_view (exprs_of by.now)) forces.now.all.now) number) (slice_get (map position_view forces.now.places.now) number)) }
 {
-    if number < all.len() {
-        let at = place_at(places, number);
-        push_located_forcing_line(out, under, strings, paths, word, all[number], at)
+    if number < forces.all.len() {
+        let at = place_at(forces.places, number);
+        push_forcing_line(out, by, forces.word, forces.all[number], at)
     } else {
         out.extend_from_slice(b"")
     }
 }
 
-/// Appends a line for each of the selects or implies with these numbers, and where.
-fn push_located_forcing_lines(
+/// Appends a line for each of the selects or implies with these numbers.
+fn push_forcing_lines(
     out: &mut Vec<u8>,
-    under: &Valuation<'_>,
-    strings: Strings,
-    paths: &[Text],
-    word: &str,
-    all: &[ReverseDependency],
-    places: &[Position],
+    by: &Context<'_>,
+    forces: &Forces<'_>,
     numbers: &[usize],
 ) -> Result<(), AllocError>
-    requires fits { AreReverseDependencies (valuation_exprs under.now) (valuation_tree under.now) all.now }
-    ensures { OnOk result (out.new.items ≡ out.old.items ++ located_forcing_lines strings paths.now (valuation_tree under.now) (valuation_values under.now) word.now (map (reverse_dependency_view (valuation_exprs under.now)) all.now) (map position_view places.now) numbers.now) }
+    requires fits { AreReverseDependencies (exprs_of by.now) (tree_of by.now) forces.now.all.now }
+    ensures { OnOk result (out.new.items ≡ out.old.items ++ located_forcing_lines by.now.strings by.now.paths.now (tree_of by.now) (values_of by.now) forces.now.word.now (map (reverse_dependency_view (exprs_of by.now)) forces.now.all.now) (map position_view forces.now.places.now) numbers.now) }
 {
     for number in numbers {
-        push_located_numbered_line(out, under, strings, paths, word, all, places, *number)?;
+        push_numbered_line(out, by, forces, *number)?;
     }
     Ok(())
 }
 
-/// Appends what the prompts need, and where, if there is one.
-fn push_located_needs(
+/// Appends a line for each of the selects of a symbol with these numbers, and where, as far as places are told.
+fn push_selects(
+    out: &mut Vec<u8>,
+    by: &Context<'_>,
+    symbol: &Symbol<'_>,
+    selectors: &[Position],
+    selected_by: &[usize],
+) -> Result<(), AllocError>
+    requires fits { SymbolFits (exprs_of by.now) (length (tree_of by.now).symbols) symbol.now }
+    ensures { OnOk result (out.new.items ≡ out.old.items ++ located_forcing_lines by.now.strings by.now.paths.now (tree_of by.now) (values_of by.now) (codes "selected by ") (symbol_view (exprs_of by.now) symbol.now).selectors (map position_view selectors.now) selected_by.now) }
+{
+    let selects = &Forces {
+        word: "selected by ",
+        all: symbol.selectors,
+        places: selectors,
+    };
+    push_forcing_lines(out, by, selects, selected_by)
+}
+
+/// Appends a line for each select and imply of a symbol that is among its reasons, and where, as far as places are told.
+fn push_forces(
+    out: &mut Vec<u8>,
+    by: &Context<'_>,
+    symbol: &Symbol<'_>,
+    reasons: &SymbolReasons,
+    selectors: &[Position],
+    impliers: &[Position],
+) -> Result<(), AllocError>
+    requires fits { SymbolFits (exprs_of by.now) (length (tree_of by.now).symbols) symbol.now }
+    ensures { OnOk result (out.new.items ≡ out.old.items ++ forces_lines by.now (symbol_view (exprs_of by.now) symbol.now) (map position_view selectors.now) (map position_view impliers.now) reasons.now.selected_by.items reasons.now.implied_by.items) }
+{
+    push_selects(out, by, symbol, selectors, &reasons.selected_by)?;
+    let implies = &Forces {
+        word: "implied by ",
+        all: symbol.impliers,
+        places: impliers,
+    };
+    push_forcing_lines(out, by, implies, &reasons.implied_by)
+}
+
+/// Appends what the prompts need, if there is one.
+fn push_needs<P: PartText>(
+    out: &mut Vec<u8>,
+    by: &Context<'_>,
+    without_prompt: bool,
+    needs: &[Vec<P>],
+) -> Result<(), AllocError>
+    requires { All (λ v. All (P.is_there (exprs_of by.now)) v.items) needs.now }
+    ensures { OnOk result (out.new.items ≡ out.old.items ++ needed_lines without_prompt (map (λ v. map (P.part_text by.now) v.items) needs.now)) }
+{
+    if without_prompt {
+        out.extend_from_slice(b"  it has no prompt\n")
+    } else {
+        push_part_lines(out, by, b"needs ", needs)
+    }
+}
+
+/// Appends what comes after a symbol's value and what was asked: what its prompts need, what selects and implies it, and what is unmet.
+fn push_details<P: PartText>(
+    out: &mut Vec<u8>,
+    by: &Context<'_>,
+    symbol: &Symbol<'_>,
+    reasons: &SymbolReasons,
+    needs: &[Vec<P>],
+    unmet: &[Vec<P>],
+    selectors: &[Position],
+    impliers: &[Position],
+) -> Result<(), AllocError>
+    requires fits { SymbolFits (exprs_of by.now) (length (tree_of by.now).symbols) symbol.now }
+    requires needs { All (λ v. All (P.is_there (exprs_of by.now)) v.items) needs.now }
+    requires unmet { All (λ v. All (P.is_there (exprs_of by.now)) v.items) unmet.now }
+    ensures { OnOk result (out.new.items ≡ out.old.items ++ detail_lines by.now (symbol_view (exprs_of by.now) symbol.now) reasons.now.hindrance (map (λ v. map (P.part_text by.now) v.items) needs.now) (map position_view selectors.now) (map position_view impliers.now) reasons.now.selected_by.items reasons.now.implied_by.items (map (λ v. map (P.part_text by.now) v.items) unmet.now)) }
+{
+    push_needs(out, by, is_without_prompt(reasons.hindrance, symbol), needs)?;
+    push_forces(out, by, symbol, reasons, selectors, impliers)?;
+    push_part_lines(out, by, b"unmet: ", unmet)
+}
+
+/// Appends a line for each alternative: the first begins with a word, the others with `or`. An `Err` means out of memory.
+pub fn push_alternatives(
+    alloc: Global,
+    out: &mut Vec<u8>,
+    under: &Valuation<'_>,
+    strings: Strings,
+    word: &[u8],
+    lists: &[Vec<LowPart>],
+) -> Result<(), AllocError>
+    requires there { AreThere (valuation_exprs under.now) lists.now }
+    ensures { OnOk result (out.new.items ≡ out.old.items ++ alternative_lines strings (environment (valuation_tree under.now) (valuation_values under.now)) word.now (alternatives_view (valuation_exprs under.now) lists.now)) }
+{
+    let by = &Context {
+        alloc,
+        under,
+        strings,
+        paths: &[],
+    };
+    push_part_lines(out, by, word, lists)
+}
+
+/// Appends a line for each alternative, each part with its place: the first begins with a word, the others with `or`. `paths` has
+/// those of the tree's files in the order of their numbers. An `Err` means out of memory.
+pub fn push_located_alternatives(
     alloc: Global,
     out: &mut Vec<u8>,
     under: &Valuation<'_>,
     strings: Strings,
     paths: &[Text],
-    without_prompt: bool,
-    needs: &[Vec<LocatedPart>],
+    word: &[u8],
+    lists: &[Vec<LocatedPart>],
 ) -> Result<(), AllocError>
-    requires there { ArePartsThere (valuation_exprs under.now) needs.now }
-    ensures { OnOk result (out.new.items ≡ out.old.items ++ located_needs_lines strings (environment (valuation_tree under.now) (valuation_values under.now)) paths.now without_prompt (located_alternatives_view (valuation_exprs under.now) needs.now)) }
+    requires there { ArePartsThere (valuation_exprs under.now) lists.now }
+    ensures { OnOk result (out.new.items ≡ out.old.items ++ located_alternative_lines strings (environment (valuation_tree under.now) (valuation_values under.now)) paths.now word.now (located_alternatives_view (valuation_exprs under.now) lists.now)) }
 {
-    if without_prompt {
-        out.extend_from_slice(b"  it has no prompt\n")
-    } else {
-        push_located_alternatives(alloc, out, under, strings, paths, b"needs ", needs)
-    }
+    let by = &Context {
+        alloc,
+        under,
+        strings,
+        paths,
+    };
+    push_part_lines(out, by, word, lists)
+}
+
+/// Appends the text that explains the value of symbol `s`, by its reasons. An `Err` means out of memory.
+pub fn push_explanation(
+    alloc: Global,
+    out: &mut Vec<u8>,
+    under: &Valuation<'_>,
+    strings: Strings,
+    s: Sym,
+    reasons: &SymbolReasons,
+) -> Result<(), AllocError>
+    requires there { s < length (valuation_tree under.now).symbols }
+    requires needs { AreThere (valuation_exprs under.now) reasons.now.needs.items }
+    requires unmet { AreThere (valuation_exprs under.now) reasons.now.unmet.items }
+    ensures { OnOk result (out.new.items ≡ out.old.items ++ explained_at strings (valuation_tree under.now) (valuation_values under.now) s (reasons_view (valuation_exprs under.now) reasons.now)) }
+{
+    let by = &Context {
+        alloc,
+        under,
+        strings,
+        paths: &[],
+    };
+    let symbol = &under.rules.tree.symbol(s);
+    push_located_first_line(
+        out,
+        under,
+        strings,
+        &[],
+        s,
+        reasons.chosen,
+        reasons.case,
+        None,
+    )?;
+    push_hindrance_line(out, reasons.hindrance)?;
+    push_details(
+        out,
+        by,
+        symbol,
+        reasons,
+        &reasons.needs,
+        &reasons.unmet,
+        &[],
+        &[],
+    )
 }
 
 /// Appends what comes in the text that explains symbol `s` after its value and what was asked: what its prompts need, what selects and
@@ -197,37 +335,23 @@ pub fn push_located_details(
     requires unmet { ArePartsThere (valuation_exprs under.now) places.now.unmet.items }
     ensures { OnOk result (out.new.items ≡ out.old.items ++ located_details_at strings paths.now (valuation_tree under.now) (valuation_values under.now) s (symbol_lines_view (valuation_exprs under.now) lines.now) (reasons_view (valuation_exprs under.now) reasons.now) (places_view (valuation_exprs under.now) places.now)) }
 {
-    let symbol = &under.rules.tree.symbol(s);
-    push_located_needs(
+    let by = &Context {
         alloc,
-        out,
         under,
         strings,
         paths,
-        is_without_prompt(reasons.hindrance, symbol),
+    };
+    let symbol = &under.rules.tree.symbol(s);
+    push_details(
+        out,
+        by,
+        symbol,
+        reasons,
         &places.needs,
-    )?;
-    push_located_forcing_lines(
-        out,
-        under,
-        strings,
-        paths,
-        "selected by ",
-        symbol.selectors,
+        &places.unmet,
         &lines.selectors,
-        &reasons.selected_by,
-    )?;
-    push_located_forcing_lines(
-        out,
-        under,
-        strings,
-        paths,
-        "implied by ",
-        symbol.impliers,
         &lines.impliers,
-        &reasons.implied_by,
-    )?;
-    push_located_alternatives(alloc, out, under, strings, paths, b"unmet: ", &places.unmet)
+    )
 }
 
 /// Appends of symbol `s`, which is selected against its dependencies, what selects it, by the numbers of the selects that decide, and
@@ -247,18 +371,15 @@ pub fn push_located_unmet(
     requires unmet { ArePartsThere (valuation_exprs under.now) unmet.now }
     ensures { OnOk result (out.new.items ≡ out.old.items ++ located_unmet_at strings paths.now (valuation_tree under.now) (valuation_values under.now) s (map position_view selectors.now) selected_by.now (located_alternatives_view (valuation_exprs under.now) unmet.now)) }
 {
-    let symbol = &under.rules.tree.symbol(s);
-    push_located_forcing_lines(
-        out,
+    let by = &Context {
+        alloc,
         under,
         strings,
         paths,
-        "selected by ",
-        symbol.selectors,
-        selectors,
-        selected_by,
-    )?;
-    push_located_alternatives(alloc, out, under, strings, paths, b"unmet: ", unmet)
+    };
+    let symbol = &under.rules.tree.symbol(s);
+    push_selects(out, by, symbol, selectors, selected_by)?;
+    push_part_lines(out, by, b"unmet: ", unmet)
 }
 
 /// Appends the text that explains the value of symbol `s`, by its reasons, its lines and the places of what it lacks. `paths` has

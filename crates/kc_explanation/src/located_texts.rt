@@ -1,20 +1,18 @@
-//! The text of what conditions lack, with the places of lines.
-ghost use Rattle.std.specs.Prelude.{◌≡◌, ◌<◌, ◌++◌, [], length, All, OnOk, slice_index_or};
-ghost use Rattle.kc_evaluation.specs.checker.ValuationView.{valuation_tree, valuation_exprs, valuation_values};
-ghost use Rattle.kc_rules_model.specs.SymbolValues.{environment};
+//! The text of places, and of what conditions lack with its places.
+ghost use Rattle.std.specs.Prelude.{◌≡◌, ◌++◌, [], OnOk, option_map, slice_index_or};
 ghost use Rattle.kc_symbol_lines.specs.between.LinesView.{position_view};
-ghost use Rattle.kc_located_reasons.specs.between.PartsView.{located_part_view, located_parts_view, located_alternatives_view, IsPartThere, ArePartsThere};
-ghost use Rattle.kc_explanation.specs.Explained.{in_parentheses, inner_line};
-ghost use Rattle.kc_explanation.specs.Located.{place_text, located_part_text, located_parts_text, located_alternative_lines};
+ghost use Rattle.kc_located_reasons.specs.between.PartsView.{located_part_view, IsPartThere};
+ghost use Rattle.kc_explanation.specs.Explained.{in_parentheses};
+ghost use Rattle.kc_explanation.specs.Located.{place_text, place_in_parentheses, located_part_text};
+ghost use Rattle.kc_explanation.specs.checker.Contexts.{exprs_of, names_of};
 
-use super::part_texts::push_low_part;
+use super::context::Context;
+use super::part_texts::PartText;
 use itoa::Buffer;
-use kc_dotconfig_model::Strings;
-use kc_evaluation::Valuation;
 use kc_located_reasons::LocatedPart;
 use kc_symbol_lines::Position;
 use kc_value::Text;
-use std::alloc::{AllocError, Global};
+use std::alloc::AllocError;
 
 /// The path of a file of the tree by its number; empty where there is none.
 pub fn path_of(paths: &[Text], file: u32) -> &str
@@ -27,7 +25,7 @@ pub fn path_of(paths: &[Text], file: u32) -> &str
 }
 
 /// Appends a place in parentheses, by the paths of the tree's files in the order of their numbers.
-pub(crate) fn push_place(out: &mut Vec<u8>, paths: &[Text], at: Position) -> Result<(), AllocError>
+fn push_place(out: &mut Vec<u8>, paths: &[Text], at: Position) -> Result<(), AllocError>
     ensures { OnOk result (out.new.items ≡ out.old.items ++ in_parentheses (place_text paths.now (position_view at))) }
 {
     out.extend_from_slice(b" (")?;
@@ -48,81 +46,27 @@ pub fn push_tree_place(out: &mut Vec<u8>, paths: &[Text], at: Position) -> Resul
     Ok(())
 }
 
-/// Appends a part that is too low, and its place.
-fn push_located_part(
-    alloc: Global,
+/// Appends a place in parentheses, if there is one.
+pub(crate) fn push_place_if(
     out: &mut Vec<u8>,
-    under: &Valuation<'_>,
-    strings: Strings,
     paths: &[Text],
-    part: LocatedPart,
+    at: Option<Position>,
 ) -> Result<(), AllocError>
-    requires there { IsPartThere (valuation_exprs under.now) part }
-    ensures { OnOk result (out.new.items ≡ out.old.items ++ located_part_text strings (environment (valuation_tree under.now) (valuation_values under.now)) paths.now (located_part_view (valuation_exprs under.now) part)) }
+    ensures { OnOk result (out.new.items ≡ out.old.items ++ place_in_parentheses paths.now (option_map position_view at)) }
 {
-    push_low_part(alloc, out, under, strings, part.part)?;
-    push_place(out, paths, part.at)
-}
-
-/// Appends a word and parts that are all needed, each with its place.
-fn push_located_parts(
-    alloc: Global,
-    out: &mut Vec<u8>,
-    under: &Valuation<'_>,
-    strings: Strings,
-    paths: &[Text],
-    word: &[u8],
-    parts: &[LocatedPart],
-) -> Result<(), AllocError>
-    requires there { All (IsPartThere (valuation_exprs under.now)) parts.now }
-    ensures { OnOk result (out.new.items ≡ out.old.items ++ located_parts_text strings (environment (valuation_tree under.now) (valuation_values under.now)) paths.now word.now (located_parts_view (valuation_exprs under.now) parts.now)) }
-{
-    let mut lead = word;
-    for part in parts {
-        out.extend_from_slice(lead)?;
-        push_located_part(alloc, out, under, strings, paths, *part)?;
-        lead = b" and ";
+    match at {
+        None => out.extend_from_slice(b""),
+        Some(at) => push_place(out, paths, at),
     }
-    Ok(())
 }
 
-/// Appends a line of parts that are all needed, each with its place.
-fn push_located_alternative(
-    alloc: Global,
-    out: &mut Vec<u8>,
-    under: &Valuation<'_>,
-    strings: Strings,
-    paths: &[Text],
-    word: &[u8],
-    parts: &[LocatedPart],
-) -> Result<(), AllocError>
-    requires there { All (IsPartThere (valuation_exprs under.now)) parts.now }
-    ensures { OnOk result (out.new.items ≡ out.old.items ++ inner_line (located_parts_text strings (environment (valuation_tree under.now) (valuation_values under.now)) paths.now word.now (located_parts_view (valuation_exprs under.now) parts.now))) }
-{
-    out.extend_from_slice(b"  ")?;
-    push_located_parts(alloc, out, under, strings, paths, word, parts)?;
-    out.extend_from_slice(b"\n")?;
-    Ok(())
-}
+impl PartText for LocatedPart {
+    ghost is_there = { IsPartThere };
 
-/// Appends a line for each alternative, each part with its place: the first begins with a word, the others with `or`. `paths` has
-/// those of the tree's files in the order of their numbers. An `Err` means out of memory.
-pub fn push_located_alternatives(
-    alloc: Global,
-    out: &mut Vec<u8>,
-    under: &Valuation<'_>,
-    strings: Strings,
-    paths: &[Text],
-    word: &[u8],
-    lists: &[Vec<LocatedPart>],
-) -> Result<(), AllocError>
-    requires there { ArePartsThere (valuation_exprs under.now) lists.now }
-    ensures { OnOk result (out.new.items ≡ out.old.items ++ located_alternative_lines strings (environment (valuation_tree under.now) (valuation_values under.now)) paths.now word.now (located_alternatives_view (valuation_exprs under.now) lists.now)) }
-{
-    let mut lead = word;
-    for list in lists {
-        push_located_alternative(alloc, out, under, strings, paths, lead, list)?;
-        lead = b"or ";
+    ghost part_text = { λ by p. located_part_text by.strings (names_of by) by.paths.now (located_part_view (exprs_of by) p) };
+
+    fn push_part(&self, out: &mut Vec<u8>, by: &Context<'_>) -> Result<(), AllocError> {
+        self.part.push_part(out, by)?;
+        push_place(out, by.paths, self.at)
     }
-    Ok(())
 }

@@ -28,7 +28,7 @@ pub enum SpelledToken {
 
 /// Where an expression stands, by which it has parentheses or not.
 #[derive(Clone, Copy)]
-enum Place {
+enum OperandPlace {
     /// As a whole, or at the left of `||`: anything.
     InOr,
     /// At the right of `||`, or at the left of `&&`: no `||`.
@@ -40,27 +40,27 @@ enum Place {
 }
 
 /// Whether an expression is spelled in parentheses at a place.
-fn is_enclosed(place: Place, parts: &ExprParts<'_>) -> bool
+fn is_enclosed(place: OperandPlace, parts: &ExprParts<'_>) -> bool
     ensures { (exprs : Exprs) → result ≡ is_enclosed place (expr_of_parts exprs parts.now) }
 {
     match parts {
         ExprParts::Related(_, _, _) => match place {
-            Place::BehindNot => true,
-            Place::InOr => false,
-            Place::InAnd => false,
-            Place::Factor => false,
+            OperandPlace::BehindNot => true,
+            OperandPlace::InOr => false,
+            OperandPlace::InAnd => false,
+            OperandPlace::Factor => false,
         },
         ExprParts::Both(_, _) => match place {
-            Place::Factor => true,
-            Place::BehindNot => true,
-            Place::InOr => false,
-            Place::InAnd => false,
+            OperandPlace::Factor => true,
+            OperandPlace::BehindNot => true,
+            OperandPlace::InOr => false,
+            OperandPlace::InAnd => false,
         },
         ExprParts::Either(_, _) => match place {
-            Place::InAnd => true,
-            Place::Factor => true,
-            Place::BehindNot => true,
-            Place::InOr => false,
+            OperandPlace::InAnd => true,
+            OperandPlace::Factor => true,
+            OperandPlace::BehindNot => true,
+            OperandPlace::InOr => false,
         },
         ExprParts::Alone(_) => false,
         ExprParts::Negated(_) => false,
@@ -69,14 +69,14 @@ fn is_enclosed(place: Place, parts: &ExprParts<'_>) -> bool
 }
 
 /// Where an expression stands that stands in the place of another one at a place.
-fn past_shown(place: Place) -> Place
+fn past_shown(place: OperandPlace) -> OperandPlace
     ensures { result ≡ past_shown place }
 {
     match place {
-        Place::BehindNot => Place::Factor,
-        Place::InOr => Place::InOr,
-        Place::InAnd => Place::InAnd,
-        Place::Factor => Place::Factor,
+        OperandPlace::BehindNot => OperandPlace::Factor,
+        OperandPlace::InOr => OperandPlace::InOr,
+        OperandPlace::InAnd => OperandPlace::InAnd,
+        OperandPlace::Factor => OperandPlace::Factor,
     }
 }
 
@@ -104,7 +104,7 @@ fn push_relation(found: &mut Vec<SpelledToken>, op: Relop, id: ExprId) -> Result
 fn push_spelling(
     arena: &Arena,
     id: ExprId,
-    place: Place,
+    place: OperandPlace,
     found: &mut Vec<SpelledToken>,
 ) -> Result<(), AllocError>
     requires there { id < length arena.now.nodes }
@@ -117,27 +117,27 @@ fn push_spelling(
         let parts = arena.parts(at);
         if is_enclosed(here, &parts) {
             push_token(found, SpelledToken::Close)?;
-            push_spelling(arena, at, Place::InOr, found)?;
+            push_spelling(arena, at, OperandPlace::InOr, found)?;
             return push_token(found, SpelledToken::Open);
         }
         match parts {
             ExprParts::Alone(_) => return push_token(found, SpelledToken::Left(at)),
             ExprParts::Related(op, _, _) => return push_relation(found, op, at),
             ExprParts::Negated(part) => {
-                push_spelling(arena, part, Place::BehindNot, found)?;
+                push_spelling(arena, part, OperandPlace::BehindNot, found)?;
                 return push_token(found, SpelledToken::Not);
             }
             ExprParts::Both(left, right) => {
-                push_spelling(arena, right, Place::Factor, found)?;
+                push_spelling(arena, right, OperandPlace::Factor, found)?;
                 push_token(found, SpelledToken::And)?;
                 at = left;
-                here = Place::InAnd;
+                here = OperandPlace::InAnd;
             }
             ExprParts::Either(left, right) => {
-                push_spelling(arena, right, Place::InAnd, found)?;
+                push_spelling(arena, right, OperandPlace::InAnd, found)?;
                 push_token(found, SpelledToken::Or)?;
                 at = left;
-                here = Place::InOr;
+                here = OperandPlace::InOr;
             }
             ExprParts::Shown(part) => {
                 at = part;
@@ -158,7 +158,7 @@ pub fn spelled_tokens(
     ensures held { IfOk result (λ found. All (IsTokenOf arena.now) found.items) }
 {
     let mut found = Vec::new(alloc);
-    push_spelling(arena, id, Place::InOr, &mut found)?;
+    push_spelling(arena, id, OperandPlace::InOr, &mut found)?;
     found.reverse();
     Ok(found)
 }

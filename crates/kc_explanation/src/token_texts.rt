@@ -3,56 +3,51 @@ ghost use Rattle.std.specs.Prelude.{◌≡◌, ◌<◌, ◌++◌, ◌∷◌, ◌
 ghost use Rattle.kc_value.specs.Number.{loose_number};
 ghost use Rattle.kc_tokens.specs.TokenGrammar.{relation_text};
 ghost use Rattle.kc_tokens.specs.declared.token.TokenKind.TheVariants.{Relation as RelationKind};
-ghost use Rattle.kc_expr.specs.Expr.{Environment, constant, letter};
+ghost use Rattle.kc_expr.specs.Expr.{constant};
 ghost use Rattle.kc_expr.specs.Grammar.{letter_value, ors};
 ghost use Rattle.kc_expr.specs.Lookup.{symbol_value_of};
 ghost use Rattle.kc_expr.specs.between.Arena.{node_expr};
-ghost use Rattle.kc_expr.specs.between.ExprParts.{expr_of_parts, ArePartsOf};
 ghost use Rattle.kc_expr.specs.between.Operand.{operand_of_ref, HasKnownName};
 ghost use Rattle.kc_evaluation.specs.checker.ValuationView.{valuation_tree, valuation_exprs, valuation_values};
 ghost use Rattle.kc_rules_model.specs.SymbolValues.{environment};
 ghost use Rattle.kc_reasons_model.specs.Spelling.{operand_token, token_text, spelling};
-ghost use Rattle.kc_reasons_model.specs.Reasons.{text_of_kind, value_text, word_value, valued_token};
+ghost use Rattle.kc_reasons_model.specs.Reasons.{value_text, word_value, valued_token};
 ghost use Rattle.kc_explanation.specs.Explained.{in_parentheses, value_in_parentheses, token_with_value, spelled_with_values};
+ghost use Rattle.kc_explanation.specs.checker.Contexts.{exprs_of, names_of};
 ghost use Rattle.kc_explanation.specs.between.SpelledTokens.{left_operand, right_operand, lexeme_of, lexemes_of, IsTokenOf};
 
+use super::context::Context;
 use super::spelling::{SpelledToken, spelled_tokens};
 use kc_dotconfig_model::Strings;
-use kc_evaluation::Valuation;
+use kc_evaluation::{Valuation, letter_of};
 use kc_expr::{ExprId, ExprParts, Looked, Operand};
 use kc_minimal::push_spelled;
+use kc_reasons::parts_at;
 use kc_tokens::Relop;
-use kc_value::{Kind, Tri, loose_number_of, push_escaped};
+use kc_value::{Tri, loose_number_of, push_escaped};
 use std::alloc::{AllocError, Global};
 
-/// Appends a value as it is spelled in a configuration file.
-pub(crate) fn push_text_of_kind(
+/// Appends the value of a symbol as it is spelled in a configuration file.
+pub(crate) fn push_value_text(
     out: &mut Vec<u8>,
     strings: Strings,
-    kind: Kind,
-    text: &str,
+    seen: &Looked<'_>,
 ) -> Result<(), AllocError>
-    ensures { OnOk result (out.new.items ≡ out.old.items ++ text_of_kind strings kind text.now) }
+    ensures { OnOk result (out.new.items ≡ out.old.items ++ value_text strings (Some (symbol_value_of seen.now))) }
 {
-    match kind {
-        Kind::Text => push_spelled(out, strings, Kind::Text, text),
-        Kind::Bool => push_spelled(out, strings, Kind::Bool, text),
-        Kind::Tristate => push_spelled(out, strings, Kind::Tristate, text),
-        Kind::Int => push_spelled(out, strings, Kind::Int, text),
-        Kind::Hex => push_spelled(out, strings, Kind::Hex, text),
-    }
+    push_spelled(out, strings, seen.kind, seen.text)
 }
 
 /// Appends the value of a symbol in parentheses.
 pub(crate) fn push_value(
     out: &mut Vec<u8>,
-    strings: Strings,
+    by: &Context<'_>,
     seen: &Looked<'_>,
 ) -> Result<(), AllocError>
-    ensures { OnOk result (out.new.items ≡ out.old.items ++ in_parentheses (value_text strings (Some (symbol_value_of seen.now)))) }
+    ensures { OnOk result (out.new.items ≡ out.old.items ++ in_parentheses (value_text by.now.strings (Some (symbol_value_of seen.now)))) }
 {
     out.extend_from_slice(b" (")?;
-    push_text_of_kind(out, strings, seen.kind, seen.text)?;
+    push_value_text(out, by.strings, seen)?;
     out.extend_from_slice(b")")?;
     Ok(())
 }
@@ -91,115 +86,58 @@ fn value_of_name<'a>(under: &Valuation<'a>, name: &str) -> Option<Looked<'a>>
 }
 
 /// Appends the value of a name in parentheses; nothing for a constant, and for a number that is no name.
-fn push_value_of_word(
-    out: &mut Vec<u8>,
-    under: &Valuation<'_>,
-    strings: Strings,
-    word: &str,
-) -> Result<(), AllocError>
-    ensures { OnOk result (out.new.items ≡ out.old.items ++ value_in_parentheses (word_value strings word.now (environment (valuation_tree under.now) (valuation_values under.now) word.now))) }
+fn push_value_of_word(out: &mut Vec<u8>, by: &Context<'_>, word: &str) -> Result<(), AllocError>
+    ensures { OnOk result (out.new.items ≡ out.old.items ++ value_in_parentheses (word_value by.now.strings word.now (names_of by.now word.now))) }
 {
     if is_constant(word) {
         return out.extend_from_slice(b"");
     }
-    match value_of_name(under, word) {
+    match value_of_name(by.under, word) {
         None => push_undefined(out, word),
-        Some(seen) => push_value(out, strings, &seen),
-    }
-}
-
-/// The letter of a constant.
-pub fn letter_of(value: Tri) -> &'static str
-    ensures { result.now ≡ letter value }
-{
-    match value {
-        Tri::N => "n",
-        Tri::M => "m",
-        Tri::Y => "y",
+        Some(seen) => push_value(out, by, &seen),
     }
 }
 
 /// Appends a constant.
-fn push_constant(
-    out: &mut Vec<u8>,
-    under: &Valuation<'_>,
-    strings: Strings,
-    value: Tri,
-) -> Result<(), AllocError>
-    ensures { OnOk result (out.new.items ≡ out.old.items ++ token_with_value (valued_token strings (environment (valuation_tree under.now) (valuation_values under.now)) (operand_token (constant value)))) }
+fn push_constant(out: &mut Vec<u8>, by: &Context<'_>, value: Tri) -> Result<(), AllocError>
+    ensures { OnOk result (out.new.items ≡ out.old.items ++ token_with_value (valued_token by.now.strings (names_of by.now) (operand_token (constant value)))) }
 {
     let letter = letter_of(value);
     out.extend_from_slice(letter.as_bytes())?;
-    push_value_of_word(out, under, strings, letter)
+    push_value_of_word(out, by, letter)
 }
 
 /// Appends an operand, a name with its value.
-fn push_operand(
-    out: &mut Vec<u8>,
-    under: &Valuation<'_>,
-    strings: Strings,
-    operand: &Operand<'_>,
-) -> Result<(), AllocError>
-    requires known { HasKnownName (valuation_exprs under.now).names operand.now }
-    ensures { OnOk result (out.new.items ≡ out.old.items ++ token_with_value (valued_token strings (environment (valuation_tree under.now) (valuation_values under.now)) (operand_token (operand_of_ref (valuation_exprs under.now).names operand.now)))) }
+fn push_operand(out: &mut Vec<u8>, by: &Context<'_>, operand: Operand<'_>) -> Result<(), AllocError>
+    requires known { HasKnownName (exprs_of by.now).names operand }
+    ensures { OnOk result (out.new.items ≡ out.old.items ++ token_with_value (valued_token by.now.strings (names_of by.now) (operand_token (operand_of_ref (exprs_of by.now).names operand.entry)))) }
 {
     match operand {
-        Operand::Tri(t) => push_constant(out, under, strings, *t),
-        Operand::Quoted(text) => push_escaped(out, *text),
+        Operand::Tri(t) => push_constant(out, by, t),
+        Operand::Quoted(text) => push_escaped(out, text),
         Operand::Name(id) => {
-            let name = under.rules.tree.arena().name(*id);
+            let name = by.under.rules.tree.arena().name(id);
             out.extend_from_slice(name.as_bytes())?;
-            push_value_of_word(out, under, strings, name)
+            push_value_of_word(out, by, name)
         }
     }
 }
 
-/// What an expression of the tree is made of.
-fn parts_at<'a>(under: &Valuation<'a>, id: ExprId) -> ExprParts<'a>
+/// The left and the right operand of an expression; `n` where it has none.
+fn operands_at<'a>(under: &Valuation<'a>, id: ExprId) -> (Operand<'a>, Operand<'a>)
     requires there { id < length (valuation_exprs under.now).nodes }
-    ensures expr { node_expr (valuation_exprs under.now) id ≡ expr_of_parts (valuation_exprs under.now) result }
-    ensures within { ArePartsOf (valuation_exprs under.now) id result }
-{
-    under.rules.tree.arena().parts(id)
-}
-
-/// Appends the left operand of an expression, or `n`.
-fn push_left(
-    out: &mut Vec<u8>,
-    under: &Valuation<'_>,
-    strings: Strings,
-    id: ExprId,
-) -> Result<(), AllocError>
-    requires there { id < length (valuation_exprs under.now).nodes }
-    ensures { OnOk result (out.new.items ≡ out.old.items ++ token_with_value (valued_token strings (environment (valuation_tree under.now) (valuation_values under.now)) (operand_token (left_operand (node_expr (valuation_exprs under.now) id))))) }
+    ensures left { operand_of_ref (valuation_exprs under.now).names result.0 ≡ left_operand (node_expr (valuation_exprs under.now) id) }
+    ensures right { operand_of_ref (valuation_exprs under.now).names result.1 ≡ right_operand (node_expr (valuation_exprs under.now) id) }
+    ensures known_left { HasKnownName (valuation_exprs under.now).names result.0 }
+    ensures known_right { HasKnownName (valuation_exprs under.now).names result.1 }
 {
     match parts_at(under, id) {
-        ExprParts::Alone(a) => push_operand(out, under, strings, &a),
-        ExprParts::Related(_, a, _) => push_operand(out, under, strings, &a),
-        ExprParts::Negated(_) => push_constant(out, under, strings, Tri::N),
-        ExprParts::Both(_, _) => push_constant(out, under, strings, Tri::N),
-        ExprParts::Either(_, _) => push_constant(out, under, strings, Tri::N),
-        ExprParts::Shown(_) => push_constant(out, under, strings, Tri::N),
-    }
-}
-
-/// Appends the right operand of an expression, or `n`.
-fn push_right(
-    out: &mut Vec<u8>,
-    under: &Valuation<'_>,
-    strings: Strings,
-    id: ExprId,
-) -> Result<(), AllocError>
-    requires there { id < length (valuation_exprs under.now).nodes }
-    ensures { OnOk result (out.new.items ≡ out.old.items ++ token_with_value (valued_token strings (environment (valuation_tree under.now) (valuation_values under.now)) (operand_token (right_operand (node_expr (valuation_exprs under.now) id))))) }
-{
-    match parts_at(under, id) {
-        ExprParts::Related(_, _, b) => push_operand(out, under, strings, &b),
-        ExprParts::Alone(_) => push_constant(out, under, strings, Tri::N),
-        ExprParts::Negated(_) => push_constant(out, under, strings, Tri::N),
-        ExprParts::Both(_, _) => push_constant(out, under, strings, Tri::N),
-        ExprParts::Either(_, _) => push_constant(out, under, strings, Tri::N),
-        ExprParts::Shown(_) => push_constant(out, under, strings, Tri::N),
+        ExprParts::Alone(a) => (a, Operand::Tri(Tri::N)),
+        ExprParts::Related(_, a, b) => (a, b),
+        ExprParts::Negated(_) => (Operand::Tri(Tri::N), Operand::Tri(Tri::N)),
+        ExprParts::Both(_, _) => (Operand::Tri(Tri::N), Operand::Tri(Tri::N)),
+        ExprParts::Either(_, _) => (Operand::Tri(Tri::N), Operand::Tri(Tri::N)),
+        ExprParts::Shown(_) => (Operand::Tri(Tri::N), Operand::Tri(Tri::N)),
     }
 }
 
@@ -218,18 +156,13 @@ fn relation_words(op: Relop) -> &'static str
 }
 
 /// Appends a token, a name with its value.
-fn push_token_text(
-    out: &mut Vec<u8>,
-    under: &Valuation<'_>,
-    strings: Strings,
-    token: SpelledToken,
-) -> Result<(), AllocError>
-    requires there { IsTokenOf (valuation_exprs under.now) token }
-    ensures { OnOk result (out.new.items ≡ out.old.items ++ token_with_value (valued_token strings (environment (valuation_tree under.now) (valuation_values under.now)) (lexeme_of (valuation_exprs under.now) token))) }
+fn push_token(out: &mut Vec<u8>, by: &Context<'_>, token: SpelledToken) -> Result<(), AllocError>
+    requires there { IsTokenOf (exprs_of by.now) token }
+    ensures { OnOk result (out.new.items ≡ out.old.items ++ token_with_value (valued_token by.now.strings (names_of by.now) (lexeme_of (exprs_of by.now) token))) }
 {
     match token {
-        SpelledToken::Left(id) => push_left(out, under, strings, id),
-        SpelledToken::Right(id) => push_right(out, under, strings, id),
+        SpelledToken::Left(id) => push_operand(out, by, operands_at(by.under, id).0),
+        SpelledToken::Right(id) => push_operand(out, by, operands_at(by.under, id).1),
         SpelledToken::Relation(op) => out.extend_from_slice(relation_words(op).as_bytes()),
         SpelledToken::Not => out.extend_from_slice(b"!"),
         SpelledToken::And => out.extend_from_slice(b" && "),
@@ -240,32 +173,40 @@ fn push_token_text(
 }
 
 /// Appends some tokens.
-fn push_token_texts(
+fn push_tokens(
     out: &mut Vec<u8>,
-    under: &Valuation<'_>,
-    strings: Strings,
+    by: &Context<'_>,
     tokens: &[SpelledToken],
 ) -> Result<(), AllocError>
-    requires there { All (IsTokenOf (valuation_exprs under.now)) tokens.now }
-    ensures { OnOk result (out.new.items ≡ out.old.items ++ flat_map (λ t. token_with_value (valued_token strings (environment (valuation_tree under.now) (valuation_values under.now)) t)) (lexemes_of (valuation_exprs under.now) tokens.now)) }
+    requires there { All (IsTokenOf (exprs_of by.now)) tokens.now }
+    ensures { OnOk result (out.new.items ≡ out.old.items ++ flat_map (λ t. token_with_value (valued_token by.now.strings (names_of by.now) t)) (lexemes_of (exprs_of by.now) tokens.now)) }
 {
     for token in tokens {
-        push_token_text(out, under, strings, *token)?;
+        push_token(out, by, *token)?;
     }
     Ok(())
 }
 
 /// The tokens of an expression of the tree.
-fn tokens_at(
-    alloc: Global,
-    under: &Valuation<'_>,
-    id: ExprId,
-) -> Result<Vec<SpelledToken>, AllocError>
-    requires there { id < length (valuation_exprs under.now).nodes }
-    ensures ok { IfOk result (λ found. lexemes_of (valuation_exprs under.now) found.items ≡ spelling ors (node_expr (valuation_exprs under.now) id)) }
-    ensures held { IfOk result (λ found. All (IsTokenOf (valuation_exprs under.now)) found.items) }
+fn tokens_at(by: &Context<'_>, id: ExprId) -> Result<Vec<SpelledToken>, AllocError>
+    requires there { id < length (exprs_of by.now).nodes }
+    ensures ok { IfOk result (λ found. lexemes_of (exprs_of by.now) found.items ≡ spelling ors (node_expr (exprs_of by.now) id)) }
+    ensures held { IfOk result (λ found. All (IsTokenOf (exprs_of by.now)) found.items) }
 {
-    spelled_tokens(alloc, under.rules.tree.arena(), id)
+    spelled_tokens(by.alloc, by.under.rules.tree.arena(), id)
+}
+
+/// Appends an expression, each name with its value in parentheses.
+pub(crate) fn push_spelled_expression(
+    out: &mut Vec<u8>,
+    by: &Context<'_>,
+    id: ExprId,
+) -> Result<(), AllocError>
+    requires there { id < length (exprs_of by.now).nodes }
+    ensures { OnOk result (out.new.items ≡ out.old.items ++ spelled_with_values by.now.strings (names_of by.now) (node_expr (exprs_of by.now) id)) }
+{
+    let tokens = tokens_at(by, id)?;
+    push_tokens(out, by, &tokens)
 }
 
 /// Appends an expression, each name with its value in parentheses. An `Err` means out of memory.
@@ -279,6 +220,11 @@ pub fn push_expression(
     requires there { id < length (valuation_exprs under.now).nodes }
     ensures { OnOk result (out.new.items ≡ out.old.items ++ spelled_with_values strings (environment (valuation_tree under.now) (valuation_values under.now)) (node_expr (valuation_exprs under.now) id)) }
 {
-    let tokens = tokens_at(alloc, under, id)?;
-    push_token_texts(out, under, strings, &tokens)
+    let by = &Context {
+        alloc,
+        under,
+        strings,
+        paths: &[],
+    };
+    push_spelled_expression(out, by, id)
 }

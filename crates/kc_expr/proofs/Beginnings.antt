@@ -1,10 +1,6 @@
 -- Tokens that begin an expression of a level.
-use Rattle.std.proofs.Common.{◌≡◌, ℕ, suc, zero, ◌≤◌, ◌⊎◌, inl, inr, List, [], ◌∷◌, ◌++◌, Some, refl, ap, sym, subst, append_assoc, append-nil, arith}
-use Rattle.kc_tokens.specs.declared.token.TokenKind.TheVariants.{Word, Relation, Not, Open, Close}
-use Rattle.kc_tokens.specs.declared.token.Relop.{Relop}
-use Rattle.kc_tokens.specs.Token.{Lexeme}
-use Rattle.kc_expr.specs.Expr.{Expr, Operand, named, alone, related, negated}
-use Rattle.kc_expr.specs.Grammar.{Level, ors, ands, factor, IsExpr, one_and, more_ors, one_factor, more_ands, operand, relation, negation, parentheses, operand_of_lexeme}
+use Rattle.kc_expr.proofs.Common.{◌≡◌, ℕ, suc, zero, ◌≤◌, ◌⊎◌, inl, inr, List, [], ◌∷◌, ◌++◌, Some, refl, ap, sym, subst, append_assoc, append-nil, arith, Word, Relation, Not, Open, Close, Relop, Lexeme, Expr, Operand, named, alone, related, negated, Level, ors, ands, factor, IsExpr, one_and}
+use Rattle.kc_expr.proofs.Common.{more_ors, one_factor, more_ands, operand, relation, negation, parentheses, operand_of_lexeme}
 
 -- an expression within a depth is one within any greater depth
 pub within_more : {l : Level} {d : ℕ} {ts : List Lexeme} {e : Expr} → IsExpr l d ts e → (more : ℕ) → d ≤ more → IsExpr l more ts e
@@ -14,9 +10,8 @@ within_more (one_factor x) n h = one_factor (within_more x n h)
 within_more (more_ands o x f z eq) n h = more_ands o (within_more x n h) f (within_more z n h) eq
 within_more (operand t a eq) n h = operand t a eq
 within_more (relation t r u op a f b eq) n h = relation t r u op a f b eq
-within_more (negation t f x eq) zero h = absurd (omega arith)
 within_more (negation t f x eq) (suc n) h = negation t f (within_more x n (omega arith)) eq
-within_more (parentheses o c f x g eq) zero h = absurd (omega arith)
+within_more _ zero h = absurd (omega arith)
 within_more (parentheses o c f x g eq) (suc n) h = parentheses o c f (within_more x n (omega arith)) g eq
 
 abbrev pub Begins : Level → ℕ → List Lexeme → Type 0

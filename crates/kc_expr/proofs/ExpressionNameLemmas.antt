@@ -1,38 +1,23 @@
 -- The names in an expression, as they are met.
-use Rattle.std.proofs.Common.{◌≡◌, ℕ, suc, zero, ◌<◌, ◌++◌, ◌⊎◌, inl, inr, List, [], ◌∷◌, length, get_or, map, Some, None, refl, ap, sym, ◌∙◌, subst, append_assoc, arith, rules, eqb}
-use Rattle.std.specs.Prelude.{Contains, slice_index_or}
-use Rattle.std.proofs.lemmas.List.{length-map}
+use Rattle.kc_expr.proofs.Common.{◌≡◌, ℕ, suc, zero, ◌<◌, ◌++◌, ◌⊎◌, inl, inr, List, [], ◌∷◌, length, get_or, map, Some, None, refl, ap, sym, ◌∙◌, subst, append_assoc, arith, rules, eqb, slice_index_or, length-map, Leaf, Node, Alone, NodeStore, Exprs, node_expr, Expr, negated, both, either, shown}
+use Rattle.kc_expr.proofs.Common.{names_in, operand_of, expr_of, some_node, stored_names, exprs_in, IsSound, names_in_reverse, AreDistinct}
+use Rattle.std.specs.Prelude.{Contains}
 use Rattle.std.proofs.lemmas.List.Kept.{Contains-dedup_nat, Contains-from_dedup}
 use Rattle.std.proofs.lemmas.List.Sorted.{Contains-permutation, IsPermutation-sym}
 use Rattle.std.specs.List.{dedup}
 use Rattle.std.specs.List.Sorted.{IsPermutation}
 use Rattle.std.specs.List.{All}
 use Rattle.std.proofs.lemmas.List.Elements.{Contains-append_left, Contains-append_right, Contains-append_cases, All-contains}
-use Rattle.kc_expr.specs.declared.node.Leaf.{Leaf}
-use Rattle.kc_expr.specs.declared.node.Node.{Node}
-use Rattle.kc_expr.specs.declared.node.Node.TheVariants.{Alone, Related, Negated, Both, Either, Shown}
-use Rattle.kc_expr.specs.declared.store.Store.{Store}
-use Rattle.kc_expr.specs.between.Arena.{Exprs, node_expr}
-use Rattle.kc_expr.specs.Expr.{Expr, alone, related, negated, both, either, shown}
-use Rattle.kc_expr.specs.ExpressionNames.{names_in}
-use Rattle.kc_expr.specs.checker.Nodes.{operand_of, expr_of, some_node}
 use Rattle.kc_expr.specs.between.Operand.{operand_alone}
-use Rattle.kc_expr.specs.checker.Store.{stored_names, exprs_in, IsSound}
-use Rattle.kc_expr.specs.between.ReverseNames.{names_in_reverse}
-use Rattle.kc_expr.specs.Lookup.{AreDistinct}
 use Rattle.kc_expr.proofs.StoreLemmas.{within_nodes, node_of}
 
 -- a node that is no operand represents an expression that isn't just an operand
 pub not_alone : (names texts : List (List ℕ)) (es : List Expr) (n : Node) → ((a : Leaf) → n ≡ Alone a → ⊥) → operand_alone (expr_of names texts es n) ≡ None
 not_alone names texts es (Alone a) h = absurd (h a refl)
-not_alone names texts es (Related op a b) h = refl
-not_alone names texts es (Negated i) h = refl
-not_alone names texts es (Both i j) h = refl
-not_alone names texts es (Either i j) h = refl
-not_alone names texts es (Shown i) h = refl
+not_alone names texts es _ h = refl
 
 -- the operand of an arena's expression, by its node
-module _ (a : Exprs) (s : Store) (i index : ℕ) (found : Node) (view : exprs_in s ≡ a) (same : index ≡ i) (sound : IsSound s) (within : i < length a.nodes)
+module _ (a : Exprs) (s : NodeStore) (i index : ℕ) (found : Node) (view : exprs_in s ≡ a) (same : index ≡ i) (sound : IsSound s) (within : i < length a.nodes)
     (here : found ≡ get_or s.nodes.items index some_node) where
   operand_alone_is : (n : Node) → found ≡ n → operand_alone (node_expr a i) ≡ operand_alone (expr_of (stored_names s) s.texts.items (exprs_in s).nodes n)
   operand_alone_is n e =
@@ -56,20 +41,18 @@ module _ (x : List ℕ) where
       by_side (inr r) = Contains-append_left ws vs x (g r)
 
   pub to_words : (e : Expr) → Contains (names_in e) x → Contains (names_in_reverse e) x
-  to_words (alone a) h = h
-  to_words (related op a b) h = h
   to_words (negated e) h = to_words e h
   to_words (shown e) h = to_words e h
   to_words (both a b) h = swapped (names_in a) (names_in b) (names_in_reverse a) (names_in_reverse b) (to_words a) (to_words b) h
   to_words (either a b) h = swapped (names_in a) (names_in b) (names_in_reverse a) (names_in_reverse b) (to_words a) (to_words b) h
+  to_words _ h = h
 
   pub from_words : (e : Expr) → Contains (names_in_reverse e) x → Contains (names_in e) x
-  from_words (alone a) h = h
-  from_words (related op a b) h = h
   from_words (negated e) h = from_words e h
   from_words (shown e) h = from_words e h
   from_words (both a b) h = swapped (names_in_reverse b) (names_in_reverse a) (names_in b) (names_in a) (from_words b) (from_words a) h
   from_words (either a b) h = swapped (names_in_reverse b) (names_in_reverse a) (names_in b) (names_in a) (from_words b) (from_words a) h
+  from_words _ h = h
 
 -- names that were appended for the right part of an expression, and then for its left part, are those of both parts
 pub names_of_both : (front right left found all : List (List ℕ)) → found ≡ front ++ right → front ++ (right ++ left) ≡ all → found ++ left ≡ all
@@ -109,7 +92,7 @@ none_held : (P : ℕ → Type 0) (xs : List ℕ) → xs ≡ [] → All P xs
 none_held P xs e = rw e (search rules)
 
 -- what was met is kept through sorting and taking out repeats, and it is what callers see
-module _ (a : Exprs) (s : Store) (view : exprs_in s ≡ a) (id index : ℕ) (same : index ≡ id) (sound : IsSound s) (none found sorted last : List ℕ)
+module _ (a : Exprs) (s : NodeStore) (view : exprs_in s ≡ a) (id index : ℕ) (same : index ≡ id) (sound : IsSound s) (none found sorted last : List ℕ)
     (empty : none ≡ [])
     (names_are : map (λ i. slice_index_or (stored_names s) i []) found ≡ map (λ i. slice_index_or (stored_names s) i []) none ++ names_in_reverse
     (node_expr (exprs_in s) index))

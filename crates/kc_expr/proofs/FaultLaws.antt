@@ -1,21 +1,17 @@
 -- A line's first fault is what is read of it.
-use Rattle.std.proofs.Common.{◌≡◌, ℕ, suc, ◌+◌, ◌⊎◌, inl, inr, true, false, eqb, List, [], ◌∷◌, ◌++◌, length, take, Option, Some, None, Result, Ok, Err, refl, ap, sym, ◌∙◌, append_assoc, length-append, arith}
-use Rattle.std.proofs.lemmas.Bool.{both_ways, eq-eqb}
-use Rattle.std.proofs.Math.Seq.{take-append_seam}
-use Rattle.kc_value.specs.QuotedTexts.{IsBody, closing}
+use Rattle.kc_expr.proofs.Common.{◌≡◌, ℕ, suc, ◌+◌, ◌⊎◌, inl, inr, true, false, eqb, List, [], ◌∷◌, ◌++◌, length, take, Option, Some, None, Result, Ok, Err, refl, ap, sym, ◌∙◌, append_assoc, length-append, arith, both_ways, take-append_seam, closing, ExprFault, UnclosedQuote, LeftOut, Language}
+use Rattle.kc_expr.proofs.Common.{NextToken, White, Comment, Token, Fault, is_quote, Lexeme, with_front, dollar_left_out, quoted_up_to, quoted_or_left_out, lexemes_from, IsFirstTokenFault, cut_read, lead_quoted}
+use Rattle.std.proofs.lemmas.Bool.{eq-eqb}
+use Rattle.kc_value.specs.QuotedTexts.{IsBody}
 use Rattle.kc_value.proofs.QuotedLaws.{body_closes, closed}
-use Rattle.kc_tokens.specs.declared.fault.ExprFault.{ExprFault}
-use Rattle.kc_tokens.specs.declared.fault.ExprKind.TheVariants.{BadToken, UnclosedQuote, LeftOut}
-use Rattle.kc_tokens.specs.declared.language.Language.{Language}
-use Rattle.kc_tokens.specs.declared.token.NextToken.{NextToken}
-use Rattle.kc_tokens.specs.declared.token.NextToken.TheVariants.{White, Comment, Token, Fault}
-use Rattle.kc_tokens.specs.Token.{is_quote, Lexeme, with_front, is_white_byte, next_token, dollar_left_out, quoted_up_to, quoted_or_left_out, lexemes_from}
-use Rattle.kc_tokens.specs.TokenGrammar.{HasDollarsOf, NothingBegins, IsFaultAt, dollar, unclosed, dollar_between, other_byte, IsCut, IsFirstTokenFault, here, after_white, after_token}
+use Rattle.kc_tokens.specs.declared.fault.ExprKind.TheVariants.{BadToken}
+use Rattle.kc_tokens.specs.Token.{is_white_byte, next_token}
+use Rattle.kc_tokens.specs.TokenGrammar.{HasDollarsOf, NothingBegins, IsFaultAt, dollar, unclosed, dollar_between, other_byte, IsCut, here, after_white, after_token}
 use Rattle.kc_tokens.proofs.CutLaws.{IsReading, read_is}
 use Rattle.kc_tokens.proofs.Dollars.{left_out_first}
 use Rattle.kc_tokens.proofs.TokenSteps.{lexemes_white, lexemes_fault}
 use Rattle.kc_tokens.proofs.TokenFronts.{IsNextToken, next_token_is}
-use Rattle.kc_tokens.proofs.TokenLaws.{cut_read, white_lead, lead_quoted, quote_facts, quote_no_slash, token_at, token_read}
+use Rattle.kc_tokens.proofs.TokenLaws.{white_lead, quote_facts, quote_no_slash, token_at, token_read}
 
 -- the fault of a byte, as it is read
 abbrev IsRead : Language → ℕ → List ℕ → ExprFault → Type 0

@@ -1,10 +1,6 @@
 -- The fault that is read is the first one.
-use Rattle.std.proofs.Common.{◌≡◌, ℕ, ◌+◌, ◌≤◌, ◌⊎◌, inl, inr, true, false, List, [], ◌∷◌, ◌++◌, Result, Ok, Err, refl, ap, sym, ◌∙◌, subst, append_assoc, append-nil, arith}
-use Rattle.kc_tokens.specs.declared.fault.ExprKind.{ExprKind}
-use Rattle.kc_tokens.specs.declared.fault.ExprKind.TheVariants.{Malformed, TooDeep}
-use Rattle.kc_tokens.specs.Token.{Lexeme}
-use Rattle.kc_expr.specs.Expr.{Expr}
-use Rattle.kc_expr.specs.Grammar.{ors, IsExpr, Read, is_operand_kind, read_factor, read_ors, read_to_end, read_expr}
+use Rattle.kc_expr.proofs.Common.{◌≡◌, ℕ, ◌+◌, ◌≤◌, ◌⊎◌, inl, inr, true, false, List, [], ◌∷◌, ◌++◌, Result, Ok, Err, refl, ap, sym, ◌∙◌, subst, append_assoc, append-nil, arith, ExprKind, Malformed, TooDeep, Lexeme, Expr, ors, IsExpr, Read, is_operand_kind, read_factor, read_ors, read_to_end}
+use Rattle.kc_expr.specs.Grammar.{read_expr}
 use Rattle.kc_expr.specs.ExprFaults.{IsBeginning, IsFault, malformed, too_deep, HasNoFault, IsFirstExprFault, at_token, at_end}
 use Rattle.kc_expr.proofs.Beginnings.{Begins, ArePrefixes, IsPrefix, whole_begins, front_begins, within_more}
 use Rattle.kc_expr.proofs.GrammarComplete.{expr_complete, expr_read}

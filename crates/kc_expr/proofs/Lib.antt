@@ -1,3 +1,4 @@
+pub mod Common
 pub mod Beginnings
 pub mod FactorOutcomes
 pub mod FaultLaws

@@ -1,11 +1,6 @@
 -- What a reader of a level gives, and that it gives it whatever comes later.
-use Rattle.std.proofs.Common.{◌≡◌, ℕ, suc, zero, ◌≤◌, Bool, true, false, List, [], ◌∷◌, ◌++◌, length, Ok, Err, refl, ap, sym, ◌∙◌, subst, append_assoc, append-nil, length-append, arith}
-use Rattle.kc_tokens.specs.declared.fault.ExprKind.{ExprKind}
-use Rattle.kc_tokens.specs.declared.fault.ExprKind.TheVariants.{Malformed, TooDeep}
-use Rattle.kc_tokens.specs.declared.token.TokenKind.{TokenKind}
-use Rattle.kc_tokens.specs.Token.{Lexeme}
-use Rattle.kc_expr.specs.Expr.{Expr}
-use Rattle.kc_expr.specs.Grammar.{Level, ors, ands, factor, IsExpr, Read, on_read, chain, is_operand_kind, read_factor, read_ands, read_ors}
+use Rattle.kc_expr.proofs.Common.{◌≡◌, ℕ, suc, zero, ◌≤◌, Bool, true, false, List, [], ◌∷◌, ◌++◌, length, Ok, Err, refl, ap, sym, ◌∙◌, subst, append_assoc, append-nil, length-append, arith, ExprKind, Malformed, TooDeep, TokenKind, Lexeme, Expr, Level, ors, ands, factor, IsExpr, Read, on_read, chain}
+use Rattle.kc_expr.proofs.Common.{is_operand_kind, read_factor, read_ands, read_ors}
 use Rattle.kc_expr.proofs.Beginnings.{Begins, ArePrefixes, front_begins, within_more}
 use Rattle.kc_expr.proofs.GrammarComplete.{Stops, chain_stops, chain_links}
 

@@ -1,23 +1,9 @@
 -- The results of the parser's functions, step by step.
-use Rattle.std.proofs.Common.{◌≡◌, ℕ, suc, ◌+◌, ◌≤◌, ◌<◌, ◌⊎◌, inl, inr, Bool, true, false, List, length, drop, Option, Some, None, Result, Ok, Err, refl, ap, sym, ◌∙◌, subst, arith}
-use Rattle.std.specs.Prelude.{option_map}
+use Rattle.kc_expr.proofs.Common.{◌≡◌, ℕ, suc, ◌+◌, ◌≤◌, ◌<◌, ◌⊎◌, inl, inr, Bool, true, false, List, length, drop, Option, Some, None, Result, Ok, Err, refl, ap, sym, ◌∙◌, subst, arith, option_map, cases_lt, ExprFault, ExprKind, Malformed, NodeStore, Relop, TokenKind, Not, Open, Close, Represents}
+use Rattle.kc_expr.proofs.Common.{node_expr, Expr, Operand, alone, related, negated, Read, on_read, past_depth_limit, closed, fault_of, as_condition, first_kind, first_operand, first_relation, IsParsedToEnd, IsRefusedToEnd, exprs_in, IsSound, Extends, Lexeme}
 use Rattle.std.proofs.Math.ListN.{drop_of_length-le}
-use Rattle.std.proofs.lemmas.Bool.{cases_lt}
-use Rattle.kc_tokens.specs.declared.fault.ExprFault.{ExprFault}
-use Rattle.kc_tokens.specs.declared.fault.ExprKind.{ExprKind}
-use Rattle.kc_tokens.specs.declared.fault.ExprKind.TheVariants.{Malformed}
-use Rattle.kc_expr.specs.declared.store.Store.{Store}
-use Rattle.kc_tokens.specs.declared.token.Relop.{Relop}
-use Rattle.kc_tokens.specs.declared.token.TokenKind.{TokenKind}
-use Rattle.kc_tokens.specs.declared.token.TokenKind.TheVariants.{Not, Open, Close}
-use Rattle.kc_expr.specs.between.Arena.{Represents, node_expr}
-use Rattle.kc_expr.specs.Expr.{Expr, Operand, alone, related, negated, both, either}
-use Rattle.kc_expr.specs.Grammar.{Read, on_read, past_depth_limit, closed, fault_of}
-use Rattle.kc_expr.specs.checker.Conditions.{as_condition}
-use Rattle.kc_expr.specs.checker.ParserResults.{first_kind, first_operand, first_relation, operand_read, factor_read, ors_read, read_all_tokens, IsParsed, IsRefused, Parses, IsParsedToEnd, IsRefusedToEnd, MeetsFault}
-use Rattle.kc_expr.specs.checker.Store.{exprs_in, IsSound, Extends}
-use Rattle.kc_tokens.specs.Token.{Lexeme}
-use Rattle.kc_expr.proofs.ReaderSteps.{drop_one, operand_none, operand_alone, operand_no_right, operand_related, factor_operand, factor_too_deep, factor_not, factor_open, closed_ok, closed_not, whole_fails, whole_left, whole_ok}
+use Rattle.kc_expr.specs.checker.ParserResults.{operand_read, factor_read, ors_read, read_all_tokens, IsParsed, IsExpressionRefused, Parses, MeetsFault}
+use Rattle.kc_expr.proofs.ReaderSteps.{IsLevel, drop_one, operand_none, operand_alone, operand_no_right, operand_related, factor_operand, factor_too_deep, factor_not, factor_open, closed_ok, closed_not, whole_fails, whole_left, whole_ok}
 use Rattle.kc_expr.proofs.StoreLemmas.{represents_later}
 
 -- conditions of composed expressions
@@ -29,25 +15,17 @@ as_negated : (c : Bool) (e : Expr) → negated (as_condition c e) ≡ as_conditi
 as_negated true e = refl
 as_negated false e = refl
 
-pub as_both : (c : Bool) (a b : Expr) → both (as_condition c a) (as_condition c b) ≡ as_condition c (both a b)
-as_both true a b = refl
-as_both false a b = refl
-
-pub as_either : (c : Bool) (a b : Expr) → either (as_condition c a) (as_condition c b) ≡ as_condition c (either a b)
-as_either true a b = refl
-as_either false a b = refl
-
 -- where a fault of one reading is that of another too, the parser's refusal by the former is one by the latter
-pub refused_on : (all : List Lexeme) (read more : Read) (e : ExprFault) → ((f : ExprKind × List Lexeme) → read ≡ Err f → more ≡ Err f) → IsRefused all read e
-    → IsRefused all more e
+pub refused_on : (all : List Lexeme) (read more : Read) (e : ExprFault) → ((f : ExprKind × List Lexeme) → read ≡ Err f → more ≡ Err f) → IsExpressionRefused all read e
+    → IsExpressionRefused all more e
 refused_on all read more e h (inl m) = inl m
 refused_on all read more e h (inr (f, r, q)) = inr (f, h f r, q)
 
-pub refused_by : (all : List Lexeme) (read more : Read) (e : ExprFault) → more ≡ read → IsRefused all read e → IsRefused all more e
+pub refused_by : (all : List Lexeme) (read more : Read) (e : ExprFault) → more ≡ read → IsExpressionRefused all read e → IsExpressionRefused all more e
 refused_by all read more e h x = refused_on all read more e (λ f r. h ∙ r) x
 
 -- what the parser returns for a reading it returns for any equal reading
-pub parses_by : (s : Store) (all : List Lexeme) (condition : Bool) (at : ℕ) (read more : Read) (r : Result (ℕ × ℕ) ExprFault) → more ≡ read
+pub parses_by : (s : NodeStore) (all : List Lexeme) (condition : Bool) (at : ℕ) (read more : Read) (r : Result (ℕ × ℕ) ExprFault) → more ≡ read
     → Parses s all condition at read r → Parses s all condition at more r
 parses_by s all condition at read more (Err e) h p = refused_by all read more e h p
 parses_by s all condition at read more (Ok r) h p =
@@ -83,11 +61,11 @@ found_some : {X : Type 0} (f : X → Operand) (o : Option X) (x : X) (us : List 
 found_some f o x us e n = sym e ∙ ap (option_map f) n
 
 module _ {X : Type 0} (f : X → Operand) (o : Option X) (all : List Lexeme) (at : ℕ) (found : option_map f o ≡ first_operand (drop at all)) where
-  pub relation_missing : (e : ExprFault) → o ≡ None → e ≡ fault_of all (Malformed, drop at all) → IsRefused all (operand_read (drop at all)) e
+  pub relation_missing : (e : ExprFault) → o ≡ None → e ≡ fault_of all (Malformed, drop at all) → IsExpressionRefused all (operand_read (drop at all)) e
   relation_missing e n q = inr ((Malformed, drop at all), operand_none (drop at all) (found_none f o (drop at all) found n), q)
 
   module _ (x : X) (is : o ≡ Some x) where
-    pub relation_alone : (s : Store) (condition : Bool) (id : ℕ) → first_relation (drop (at + 1) all) ≡ None
+    pub relation_alone : (s : NodeStore) (condition : Bool) (id : ℕ) → first_relation (drop (at + 1) all) ≡ None
         → Represents (exprs_in s) id (as_condition condition (alone (f x))) → IsParsed s all condition at (operand_read (drop at all)) id (at + 1)
     relation_alone s condition id n h = record {
       expr = alone (f x);
@@ -100,7 +78,7 @@ module _ {X : Type 0} (f : X → Operand) (o : Option X) (all : List Lexeme) (at
 
     module _ (op : Relop) (relates : first_relation (drop (at + 1) all) ≡ Some op) {Y : Type 0} (g : Y → Operand) (p : Option Y)
         (right : option_map g p ≡ first_operand (drop (at + 2) all)) where
-      pub relation_unfinished : (e : ExprFault) → p ≡ None → e ≡ fault_of all (Malformed, drop (at + 2) all) → IsRefused all (operand_read (drop at all)) e
+      pub relation_unfinished : (e : ExprFault) → p ≡ None → e ≡ fault_of all (Malformed, drop (at + 2) all) → IsExpressionRefused all (operand_read (drop at all)) e
       relation_unfinished e n q = inr (
         (Malformed, drop (at + 2) all),
         operand_no_right (drop at all) (f x) op (found_some f o x (drop at all) found is) (sym (ap first_relation (drop_one at all)) ∙ relates)
@@ -109,7 +87,7 @@ module _ {X : Type 0} (f : X → Operand) (o : Option X) (all : List Lexeme) (at
         q,
       )
 
-      pub relation_whole : (y : Y) → p ≡ Some y → (s : Store) (condition : Bool) (id : ℕ) (a : Operand) → a ≡ f x
+      pub relation_whole : (y : Y) → p ≡ Some y → (s : NodeStore) (condition : Bool) (id : ℕ) (a : Operand) → a ≡ f x
           → Represents (exprs_in s) id (related op a (g y)) → IsParsed s all condition at (operand_read (drop at all)) id (at + 3)
       relation_whole y q s condition id a same h = record {
         expr = related op (f x) (g y);
@@ -128,7 +106,7 @@ module _ (all : List Lexeme) (condition : Bool) (at : ℕ) where
   factor_is_operand d n o = factor_operand d (drop at all) n o
 
   pub factor_beyond : (d : ℕ) (e : ExprFault) → d ≡ 0 → (first_kind (drop at all) ≡ Some Not) ⊎ (first_kind (drop at all) ≡ Some Open)
-      → MeetsFault all (past_depth_limit (drop (at + 1) all)) e → IsRefused all (factor_read d (drop at all)) e
+      → MeetsFault all (past_depth_limit (drop (at + 1) all)) e → IsExpressionRefused all (factor_read d (drop at all)) e
   factor_beyond d e z o (f, r, q) = inr (
     f,
     ap (λ d. factor_read d (drop at all)) z ∙ factor_too_deep (drop at all) o
@@ -144,12 +122,12 @@ module _ (all : List Lexeme) (condition : Bool) (at : ℕ) where
     open_step : first_kind (drop at all) ≡ Some Open → factor_read d (drop at all) ≡ on_read (ors_read n (drop (at + 1) all)) closed
     open_step k = ap (λ d. factor_read d (drop at all)) deep ∙ factor_open n (drop at all) k ∙ ap (λ us. on_read (ors_read n us) closed) (sym (drop_one at all))
 
-    pub not_fails : first_kind (drop at all) ≡ Some Not → (e : ExprFault) → IsRefused all (factor_read n (drop (at + 1) all)) e
-        → IsRefused all (factor_read d (drop at all)) e
+    pub not_fails : first_kind (drop at all) ≡ Some Not → (e : ExprFault) → IsExpressionRefused all (factor_read n (drop (at + 1) all)) e
+        → IsExpressionRefused all (factor_read d (drop at all)) e
     not_fails k e h = refused_on all (factor_read n (drop (at + 1) all)) (factor_read d (drop at all)) e
         (λ f r. not_step k ∙ ap (λ q. on_read q (λ r. Ok (negated r.0, r.1))) r) h
 
-    pub not_parsed : first_kind (drop at all) ≡ Some Not → (old new : Store) (part next id : ℕ) → IsParsed old all condition (at + 1)
+    pub not_parsed : first_kind (drop at all) ≡ Some Not → (old new : NodeStore) (part next id : ℕ) → IsParsed old all condition (at + 1)
         (factor_read n (drop (at + 1) all)) part next → Represents (exprs_in new) id (negated (node_expr (exprs_in old) part))
         → IsParsed new all condition at (factor_read d (drop at all)) id next
     not_parsed k old new part next id p h = record {
@@ -160,13 +138,13 @@ module _ (all : List Lexeme) (condition : Bool) (at : ℕ) where
       represents = subst (Represents (exprs_in new) id) (ap negated p.represents.is ∙ as_negated condition p.expr) h;
     }
 
-    pub open_fails : first_kind (drop at all) ≡ Some Open → (e : ExprFault) → IsRefused all (ors_read n (drop (at + 1) all)) e
-        → IsRefused all (factor_read d (drop at all)) e
+    pub open_fails : first_kind (drop at all) ≡ Some Open → (e : ExprFault) → IsExpressionRefused all (ors_read n (drop (at + 1) all)) e
+        → IsExpressionRefused all (factor_read d (drop at all)) e
     open_fails k e h = refused_on all (ors_read n (drop (at + 1) all)) (factor_read d (drop at all)) e (λ f r. open_step k ∙ ap (λ q. on_read q closed) r) h
 
-    pub open_unclosed : first_kind (drop at all) ≡ Some Open → (s : Store) (inside next : ℕ) → IsParsed s all condition (at + 1)
+    pub open_unclosed : first_kind (drop at all) ≡ Some Open → (s : NodeStore) (inside next : ℕ) → IsParsed s all condition (at + 1)
         (ors_read n (drop (at + 1) all)) inside next → (first_kind (drop next all) ≡ Some Close → ⊥) → (e : ExprFault)
-        → e ≡ fault_of all (Malformed, drop next all) → IsRefused all (factor_read d (drop at all)) e
+        → e ≡ fault_of all (Malformed, drop next all) → IsExpressionRefused all (factor_read d (drop at all)) e
     open_unclosed k s inside next p c e q = inr (
       (Malformed, drop next all),
       open_step k ∙ ap (λ q. on_read q closed) p.reads
@@ -174,7 +152,7 @@ module _ (all : List Lexeme) (condition : Bool) (at : ℕ) where
       q,
     )
 
-    pub open_parsed : first_kind (drop at all) ≡ Some Open → (s : Store) (inside next : ℕ) → IsParsed s all condition (at + 1)
+    pub open_parsed : first_kind (drop at all) ≡ Some Open → (s : NodeStore) (inside next : ℕ) → IsParsed s all condition (at + 1)
         (ors_read n (drop (at + 1) all)) inside next → first_kind (drop next all) ≡ Some Close → IsParsed s all condition at
         (factor_read d (drop at all)) inside (next + 1)
     open_parsed k s inside next p c = record {
@@ -187,7 +165,7 @@ module _ (all : List Lexeme) (condition : Bool) (at : ℕ) where
 
 -- the front of a chain was read from an index of the tokens on, a node represents it, and `next` is the index where the chain
 -- continues
-pub record IsChained (on : ℕ → Expr → List Lexeme → Read) (whole : ℕ → List Lexeme → Read) (s : Store) (all : List Lexeme) (condition : Bool)
+pub record IsChained (on : ℕ → Expr → List Lexeme → Read) (whole : ℕ → List Lexeme → Read) (s : NodeStore) (all : List Lexeme) (condition : Bool)
     (at d id next : ℕ) : Type 0 where
   pub expr : Expr
   pub reads : whole d (drop at all) ≡ on d expr (drop next all)
@@ -196,51 +174,44 @@ pub record IsChained (on : ℕ → Expr → List Lexeme → Read) (whole : ℕ �
   pub represents : Represents (exprs_in s) id (as_condition condition expr)
 
 -- chains, by the steps of their readers
-module _ (part whole : ℕ → List Lexeme → Read) (on : ℕ → Expr → List Lexeme → Read) (kind : TokenKind) (joined : Expr → Expr → Expr)
-    (first_fails : (d : ℕ) (us : List Lexeme) (f : ExprKind × List Lexeme) → part d us ≡ Err f → whole d us ≡ Err f)
-    (first : (d : ℕ) (us ws : List Lexeme) (e : Expr) → part d us ≡ Ok (e, ws) → whole d us ≡ on d e ws)
-    (link_fails : (d : ℕ) (us : List Lexeme) (e : Expr) (f : ExprKind × List Lexeme) → first_kind us ≡ Some kind → part d (drop 1 us) ≡ Err f
-    → on d e us ≡ Err f)
-    (link : (d : ℕ) (us ws : List Lexeme) (e b : Expr) → first_kind us ≡ Some kind → part d (drop 1 us) ≡ Ok (b, ws) → on d e us ≡ on d (joined e b) ws)
-    (ends : (d : ℕ) (us : List Lexeme) (e : Expr) → (first_kind us ≡ Some kind → ⊥) → on d e us ≡ Ok (e, us))
-    (as_joined : (c : Bool) (a b : Expr) → joined (as_condition c a) (as_condition c b) ≡ as_condition c (joined a b))
-    (all : List Lexeme) (condition : Bool) (at d : ℕ) where
-  pub chain_first_fails : (e : ExprFault) → IsRefused all (part d (drop at all)) e → IsRefused all (whole d (drop at all)) e
-  chain_first_fails e h = refused_on all (part d (drop at all)) (whole d (drop at all)) e (first_fails d (drop at all)) h
+module _ {part whole : ℕ → List Lexeme → Read} {on : ℕ → Expr → List Lexeme → Read} {kind : TokenKind} {joined : Expr → Expr → Expr}
+    (level : IsLevel part whole on kind joined) (all : List Lexeme) (condition : Bool) (at d : ℕ) where
+  pub chain_first_fails : (e : ExprFault) → IsExpressionRefused all (part d (drop at all)) e → IsExpressionRefused all (whole d (drop at all)) e
+  chain_first_fails e h = refused_on all (part d (drop at all)) (whole d (drop at all)) e (level.first_fails d (drop at all)) h
 
-  pub chain_begins : (s : Store) (id next : ℕ) → IsParsed s all condition at (part d (drop at all)) id next → IsChained on whole s all condition at d id next
+  pub chain_begins : (s : NodeStore) (id next : ℕ) → IsParsed s all condition at (part d (drop at all)) id next → IsChained on whole s all condition at d id next
   chain_begins s id next p = record {
     expr = p.expr;
-    reads = first d (drop at all) (drop next all) p.expr p.reads;
+    reads = level.first d (drop at all) (drop next all) p.expr p.reads;
     forward = p.forward;
     within = p.within;
     represents = p.represents;
   }
 
-  pub chain_fails : (s : Store) (left next : ℕ) → IsChained on whole s all condition at d left next → first_kind (drop next all) ≡ Some kind → (e : ExprFault)
-      → IsRefused all (part d (drop (next + 1) all)) e → IsRefused all (whole d (drop at all)) e
+  pub chain_fails : (s : NodeStore) (left next : ℕ) → IsChained on whole s all condition at d left next → first_kind (drop next all) ≡ Some kind → (e : ExprFault)
+      → IsExpressionRefused all (part d (drop (next + 1) all)) e → IsExpressionRefused all (whole d (drop at all)) e
   chain_fails s left next c k e h = refused_on all (part d (drop (next + 1) all)) (whole d (drop at all)) e
-      (λ f r. c.reads ∙ link_fails d (drop next all) c.expr f k (ap (part d) (sym (drop_one next all)) ∙ r)) h
+      (λ f r. c.reads ∙ level.link_fails d (drop next all) c.expr f k (ap (part d) (sym (drop_one next all)) ∙ r)) h
 
-  pub chain_goes_on : (s0 s1 s2 : Store) (left next right after id : ℕ) → IsChained on whole s0 all condition at d left next
+  pub chain_goes_on : (s0 s1 s2 : NodeStore) (left next right after id : ℕ) → IsChained on whole s0 all condition at d left next
       → first_kind (drop next all) ≡ Some kind → IsSound s0 → Extends s0 s1 → IsParsed s1 all condition (next + 1) (part d (drop (next + 1) all)) right after
       → Represents (exprs_in s2) id (joined (node_expr (exprs_in s1) left) (node_expr (exprs_in s1) right)) → IsChained on whole s2 all condition at d id after
   chain_goes_on s0 s1 s2 left next right after id c k sound x p h =
       let kept = represents_later s0 s1 left (as_condition condition c.expr) sound x c.represents in
       record {
         expr = joined c.expr p.expr;
-        reads = c.reads ∙ link d (drop next all) (drop after all) c.expr p.expr k (ap (part d) (sym (drop_one next all)) ∙ p.reads);
+        reads = c.reads ∙ level.link d (drop next all) (drop after all) c.expr p.expr k (ap (part d) (sym (drop_one next all)) ∙ p.reads);
         forward = omega (arith, c.forward, p.forward);
         within = p.within;
         represents = subst (Represents (exprs_in s2) id) (ap (λ v. joined v (node_expr (exprs_in s1) right)) kept.is
-            ∙ ap (joined (as_condition condition c.expr)) p.represents.is ∙ as_joined condition c.expr p.expr) h;
+            ∙ ap (joined (as_condition condition c.expr)) p.represents.is ∙ level.as_joined condition c.expr p.expr) h;
       }
 
-  pub chain_ends : (s : Store) (id next : ℕ) → IsChained on whole s all condition at d id next → (first_kind (drop next all) ≡ Some kind → ⊥)
+  pub chain_ends : (s : NodeStore) (id next : ℕ) → IsChained on whole s all condition at d id next → (first_kind (drop next all) ≡ Some kind → ⊥)
       → IsParsed s all condition at (whole d (drop at all)) id next
   chain_ends s id next c n = record {
     expr = c.expr;
-    reads = c.reads ∙ ends d (drop next all) c.expr n;
+    reads = c.reads ∙ level.ends d (drop next all) c.expr n;
     forward = c.forward;
     within = c.within;
     represents = c.represents;
@@ -248,15 +219,15 @@ module _ (part whole : ℕ → List Lexeme → Read) (on : ℕ → Expr → List
 
 -- all of the tokens
 module _ (all : List Lexeme) (condition : Bool) (at d : ℕ) where
-  pub whole_refused : (e : ExprFault) → IsRefused all (ors_read d (drop at all)) e → IsRefusedToEnd all (read_all_tokens d (drop at all)) e
+  pub whole_refused : (e : ExprFault) → IsExpressionRefused all (ors_read d (drop at all)) e → IsRefusedToEnd all (read_all_tokens d (drop at all)) e
   whole_refused e (inl m) = inl m
   whole_refused e (inr (f, r, q)) = inr (f, whole_fails d (drop at all) f r, q)
 
-  pub whole_too_long : (s : Store) (id next : ℕ) → IsParsed s all condition at (ors_read d (drop at all)) id next → 0 < length (drop next all) → (e : ExprFault)
+  pub whole_too_long : (s : NodeStore) (id next : ℕ) → IsParsed s all condition at (ors_read d (drop at all)) id next → 0 < length (drop next all) → (e : ExprFault)
       → e ≡ fault_of all (Malformed, drop next all) → IsRefusedToEnd all (read_all_tokens d (drop at all)) e
   whole_too_long s id next p l e q = inr ((Malformed, drop next all), whole_left d (drop at all) (drop next all) p.expr p.reads l, q)
 
-  pub whole_parsed : (s : Store) (id next : ℕ) → IsParsed s all condition at (ors_read d (drop at all)) id next → length all ≤ next
+  pub whole_parsed : (s : NodeStore) (id next : ℕ) → IsParsed s all condition at (ors_read d (drop at all)) id next → length all ≤ next
       → IsParsedToEnd s condition (read_all_tokens d (drop at all)) id
   whole_parsed s id next p l = record {
     expr = p.expr;

@@ -1,18 +1,8 @@
 -- The names that the parser appends.
-use Rattle.std.proofs.Common.{◌≡◌, ℕ, Bool, true, false, List, [], ◌∷◌, ◌++◌, refl, ap, sym, ◌∙◌}
-use Rattle.kc_value.specs.declared.tri.Tri.TheVariants.{N, M, Y}
-use Rattle.kc_expr.specs.declared.node.Leaf.{Leaf}
-use Rattle.kc_expr.specs.declared.node.Leaf.TheVariants.{Constant, Name, Quoted as Text}
-use Rattle.kc_expr.specs.declared.store.Store.{Store}
-use Rattle.kc_tokens.specs.declared.token.Relop.{Relop}
-use Rattle.kc_expr.specs.between.Arena.{Represents, node_expr}
-use Rattle.kc_expr.specs.Expr.{Expr, Operand, alone, related, negated}
-use Rattle.kc_expr.specs.checker.Conditions.{as_condition}
-use Rattle.kc_expr.specs.ExpressionNames.{operand_names, names_in}
-use Rattle.kc_expr.specs.between.Names.{with_name, with_names}
-use Rattle.kc_expr.specs.checker.Nodes.{operand_of}
+use Rattle.kc_expr.proofs.Common.{◌≡◌, ℕ, Bool, true, false, List, [], ◌∷◌, ◌++◌, refl, ap, sym, ◌∙◌, N, Leaf, Constant, NodeStore, Relop, Represents, node_expr, Expr, Operand, alone, related, negated, as_condition, operand_names, names_in, with_name, operand_of, stored_names, exprs_in, IsSound}
+use Rattle.kc_expr.proofs.Common.{Extends, HasNamesOf}
+use Rattle.kc_expr.specs.between.Names.{with_names}
 use Rattle.kc_expr.specs.checker.ParserResults.{names_of_m}
-use Rattle.kc_expr.specs.checker.Store.{stored_names, exprs_in, IsSound, Extends, HasNamesOf}
 use Rattle.kc_expr.proofs.StoreLemmas.{represents_later}
 
 with_names-append : (xs ys names : List (List ℕ)) → with_names (xs ++ ys) names ≡ with_names ys (with_names xs names)
@@ -26,22 +16,16 @@ both_added xs ys old one two e f = f ∙ ap (with_names ys) e ∙ sym (with_name
 alone_names : (condition : Bool) (leaf : Leaf) (names texts : List (List ℕ)) → operand_names (operand_of names texts leaf) ++ names_of_m condition leaf
     ≡ names_in (as_condition condition (alone (operand_of names texts leaf)))
 alone_names true (Constant N) names texts = refl
-alone_names true (Constant M) names texts = refl
-alone_names true (Constant Y) names texts = refl
-alone_names true (Name i) names texts = refl
-alone_names true (Text i) names texts = refl
+alone_names true _ names texts = refl
 alone_names false (Constant N) names texts = refl
-alone_names false (Constant M) names texts = refl
-alone_names false (Constant Y) names texts = refl
-alone_names false (Name i) names texts = refl
-alone_names false (Text i) names texts = refl
+alone_names false _ names texts = refl
 
 -- no name is added for a constant that isn't `m`, nor outside a condition
-module _ (old new : Store) (id : ℕ) where
+module _ (old new : NodeStore) (id : ℕ) where
   of_expr : (e : Expr) → Represents (exprs_in new) id e → stored_names new ≡ with_names (names_in e) (stored_names old) → HasNamesOf old new id
   of_expr e s h = h ∙ ap (λ x. with_names (names_in x) (stored_names old)) (sym s.is)
 
-  pub read_alone : (s : Store) (condition : Bool) (leaf : Leaf) → stored_names s ≡ with_names (operand_names (operand_of (stored_names s) s.texts.items leaf))
+  pub read_alone : (s : NodeStore) (condition : Bool) (leaf : Leaf) → stored_names s ≡ with_names (operand_names (operand_of (stored_names s) s.texts.items leaf))
       (stored_names old) → stored_names new ≡ with_names (names_of_m condition leaf) (stored_names s)
       → Represents (exprs_in new) id (as_condition condition (alone (operand_of (stored_names s) s.texts.items leaf))) → HasNamesOf old new id
   read_alone s condition leaf e f h =
@@ -49,7 +33,7 @@ module _ (old new : Store) (id : ℕ) where
       (both_added (operand_names (operand_of (stored_names s) s.texts.items leaf)) (names_of_m condition leaf) (stored_names old) (stored_names s)
       (stored_names new) e f ∙ ap (λ ws. with_names ws (stored_names old)) (alone_names condition leaf (stored_names s) s.texts.items))
 
-  pub read_related : (one two : Store) (op : Relop) (a0 a b : Operand) → stored_names one ≡ with_names (operand_names a0) (stored_names old)
+  pub read_related : (one two : NodeStore) (op : Relop) (a0 a b : Operand) → stored_names one ≡ with_names (operand_names a0) (stored_names old)
       → stored_names two ≡ with_names (operand_names b) (stored_names one) → stored_names new ≡ stored_names two → a ≡ a0
       → Represents (exprs_in new) id (related op a b) → HasNamesOf old new id
   read_related one two op a0 a b e f g same h =
@@ -57,12 +41,12 @@ module _ (old new : Store) (id : ℕ) where
       (g ∙ both_added (operand_names a) (operand_names b) (stored_names old) (stored_names one) (stored_names two)
       (e ∙ ap (λ o. with_names (operand_names o) (stored_names old)) (sym same)) f)
 
-  pub read_negated : (s : Store) (part : ℕ) → HasNamesOf old s part → stored_names new ≡ stored_names s
+  pub read_negated : (s : NodeStore) (part : ℕ) → HasNamesOf old s part → stored_names new ≡ stored_names s
       → Represents (exprs_in new) id (negated (node_expr (exprs_in s) part)) → HasNamesOf old new id
   read_negated s part e f h = of_expr (negated (node_expr (exprs_in s) part)) h (f ∙ e)
 
   pub read_joined : (joined : Expr → Expr → Expr) → ((a b : Expr) → names_in (joined a b) ≡ names_in a ++ names_in b)
-      → (s0 s1 : Store) (left right : ℕ) (e : Expr) → HasNamesOf old s0 left → IsSound s0 → Extends s0 s1 → Represents (exprs_in s0) left e
+      → (s0 s1 : NodeStore) (left right : ℕ) (e : Expr) → HasNamesOf old s0 left → IsSound s0 → Extends s0 s1 → Represents (exprs_in s0) left e
       → HasNamesOf s0 s1 right
       → stored_names new ≡ stored_names s1 → Represents (exprs_in new) id (joined (node_expr (exprs_in s1) left) (node_expr (exprs_in s1) right))
       → HasNamesOf old new id

@@ -1,14 +1,12 @@
 -- Names and their places.
-use Rattle.std.proofs.Common.{◌≡◌, ℕ, suc, zero, ◌+◌, ◌<◌, ◌≤◌, Bool, true, false, List, [], ◌∷◌, length, get_or, Option, Some, None, map, ◌++◌, ◌||◌, not, ltb, ◌⊎◌, inl, inr, length-append, refl, ap, sym, ◌∙◌, arith, cond}
-use Rattle.std.specs.Prelude.{option_map, option_and_then, is_some, bytes_eq}
-use Rattle.std.proofs.lemmas.Slice.Eq.{bytes_eq-Decides}
-use Rattle.std.proofs.lemmas.Bool.{false_from_ne_true, both_ways, or_parts, ltb-true, ltb-false, lt-ltb, le-ltb, cases_lt}
-use Rattle.std.proofs.Math.Seq.{get_or-append_seam}
-use Rattle.std.proofs.lemmas.List.{get_or_append_left, map-append}
-use Rattle.std.specs.List.{list_any, position_or_len, position}
+use Rattle.std.proofs.Common.{not, ltb}
+use Rattle.std.specs.Prelude.{is_some}
+use Rattle.kc_expr.proofs.Common.{◌≡◌, ℕ, suc, zero, ◌+◌, ◌<◌, ◌≤◌, Bool, true, false, List, [], ◌∷◌, length, get_or, Option, Some, None, map, ◌++◌, ◌||◌, ◌⊎◌, inl, inr, length-append, refl, ap, sym, ◌∙◌, arith, cond, option_map, option_and_then, bytes_eq, bytes_eq-Decides, both_ways, cases_lt}
+use Rattle.kc_expr.proofs.Common.{get_or-append_seam, get_or_append_left, map-append, list_any, AreDistinct, environment_of, with_name}
+use Rattle.std.proofs.lemmas.Bool.{false_from_ne_true, or_parts, ltb-true, ltb-false, lt-ltb, le-ltb}
+use Rattle.std.specs.List.{position_or_len, position}
 use Rattle.kc_expr.specs.Expr.{SymbolValue}
-use Rattle.kc_expr.specs.Lookup.{index_of_name, AreDistinct, environment_of}
-use Rattle.kc_expr.specs.between.Names.{with_name}
+use Rattle.kc_expr.specs.Lookup.{index_of_name}
 
 same_bytes : (n : List ℕ) → bytes_eq n n ≡ true
 same_bytes n = (bytes_eq-Decides n n).1 refl

@@ -1,18 +1,12 @@
 -- The tokens of the expression at a place, in the code's slices.
-use Rattle.std.proofs.Common.{◌≡◌, ℕ, suc, zero, ◌-◌, ◌⊎◌, inl, inr, Bool, true, false, ◌&&◌, ◌||◌, cond, List, [], ◌∷◌, length, take, drop, Err, refl, ap, sym, ◌∙◌, length-drop}
-use Rattle.std.proofs.Math.Seq.{take-length}
+use Rattle.kc_expr.proofs.Common.{◌≡◌, ℕ, suc, zero, ◌-◌, ◌⊎◌, inl, inr, Bool, true, false, ◌&&◌, ◌||◌, cond, List, [], ◌∷◌, length, take, drop, Err, refl, ap, sym, ◌∙◌, length-drop, take-length, ExprFault, ExprKind, NodeStore, Expr, extent, is_operand_kind, is_close, IsExpr, ors, fault_of}
+use Rattle.kc_expr.proofs.Common.{IsParsedToEnd, IsRefusedToEnd, expr_end, exprs_in, Lexeme, lexemes_of, lexeme_of}
 use Rattle.std.proofs.lemmas.List.{take-map, drop-take}
-use Rattle.kc_tokens.specs.declared.fault.ExprFault.{ExprFault}
-use Rattle.kc_tokens.specs.declared.fault.ExprKind.{ExprKind}
 use Rattle.kc_tokens.specs.MemoryFaults.{IsOutOfMemory}
-use Rattle.kc_expr.specs.declared.store.Store.{Store}
 use Rattle.kc_tokens.specs.declared.token.Token.{Token as CodeToken}
-use Rattle.kc_expr.specs.Expr.{Expr}
-use Rattle.kc_expr.specs.Grammar.{extent, is_operand_kind, is_close, read_expr, IsExpr, ors, fault_of}
-use Rattle.kc_expr.specs.checker.ParserResults.{read_all_tokens, IsParsedToEnd, IsRefusedToEnd}
-use Rattle.kc_expr.specs.between.ParseResults.{expr_tokens, expr_end, ReadsExpr, RefusesExpr}
-use Rattle.kc_expr.specs.checker.Store.{exprs_in}
-use Rattle.kc_tokens.specs.Token.{Lexeme, lexemes_of, lexeme_of}
+use Rattle.kc_expr.specs.Grammar.{read_expr}
+use Rattle.kc_expr.specs.checker.ParserResults.{read_all_tokens}
+use Rattle.kc_expr.specs.between.ParseResults.{expr_tokens, ReadsExpr, RefusesExpr}
 use Rattle.kc_expr.proofs.FirstFaults.{first_fault}
 use Rattle.kc_expr.proofs.GrammarComplete.{expr_complete}
 use Rattle.kc_expr.proofs.GrammarLaws.{expr_sound}
@@ -35,9 +29,8 @@ extent_by false t us ih = ap (λ vs. t ∷ vs) ih
 
 -- an expression's tokens are a front of the tokens
 extent_front : (ts : List Lexeme) → take (length (extent ts)) ts ≡ extent ts
-extent_front [] = refl
-extent_front (t ∷ []) = refl
 extent_front (t ∷ u ∷ ts) = extent_by ((is_operand_kind t.kind || is_close t.kind) && is_operand_kind u.kind) t (u ∷ ts) (extent_front (u ∷ ts))
+extent_front _ = refl
 
 -- the slice `&tokens[..end]` has the tokens up to the end of the expression
 pub front_pieces : (ts : List CodeToken) (at end : ℕ) → end ≡ expr_end (lexemes_of ts) at → lexemes_of (take end ts)
@@ -52,7 +45,7 @@ middle_pieces ts at end e =
 
 -- from the results over a line's front to those over the line
 module _ (ts line : List CodeToken) (at end : ℕ) (is_line : line ≡ take end ts) (is_end : end ≡ expr_end (lexemes_of ts) at) where
-  pub line_read : (s : Store) (condition : Bool) (id : ℕ) → IsParsedToEnd s condition (read_all_tokens 64 (drop at (lexemes_of line))) id
+  pub line_read : (s : NodeStore) (condition : Bool) (id : ℕ) → IsParsedToEnd s condition (read_all_tokens 64 (drop at (lexemes_of line))) id
       → ReadsExpr (exprs_in s) id condition (expr_tokens (lexemes_of ts) at)
   line_read s condition id p =
       let middle = ap (λ l. drop at (lexemes_of l)) is_line ∙ middle_pieces ts at end is_end in

@@ -1,28 +1,20 @@
 -- The expressions that a store represents, as it grows.
-use Rattle.std.proofs.Common.{◌≡◌, ℕ, suc, ◌+◌, ◌^◌, ◌<◌, ◌≤◌, List, [], ◌∷◌, ◌++◌, length, get_or, take, drop, map, Bool, true, false, cond, refl, ap, sym, ◌∙◌, subst, arith, length-append, append_assoc, append-nil}
-use Rattle.std.specs.Prelude.{string_bytes}
-use Rattle.std.proofs.lemmas.List.{take-append-drop, length-take, get_or_append_left, map-append}
-use Rattle.std.proofs.Math.Seq.{take-append_seam, take-length}
-use Rattle.kc_value.specs.declared.tri.Tri.TheVariants.{N}
-use Rattle.kc_expr.specs.declared.node.Leaf.{Leaf}
-use Rattle.kc_expr.specs.declared.node.Leaf.TheVariants.{Constant, Name, Quoted}
-use Rattle.kc_expr.specs.declared.node.Node.{Node}
-use Rattle.kc_expr.specs.declared.node.Node.TheVariants.{Alone, Related, Negated, Both, Either, Shown}
-use Rattle.kc_expr.specs.declared.store.Store.{Store}
-use Rattle.kc_expr.specs.between.Arena.{Exprs, node_expr, Represents, Grows}
-use Rattle.kc_expr.specs.Expr.{Expr, alone, related, constant, named, quoted}
-use Rattle.kc_expr.specs.Lookup.{AreDistinct}
-use Rattle.kc_expr.specs.checker.Nodes.{operand_of, expr_of, exprs_after, exprs_of, LeafFits, NodeFits, some_node}
-use Rattle.kc_expr.specs.checker.Store.{stored_names, exprs_in, IsSound, Extends}
+use Rattle.kc_expr.proofs.Common.{◌≡◌, ℕ, suc, ◌+◌, ◌^◌, ◌<◌, ◌≤◌, List, [], ◌∷◌, ◌++◌, length, get_or, take, drop, map, Bool, true, false, cond, refl, ap, sym, ◌∙◌, subst, arith, length-append, append_assoc, append-nil, string_bytes, get_or_append_left, map-append, take-append_seam, take-length, N}
+use Rattle.kc_expr.proofs.Common.{Leaf, Constant, Node, Alone, NodeStore, Exprs, node_expr, Represents, Expr, alone, related, constant, named, quoted, AreDistinct, operand_of, expr_of, exprs_after, exprs_of, NodeFits, some_node, stored_names, exprs_in, IsSound, Extends, kept_through}
+use Rattle.std.proofs.lemmas.List.{take-append-drop, length-take}
+use Rattle.kc_expr.specs.declared.node.Leaf.TheVariants.{Name, Quoted}
+use Rattle.kc_expr.specs.declared.node.Node.TheVariants.{Related}
+use Rattle.kc_expr.specs.between.Arena.{Grows}
+use Rattle.kc_expr.specs.checker.Nodes.{LeafFits}
 use Rattle.kc_expr.proofs.NodeLemmas.{at_node, nodes_push, represents_last, length-exprs}
 
 -- the expression that a sound store represents at a number is that of the node with this number
-pub node_of : (s : Store) (i : ℕ) (found n : Node) → IsSound s → i < length s.nodes.items → found ≡ get_or s.nodes.items i some_node → found ≡ n
+pub node_of : (s : NodeStore) (i : ℕ) (found n : Node) → IsSound s → i < length s.nodes.items → found ≡ get_or s.nodes.items i some_node → found ≡ n
     → node_expr (exprs_in s) i ≡ expr_of (stored_names s) s.texts.items (exprs_in s).nodes n
 node_of s i found n sound h e f = at_node (stored_names s) s.texts.items (length (stored_names s)) (length s.texts.items) s.nodes.items i n sound.nodes h
     (sym e ∙ f)
 
-pub fits_at : (s : Store) (i : ℕ) (found n : Node) → IsSound s → i < length s.nodes.items → found ≡ get_or s.nodes.items i some_node → found ≡ n
+pub fits_at : (s : NodeStore) (i : ℕ) (found n : Node) → IsSound s → i < length s.nodes.items → found ≡ get_or s.nodes.items i some_node → found ≡ n
     → NodeFits (length (stored_names s)) (length s.texts.items) i n
 fits_at s i found n sound h e f = subst (NodeFits (length (stored_names s)) (length s.texts.items) i) (sym e ∙ f) (sound.nodes i h)
 
@@ -36,26 +28,20 @@ prefix_long xs ys e = omega (arith, ap length e, length-take (length xs) ys)
 kept_get : {X : Type 0} (xs ys : List X) (i : ℕ) (d : X) → take (length xs) ys ≡ xs → i < length xs → get_or ys i d ≡ get_or xs i d
 kept_get xs ys i d e h = ap (λ zs. get_or zs i d) (prefix_parts xs ys e) ∙ get_or_append_left xs (drop (length xs) ys) d i h
 
-prefix_trans : {X : Type 0} (xs ys zs : List X) → take (length xs) ys ≡ xs → take (length ys) zs ≡ ys → take (length xs) zs ≡ xs
-prefix_trans xs ys zs e f =
-    ap (take (length xs)) (prefix_parts ys zs f ∙ ap (λ vs. vs ++ drop (length ys) zs) (prefix_parts xs ys e)
-    ∙ append_assoc xs (drop (length xs) ys) (drop (length ys) zs))
-    ∙ take-append_seam xs (drop (length xs) ys ++ drop (length ys) zs)
-
 prefix_map : {X Y : Type 0} (f : X → Y) (xs ys : List X) → take (length xs) ys ≡ xs → take (length (map f xs)) (map f ys) ≡ map f xs
 prefix_map f xs ys e =
     ap (λ zs. take (length (map f xs)) (map f zs)) (prefix_parts xs ys e)
     ∙ ap (take (length (map f xs))) (map-append f xs (drop (length xs) ys))
     ∙ take-append_seam (map f xs) (map f (drop (length xs) ys))
 
-pub extends_self : (s : Store) → Extends s s
+pub extends_self : (s : NodeStore) → Extends s s
 extends_self s = record { names = take-length s.names.keys; texts = take-length s.texts.items; nodes = take-length s.nodes.items }
 
-pub extends_on : (a b c : Store) → Extends a b → Extends b c → Extends a c
+pub extends_on : (a b c : NodeStore) → Extends a b → Extends b c → Extends a c
 extends_on a b c e f = record {
-  names = prefix_trans a.names.keys b.names.keys c.names.keys e.names f.names;
-  texts = prefix_trans a.texts.items b.texts.items c.texts.items e.texts f.texts;
-  nodes = prefix_trans a.nodes.items b.nodes.items c.nodes.items e.nodes f.nodes;
+  names = kept_through a.names.keys b.names.keys c.names.keys e.names f.names;
+  texts = kept_through a.texts.items b.texts.items c.texts.items e.texts f.texts;
+  nodes = kept_through a.nodes.items b.nodes.items c.nodes.items e.nodes f.nodes;
 }
 
 -- names and texts that come after change no operand
@@ -74,18 +60,12 @@ module _ (names texts more_names more_texts : List (List ℕ)) (n : take (length
   expr_kept es k (Alone a) h = ap alone (operand_kept a h)
   expr_kept es k (Related op a b) h = ap (λ x. related op x (operand_of more_names more_texts b)) (operand_kept a h.0)
       ∙ ap (related op (operand_of names texts a)) (operand_kept b h.1)
-  expr_kept es k (Negated i) h = refl
-  expr_kept es k (Both i j) h = refl
-  expr_kept es k (Either i j) h = refl
-  expr_kept es k (Shown i) h = refl
+  expr_kept es k _ h = refl
 
   fits_kept : (k : ℕ) (m : Node) → NodeFits (length names) (length texts) k m → NodeFits (length more_names) (length more_texts) k m
   fits_kept k (Alone a) h = leaf_kept a h
   fits_kept k (Related op a b) h = (leaf_kept a h.0, leaf_kept b h.1)
-  fits_kept k (Negated i) h = h
-  fits_kept k (Both i j) h = h
-  fits_kept k (Either i j) h = h
-  fits_kept k (Shown i) h = h
+  fits_kept k _ h = h
 
   exprs_kept : (es : List Expr) (ns : List Node) → ((k m : ℕ) → m ≡ length es + k → k < length ns → NodeFits (length names) (length texts) m
       (get_or ns k some_node)) → exprs_after more_names more_texts es ns ≡ exprs_after names texts es ns
@@ -109,7 +89,7 @@ module _ (names texts : List (List ℕ)) where
       (expr_of names texts es n ∷ rest, e ∙ append_assoc es (expr_of names texts es n ∷ []) rest)
 
 -- an extended store represents each expression that it represented before
-pub grows : (old new : Store) → IsSound old → Extends old new → Grows (exprs_in old) (exprs_in new)
+pub grows : (old new : NodeStore) → IsSound old → Extends old new → Grows (exprs_in old) (exprs_in new)
 grows old new sound e =
     let names_kept = prefix_map string_bytes old.names.keys new.names.keys e.names in
     let more = drop (length old.nodes.items) new.nodes.items in
@@ -133,11 +113,11 @@ represents_on old new id e g s = record {
   is = kept_get old.nodes new.nodes id (alone (constant N)) g.nodes s.within ∙ s.is;
 }
 
-pub represents_later : (old new : Store) (id : ℕ) (e : Expr) → IsSound old → Extends old new → Represents (exprs_in old) id e → Represents (exprs_in new) id e
+pub represents_later : (old new : NodeStore) (id : ℕ) (e : Expr) → IsSound old → Extends old new → Represents (exprs_in old) id e → Represents (exprs_in new) id e
 represents_later old new id e sound x s = represents_on (exprs_in old) (exprs_in new) id e (grows old new sound x) s
 
 -- one node more
-module _ (old new : Store) (node : Node) (sound : IsSound old) (nodes : new.nodes.items ≡ old.nodes.items ++ node ∷ [])
+module _ (old new : NodeStore) (node : Node) (sound : IsSound old) (nodes : new.nodes.items ≡ old.nodes.items ++ node ∷ [])
     (names : new.names.keys ≡ old.names.keys) (texts : new.texts.items ≡ old.texts.items) where
   pub push_extends : Extends old new
   push_extends = record {
@@ -159,15 +139,15 @@ module _ (old new : Store) (node : Node) (sound : IsSound old) (nodes : new.node
   push_represents id e = rw (nodes, names, texts) (represents_last (stored_names old) old.texts.items old.nodes.items node id e)
 
 -- a store has as many expressions as nodes
-pub length-nodes : (s : Store) → length (exprs_in s).nodes ≡ length s.nodes.items
+pub length-nodes : (s : NodeStore) → length (exprs_in s).nodes ≡ length s.nodes.items
 length-nodes s = omega (arith, length-exprs (stored_names s) s.texts.items [] s.nodes.items)
 
 -- the number of an expression that contracts see is that of a node of the store
-pub within_nodes : (a : Exprs) (s : Store) (i : ℕ) → exprs_in s ≡ a → i < length a.nodes → i < length s.nodes.items
+pub within_nodes : (a : Exprs) (s : NodeStore) (i : ℕ) → exprs_in s ≡ a → i < length a.nodes → i < length s.nodes.items
 within_nodes a s i e h = omega (arith, h, ap (λ (x : Exprs). length x.nodes) e, length-nodes s)
 
 -- a sound store is still sound after names and texts are appended, if no name is held twice and there aren't too many
-pub sound_on : (old new : Store) → IsSound old → Extends old new → new.nodes.items ≡ old.nodes.items → AreDistinct (stored_names new)
+pub sound_on : (old new : NodeStore) → IsSound old → Extends old new → new.nodes.items ≡ old.nodes.items → AreDistinct (stored_names new)
     → length new.names.keys ≤ 2 ^ 32 → IsSound new
 sound_on old new sound e same d few = record {
   nodes = rw same (λ k l. fits_kept (stored_names old) old.texts.items (stored_names new) new.texts.items
@@ -178,21 +158,12 @@ sound_on old new sound e same d few = record {
 }
 
 -- an operand means the same in an extended store
-pub operand_on : (old new : Store) (a : Leaf) → Extends old new → LeafFits (length (stored_names old)) (length old.texts.items) a
+pub operand_on : (old new : NodeStore) (a : Leaf) → Extends old new → LeafFits (length (stored_names old)) (length old.texts.items) a
     → operand_of (stored_names new) new.texts.items a ≡ operand_of (stored_names old) old.texts.items a
 operand_on old new a e h = operand_kept (stored_names old) old.texts.items (stored_names new) new.texts.items
     (prefix_map string_bytes old.names.keys new.names.keys e.names) e.texts a h
 
-pub leaf_on : (old new : Store) (a : Leaf) → Extends old new → LeafFits (length (stored_names old)) (length old.texts.items) a
-    → LeafFits (length (stored_names new)) (length new.texts.items) a
-leaf_on old new a e h = leaf_kept (stored_names old) old.texts.items (stored_names new) new.texts.items
-    (prefix_map string_bytes old.names.keys new.names.keys e.names) e.texts a h
-
--- the number of a node is that of a node in an extended store too
-pub node_on : (old new : Store) (i : ℕ) → Extends old new → i < length old.nodes.items → i < length new.nodes.items
-node_on old new i e h = omega (arith, h, prefix_long old.nodes.items new.nodes.items e.nodes)
-
-pub represents_node : (s : Store) (i : ℕ) (e : Expr) → Represents (exprs_in s) i e → i < length s.nodes.items
+pub represents_node : (s : NodeStore) (i : ℕ) (e : Expr) → Represents (exprs_in s) i e → i < length s.nodes.items
 represents_node s i e h = omega (arith, h.within, length-nodes s)
 
 -- a list to which an element is appended, or none, begins with what it was

@@ -1,11 +1,6 @@
 -- A property that a line has and each part of it keeps holds of its tokens.
-use Rattle.std.proofs.Common.{◌≡◌, ℕ, zero, suc, ◌+◌, pred, List, [], ◌∷◌, Result, Ok, Err, subst, refl, take}
-use Rattle.kc_tokens.specs.Token.{with_front}
-use Rattle.kc_tokens.specs.declared.language.Language.{Language}
-use Rattle.kc_tokens.specs.Token.{Lexeme, next_token, lexemes_from}
-use Rattle.kc_tokens.specs.declared.fault.ExprFault.{ExprFault}
-use Rattle.kc_tokens.specs.declared.token.NextToken.{NextToken}
-use Rattle.kc_tokens.specs.declared.token.NextToken.TheVariants.{White, Comment, Token, Fault}
+use Rattle.kc_expr.proofs.Common.{◌≡◌, ℕ, zero, suc, ◌+◌, pred, List, [], ◌∷◌, Result, Ok, Err, subst, refl, take, with_front, Language, Lexeme, lexemes_from, ExprFault, NextToken, White, Comment, Token, Fault}
+use Rattle.kc_tokens.specs.Token.{next_token}
 
 abbrev pub AllTexts : (List ℕ → Type 0) → List Lexeme → Type 0
 AllTexts P [] = Unit {0}

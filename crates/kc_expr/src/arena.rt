@@ -10,9 +10,9 @@ use super::ids::{ExprId, NameId};
 use super::lookup::Lookup;
 use super::names::{push_names, push_unvisited};
 use super::node::{Leaf, Node};
+use super::node_store::NodeStore;
 use super::operand::Operand;
 use super::parse::extent_len;
-use super::store::Store;
 use super::visited_set::VisitedSet;
 use kc_tokens::{ExprFault, Token};
 use kc_value::{MAX_EXPR_DEPTH, Seed, Tri};
@@ -23,7 +23,7 @@ use std::marker::Model;
 /// node represents.
 #[derive(Drop)]
 pub struct Arena {
-    store: Store,
+    store: NodeStore,
 }
 
 impl Model for Arena {
@@ -68,7 +68,7 @@ impl Arena {
         ensures nodes { result.nodes ≡ [] }
     {
         Arena {
-            store: Store::new(alloc, seed),
+            store: NodeStore::new(alloc, seed),
         }
     }
 

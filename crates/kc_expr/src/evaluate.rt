@@ -15,7 +15,7 @@ ghost use Rattle.kc_expr.specs.Lookup.{environment_of, AreDistinct};
 use super::ids::NameId;
 use super::lookup::Lookup;
 use super::node::{Leaf, Node};
-use super::store::Store;
+use super::node_store::NodeStore;
 use kc_tokens::Relop;
 use kc_value::{Kind, Tri, hex_of, int_of, loose_number_of};
 use std::cmp::Ordering;
@@ -86,7 +86,7 @@ struct Side<'a> {
 
 /// A side of a relation: its text, its number, and whether it is string-typed.
 #[tactic(auto, using(crate::proofs::Places::seen_at))]
-fn side_of<'a, L: Lookup>(store: &'a Store, leaf: Leaf, lookup: &'a L) -> Side<'a>
+fn side_of<'a, L: Lookup>(store: &'a NodeStore, leaf: Leaf, lookup: &'a L) -> Side<'a>
     requires fits { LeafFits (length (stored_names store.now)) (length store.now.texts.items) leaf }
     requires distinct { AreDistinct (stored_names store.now) }
     ensures text { result.text.now ≡ operand_text (environment_of (stored_names store.now) (L.symbol_values lookup.now)) (operand_of (stored_names store.now) store.now.texts.items leaf) }
@@ -140,7 +140,7 @@ fn compare(a: Side<'_>, b: Side<'_>) -> Ordering
 
 /// The value of a leaf that is a whole expression.
 #[tactic(auto, using(crate::proofs::Places::seen_at))]
-fn leaf_value<L: Lookup>(store: &Store, leaf: Leaf, lookup: &L) -> Tri
+fn leaf_value<L: Lookup>(store: &NodeStore, leaf: Leaf, lookup: &L) -> Tri
     requires fits { LeafFits (length (stored_names store.now)) (length store.now.texts.items) leaf }
     requires distinct { AreDistinct (stored_names store.now) }
     ensures value { result ≡ operand_value (environment_of (stored_names store.now) (L.symbol_values lookup.now)) (operand_of (stored_names store.now) store.now.texts.items leaf) }
@@ -166,7 +166,7 @@ fn shown_value(value: Tri) -> Tri
 }
 
 /// The value of a relation.
-fn related_value<L: Lookup>(store: &Store, op: Relop, a: Leaf, b: Leaf, lookup: &L) -> Tri
+fn related_value<L: Lookup>(store: &NodeStore, op: Relop, a: Leaf, b: Leaf, lookup: &L) -> Tri
     requires left { LeafFits (length (stored_names store.now)) (length store.now.texts.items) a }
     requires right { LeafFits (length (stored_names store.now)) (length store.now.texts.items) b }
     requires distinct { AreDistinct (stored_names store.now) }
@@ -184,7 +184,7 @@ fn related_value<L: Lookup>(store: &Store, op: Relop, a: Leaf, b: Leaf, lookup: 
 
 /// The value of the expression that a node represents, by the node's number. Most expressions are just one operand.
 #[inline(always)]
-pub(crate) fn value_of<L: Lookup>(store: &Store, index: usize, lookup: &L) -> Tri
+pub(crate) fn value_of<L: Lookup>(store: &NodeStore, index: usize, lookup: &L) -> Tri
     requires there { index < length store.now.nodes.items }
     requires sound { IsSound store.now }
     ensures value { result ≡ value (environment_of (stored_names store.now) (L.symbol_values lookup.now)) (node_expr (exprs_in store.now) index) }
@@ -197,7 +197,7 @@ pub(crate) fn value_of<L: Lookup>(store: &Store, index: usize, lookup: &L) -> Tr
 
 /// The value of the expression of a node, whatever it is. A chain of `&&` or `||`, which group from the left, is gone down by a loop.
 #[inline(never)]
-fn value_at<L: Lookup>(store: &Store, index: usize, lookup: &L) -> Tri
+fn value_at<L: Lookup>(store: &NodeStore, index: usize, lookup: &L) -> Tri
     requires there { index < length store.now.nodes.items }
     requires sound { IsSound store.now }
     ensures value { result ≡ value (environment_of (stored_names store.now) (L.symbol_values lookup.now)) (node_expr (exprs_in store.now) index) }

@@ -8,8 +8,8 @@ ghost use Rattle.kc_expr.specs.checker.Store.{stored_names, exprs_in, IsSound};
 
 use super::ids::{ExprId, NameId};
 use super::node::{Leaf, Node};
+use super::node_store::NodeStore;
 use super::operand::Operand;
-use super::store::Store;
 use kc_tokens::Relop;
 
 /// What an expression is made of: operands, or expressions of the same arena with smaller numbers.
@@ -24,7 +24,7 @@ pub enum ExprParts<'a> {
 }
 
 /// The operand that a leaf is.
-fn operand_at(store: &Store, leaf: Leaf) -> Operand<'_>
+fn operand_at(store: &NodeStore, leaf: Leaf) -> Operand<'_>
     requires fits { LeafFits (length (stored_names store.now)) (length store.now.texts.items) leaf }
     ensures operand { operand_of_ref (stored_names store.now) result ≡ operand_of (stored_names store.now) store.now.texts.items leaf }
     ensures held { HasKnownName (stored_names store.now) result }
@@ -37,7 +37,7 @@ fn operand_at(store: &Store, leaf: Leaf) -> Operand<'_>
 }
 
 /// The parts of the expression that a node represents.
-pub(crate) fn parts_of(store: &Store, index: usize) -> ExprParts<'_>
+pub(crate) fn parts_of(store: &NodeStore, index: usize) -> ExprParts<'_>
     requires there { index < length store.now.nodes.items }
     requires sound { IsSound store.now }
     ensures expr { node_expr (exprs_in store.now) index ≡ expr_of_parts (exprs_in store.now) result }

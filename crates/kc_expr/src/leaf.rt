@@ -13,7 +13,7 @@ ghost use Rattle.kc_expr.specs.checker.ParserResults.{first_operand, is_m, names
 ghost use Rattle.kc_tokens.specs.Token.{lexemes_of};
 
 use super::node::{Leaf, Node};
-use super::store::Store;
+use super::node_store::NodeStore;
 use kc_tokens::{ExprFault, Token, TokenKind, quoted_text as text_of};
 use kc_value::{Text, Tri};
 
@@ -35,7 +35,7 @@ fn is_constant_m(leaf: Leaf) -> bool
     matches!(leaf, Leaf::Constant(Tri::M))
 }
 
-impl Store {
+impl NodeStore {
     ghost use Rattle.kc_expr.specs.checker.Store.{stored_names, exprs_in, IsSound, Extends, HasNamesOf};
 
     /// The operand that a word is: a constant or a name, which is appended if it is new.
@@ -55,7 +55,10 @@ impl Store {
         if let Some(index) = self.find_newest(text) {
             return Ok(Leaf::Name(index));
         }
-        let index = self.intern(text)?;
+        if let Some(index) = self.find(text) {
+            return Ok(Leaf::Name(index));
+        }
+        let index = self.insert_name(text)?;
         Ok(Leaf::Name(index))
     }
 
@@ -135,8 +138,8 @@ impl Store {
         if !condition || !is_constant_m(leaf) {
             return Ok(id);
         }
-        let modules = self.intern("MODULES")?;
-        let name = self.push(Node::Alone(Leaf::Name(modules)))?;
+        let modules = self.word_leaf("MODULES")?;
+        let name = self.push(Node::Alone(modules))?;
         self.push(Node::Both(id, name))
     }
 }

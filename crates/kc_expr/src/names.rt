@@ -9,13 +9,13 @@ ghost use Rattle.kc_expr.specs.between.ReverseNames.{names_in_reverse};
 
 use super::ids::NameId;
 use super::node::{Leaf, Node};
-use super::store::Store;
+use super::node_store::NodeStore;
 use super::visited_set::VisitedSet;
 use std::alloc::AllocError;
 
 /// Appends the name of a leaf, if it is one.
 #[tactic(auto, using(kc_tokens::proofs::KeptLists::kept_after))]
-fn push_name(store: &Store, leaf: Leaf, found: &mut Vec<NameId>) -> Result<(), AllocError>
+fn push_name(store: &NodeStore, leaf: Leaf, found: &mut Vec<NameId>) -> Result<(), AllocError>
     requires fits { LeafFits (length (stored_names store.now)) (length store.now.texts.items) leaf }
     ensures words { OnOk result (map (λ i. slice_index_or (stored_names store.now) i []) found.new.items
         ≡ map (λ i. slice_index_or (stored_names store.now) i []) found.old.items ++ operand_names (operand_of (stored_names store.now) store.now.texts.items leaf)) }
@@ -30,7 +30,7 @@ fn push_name(store: &Store, leaf: Leaf, found: &mut Vec<NameId>) -> Result<(), A
 
 /// Appends to `found` the numbers of the names in the expression that a node represents.
 pub(crate) fn push_names(
-    store: &Store,
+    store: &NodeStore,
     index: usize,
     found: &mut Vec<NameId>,
 ) -> Result<(), AllocError>
@@ -67,7 +67,7 @@ pub(crate) fn push_names(
 /// node as visited. Most expressions are just one operand.
 #[inline(always)]
 pub(crate) fn push_unvisited(
-    store: &Store,
+    store: &NodeStore,
     index: usize,
     walk: &mut VisitedSet,
     found: &mut Vec<NameId>,
@@ -95,7 +95,7 @@ pub(crate) fn push_unvisited(
 #[inline(never)]
 #[tactic(auto, using(kc_tokens::proofs::KeptLists::kept_through))]
 fn push_new_names(
-    store: &Store,
+    store: &NodeStore,
     index: usize,
     walk: &mut VisitedSet,
     found: &mut Vec<NameId>,

@@ -7,7 +7,7 @@ ghost use Rattle.kc_expr.specs.checker.ParserResults.{first_kind, first_operand,
 ghost use Rattle.kc_tokens.specs.Token.{lexemes_of};
 
 use super::node::Node;
-use super::store::Store;
+use super::node_store::NodeStore;
 use kc_tokens::{ExprFault, ExprKind, Relop, Token, TokenKind};
 
 /// Whether the token at an index is of this kind.
@@ -119,7 +119,7 @@ fn ends_between(left: TokenKind, right: TokenKind) -> bool
         && matches!(right, TokenKind::Word | TokenKind::Quoted)
 }
 
-impl Store {
+impl NodeStore {
     ghost use Rattle.kc_expr.specs.checker.Store.{IsSound, Extends, HasNamesOf};
 
     /// Reads an operand, or a relation of two.

@@ -1,18 +1,10 @@
 -- Keys of expanded files, through the map that holds them.
-use Rattle.std.proofs.Common.{◌≡◌, ℕ, suc, ◌+◌, Bool, true, false, cond, not, ◌&&◌, ◌||◌, List, [], ◌∷◌, ◌++◌, length, map, Option, Some}
-use Rattle.std.proofs.Common.{None, refl, sym, ap, ◌∙◌, arith}
-use Rattle.std.specs.Prelude.{Vec, bytes_eq, is_some, unwrap_or, decimal, nat_lt}
-use Rattle.std.specs.List.{list_any, IsDistinct, AllByRecursion}
-use Rattle.std.specs.Map.{lookup}
-use Rattle.std.specs.declared.alloc.Global.{Global}
-use Rattle.indexmap.specs.IndexMap.{insert_entry}
-use Rattle.kc_macros_model.specs.ReadingStates.{ExpandedFile, has_key, is_taken, free_key, key_of}
-use Rattle.kc_files.specs.declared.expanded_files.FileOfKey.{FileOfKey}
-use Rattle.kc_files.specs.checker.ExpandedViews.{expanded_file, HasDistinctKeys, with_file}
+use Rattle.kc_files.proofs.Common.{◌≡◌, ℕ, suc, ◌+◌, Bool, true, false, cond, not, ◌&&◌, ◌||◌, List, [], ◌∷◌, ◌++◌, length, map, Option, Some, None, refl, sym, ap, ◌∙◌, arith, Vec, Result, Ok, Err, IfOk, OnOk, OnErr, bytes_eq, is_some, unwrap_or, nat_lt, list_any, lookup, Global, insert_entry}
+use Rattle.kc_files.proofs.Common.{ExpandedFile, has_key, is_taken, free_key, key_of, FileOfKey, expanded_file, HasDistinctKeys, with_file, IsPushed, bytes_eq-Decides, nat_tests}
+use Rattle.std.specs.Prelude.{decimal}
+use Rattle.std.specs.List.{IsDistinct, AllByRecursion}
 use Rattle.kc_files.proofs.TableLemmas.{bytes_eq_turned}
-use Rattle.std.proofs.lemmas.Slice.Eq.{bytes_eq-Decides}
 use Rattle.std.proofs.lemmas.List.{length-append}
-use Rattle.std.proofs.lemmas.Bool.Decides.{nat_tests}
 
 abbrev Entry : Type 0
 Entry = Vec ℕ Global × FileOfKey
@@ -178,6 +170,17 @@ new_key false h = refl
 pub old_key : (there : Bool) → not there ≡ false → there ≡ true
 old_key true h = refl
 old_key false h = absurd (let z : ⊥ = cc in z)
+
+pub pushed_below_root : {E : Type 0} (root path text : List ℕ) (files more : List ExpandedFile) (r : Result Bool E) → bytes_eq path root ≡ false
+    → IfOk r (λ first. first ≡ not (has_key files path)) → OnOk r (more ≡ with_file path path text files)
+    → IfOk r (λ pushed. IsPushed root path text files pushed more)
+pushed_below_root root path text files more (Err e) d f h = tt
+pushed_below_root root path text files more (Ok true) d f h = (d, new_key (has_key files path) (sym f), h)
+pushed_below_root root path text files more (Ok false) d f h = h ∙ sym (kept_there path path text files (old_key (has_key files path) (sym f)))
+
+pub on_err : {A E P : Type 0} (r : Result A E) → P → OnErr r P
+on_err (Ok x) p = tt
+on_err (Err e) p = p
 
 -- a path that is no key is free
 no_other : (key text : List ℕ) (files : List ExpandedFile) → has_key files key ≡ false

@@ -1,8 +1,5 @@
 -- The first file of a tree comes after the files that were sourced.
-use Rattle.std.proofs.Common.{◌≡◌, ℕ, Bool, true, false, cond, List, [], ◌∷◌, ◌++◌, Some, None, refl, ap, ◌∙◌}
-use Rattle.std.specs.Prelude.{bytes_eq}
-use Rattle.kc_macros_model.specs.ReadingStates.{ExpandedFile}
-use Rattle.kc_files.specs.PathsOfKeys.{path_of_key}
+use Rattle.kc_files.proofs.Common.{◌≡◌, ℕ, Bool, true, false, cond, List, [], ◌∷◌, ◌++◌, Some, None, refl, ap, ◌∙◌, bytes_eq, ExpandedFile, path_of_key}
 use Rattle.kc_files.proofs.TableLemmas.{bytes_eq_turned}
 
 -- the path of a key in the first of two lists of expanded files is its path in both lists together

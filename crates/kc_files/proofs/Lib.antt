@@ -1,3 +1,4 @@
+pub mod Common
 pub mod PathLemmas
 pub mod MatchLemmas
 pub mod TableLemmas

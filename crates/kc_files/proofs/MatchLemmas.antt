@@ -1,12 +1,11 @@
 -- The ends of a name that match a piece.
-use Rattle.std.proofs.Common.{◌≡◌, ℕ, zero, suc, ◌+◌, ◌<◌, ◌≤◌, Bool, true, false, ◌||◌, ◌&&◌, ◌==◌, List, [], ◌∷◌, length, drop, get_or, refl, sym, ap, ◌∙◌, arith, drop-drop, length-drop, ◌⊎◌, inl, inr, set, take, ◌++◌}
-use Rattle.std.specs.List.{list_any}
+use Rattle.std.proofs.Common.{drop-drop, set}
+use Rattle.kc_files.proofs.Common.{◌≡◌, ℕ, zero, suc, ◌+◌, ◌<◌, ◌≤◌, Bool, true, false, ◌||◌, ◌&&◌, ◌==◌, List, [], ◌∷◌, length, drop, get_or, refl, sym, ap, ◌∙◌, arith, length-drop, ◌⊎◌, inl, inr, take, ◌++◌, list_any, HasEndMatches, AreSpread}
 use Rattle.std.proofs.lemmas.Bool.{cases_lt}
 use Rattle.std.proofs.lemmas.List.{get_or-drop, get_or-set_same, get_or-set_other, take_at}
 use Rattle.std.specs.Str.{is_utf8, IsUtf8}
 use Rattle.std.proofs.lemmas.Str.{IsUtf8-from_is_utf8}
 use Rattle.kc_macros_model.specs.PathPatterns.{matches, some_end_matches, first_byte_matches}
-use Rattle.kc_files.specs.checker.EndMatches.{HasEndMatches, AreSpread}
 
 -- some entry of a list of truths for each end of a name is true exactly if some end of the name passes the test
 pub any_end : (test : List ℕ → Bool) (name : List ℕ) (ends : List Bool) → length ends ≡ suc (length name)

@@ -1,11 +1,5 @@
 -- The path that was read for a key, through the map that holds the files.
-use Rattle.std.proofs.Common.{◌≡◌, ℕ, Bool, true, false, cond, List, [], ◌∷◌, map, Option, Some, refl, ap, ◌∙◌}
-use Rattle.std.specs.Prelude.{Vec, bytes_eq, option_map}
-use Rattle.std.specs.Map.{lookup}
-use Rattle.std.specs.declared.alloc.Global.{Global}
-use Rattle.kc_files.specs.declared.expanded_files.FileOfKey.{FileOfKey}
-use Rattle.kc_files.specs.checker.ExpandedViews.{expanded_file}
-use Rattle.kc_files.specs.PathsOfKeys.{path_of_key}
+use Rattle.kc_files.proofs.Common.{◌≡◌, ℕ, Bool, true, false, cond, List, [], ◌∷◌, map, Option, Some, refl, ap, ◌∙◌, Vec, bytes_eq, option_map, lookup, Global, FileOfKey, expanded_file, path_of_key}
 use Rattle.kc_files.proofs.TableLemmas.{bytes_eq_turned}
 
 abbrev pub path_items : Option FileOfKey → Option (List ℕ)

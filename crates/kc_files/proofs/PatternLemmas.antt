@@ -1,38 +1,18 @@
 -- The paths of patterns.
-use Rattle.std.proofs.Common.{◌≡◌, ℕ, zero, suc, ◌+◌, ◌<◌, ◌≤◌, Bool, true, false, cond, List, [], ◌∷◌, ◌++◌, length, map, drop, take, get_or, None, Some, refl, sym, ap, ◌∙◌, subst, append_assoc, arith, length-drop}
-use Rattle.std.specs.Prelude.{Vec, Result, Ok, Err, filter, nat_lt, ◌==◌, if◌then◌else◌}
+use Rattle.std.proofs.Common.{append_assoc}
+use Rattle.std.specs.Prelude.{IsErrAnd, ◌==◌}
 use Rattle.std.specs.List.{onto_first}
-use Rattle.std.specs.declared.alloc.Global.{Global}
-use Rattle.std.proofs.lemmas.Bool.Decides.{nat_tests}
+use Rattle.kc_files.proofs.Common.{◌≡◌, ℕ, zero, suc, ◌+◌, ◌<◌, ◌≤◌, Bool, true, false, cond, List, [], ◌∷◌, ◌++◌, length, map, drop, take, get_or, None, Some, refl, sym, ap, ◌∙◌, subst, arith, length-drop, Vec, Result, Ok, Err, filter, nat_lt, if◌then◌else◌, Global, nat_tests, drop-cons}
+use Rattle.kc_files.proofs.Common.{keyword_in_table, MAX_LISTED_NAMES, Place, Fault, list_folder, Program, returns, fails, does, ◌>>=◌, World, has_file, returned, failed, Outcome, outcome, FoundPaths, found, matches_name, matching_listed, paths_in_folder, paths_in_folders, paths_below, path_pieces}
+use Rattle.kc_files.proofs.Common.{paths_with_files, files_of_pattern, sorted, TreeContents, items_of, KnownFiles, names, too_many, unlisted, Agrees, Grows, Comes, HaveSameOutcome, found_of, slashed, Finds, FindsMore}
 use Rattle.std.proofs.lemmas.List.{append-nil}
-use Rattle.std.proofs.Math.Seq.{drop-cons}
-use Rattle.kc_tree_model.specs.Keywords.{keyword_in_table}
-use Rattle.kc_value.specs.declared.limits.TheConstants.{MAX_LISTED_NAMES}
-use Rattle.kc_macros_model.specs.Programs.{Place, Fault, list_folder, Program, returns, fails, does, ◌>>=◌}
-use Rattle.kc_macros_model.specs.Worlds.{World, has_file, returned, failed, Outcome, outcome}
-use Rattle.kc_macros_model.specs.PathPatterns.{is_pattern, FoundPaths, found, matches_name, matching_names, matching_listed, paths_in_folder, paths_in_folders, paths_below, path_pieces, paths_with_files, files_of_pattern, sorted}
+use Rattle.kc_macros_model.specs.PathPatterns.{is_pattern, matching_names}
 use Rattle.kc_files.specs.declared.patterns.FoundPaths.{FoundPaths as CodePaths}
 use Rattle.kc_files.specs.declared.patterns.PatternStop.{PatternStop}
 use Rattle.kc_files.specs.declared.patterns.PatternStop.TheVariants.{TooMany, Unlisted, OutOfMemory}
-use Rattle.kc_files.specs.TreeContents.{TreeContents}
-use Rattle.kc_files.specs.TextViews.{items_of}
-use Rattle.kc_files.specs.between.KnownFiles.{KnownFiles, names, too_many, unlisted, Agrees, Grows}
-use Rattle.kc_files.specs.between.FileRuns.{Comes, HaveSameOutcome, missing_at, too_many_at}
-use Rattle.kc_files.specs.checker.PatternRuns.{found_of, slashed, IsCut, Finds, FindsMore, StopsAtFolder}
+use Rattle.kc_files.specs.between.FileRuns.{missing_at, too_many_at}
+use Rattle.kc_files.specs.checker.PatternRuns.{IsCutPattern, StopsAtFolder}
 use Rattle.kc_files.proofs.ProgramLemmas.{nothing_after, grouped, same_rest, same_then, fails_then, comes_at_once, fails_at_once, same_by, same_twice, comes_as, same_listed, same_later}
-
--- a name that matches a piece comes, as a path in its folder, after the paths before it and before those of the names after it
-pub matched_more : (piece folder : List ℕ) (name : List ℕ) (ns before : List (List ℕ)) → matches_name piece name ≡ true
-    → before ++ map (λ n. folder ++ n) (filter (matches_name piece) (name ∷ ns)) ≡ (before ++ (folder ++ name) ∷ []) ++ map (λ n. folder ++ n)
-    (filter (matches_name piece) ns)
-matched_more piece folder name ns before e =
-    ap (λ b. before ++ map (λ n. folder ++ n) (cond b (name ∷ filter (matches_name piece) ns) (filter (matches_name piece) ns))) e
-    ∙ sym (append_assoc before ((folder ++ name) ∷ []) (map (λ n. folder ++ n) (filter (matches_name piece) ns)))
-
-pub unmatched_more : (piece folder : List ℕ) (name : List ℕ) (ns before : List (List ℕ)) → matches_name piece name ≡ false
-    → before ++ map (λ n. folder ++ n) (filter (matches_name piece) (name ∷ ns)) ≡ before ++ map (λ n. folder ++ n) (filter (matches_name piece) ns)
-unmatched_more piece folder name ns before e =
-    ap (λ b. before ++ map (λ n. folder ++ n) (cond b (name ∷ filter (matches_name piece) ns) (filter (matches_name piece) ns))) e
 
 -- the paths among the names of a listed folder
 few_names : (at : Place) (piece folder : List ℕ) (listed : ℕ) (all : List (List ℕ)) → nat_lt MAX_LISTED_NAMES (listed + length all) ≡ false
@@ -189,6 +169,33 @@ pub as_it_is : (at : Place) (piece folder : List ℕ) (listed : ℕ) → is_patt
 as_it_is at piece folder listed e =
     ap (λ b. elim b [ true ↦ does (list_folder folder) (matching_listed at piece folder listed) | false ↦ returns (found ((folder ++ piece) ∷ []) listed) ]) e
 
+-- a piece without `*` and `?` is a name in each of some folders
+module _ (at : Place) (piece : List ℕ) (e : is_pattern piece ≡ false) where
+  as_names : (folders : List (List ℕ)) (listed : ℕ) → paths_in_folders at piece folders listed ≡ returns (found (map (λ folder. folder ++ piece) folders) listed)
+  as_names [] listed = refl
+  as_names (folder ∷ folders) listed =
+      ap (λ (p : Program FoundPaths). p >>= λ first. paths_in_folders at piece folders first.listed >>= λ rest. returns
+      (found (first.paths ++ rest.paths) rest.listed)) (as_it_is at piece folder listed e)
+      ∙ ap (λ (p : Program FoundPaths). p >>= λ rest. returns (found ((folder ++ piece) ∷ rest.paths) rest.listed)) (as_names folders listed)
+
+  pub names_found : (known : KnownFiles) (folders : List (List ℕ)) (listed : ℕ)
+      → Comes known (paths_in_folders at piece folders listed) (returned (found (map (λ folder. folder ++ piece) folders) listed))
+  names_found known folders listed =
+      let f = found (map (λ folder. folder ++ piece) folders) listed in
+      comes_as known (paths_in_folders at piece folders listed) (returns f) (returned f)
+      (same_by known (paths_in_folders at piece folders listed) (returns f) (as_names folders listed)) (comes_at_once known f)
+
+-- a result that passes on a stop finds what the stop does
+module _ (known : KnownFiles) (at : Place) (p : Program FoundPaths) (stop : PatternStop) where
+  pub stops_as : (r : Result CodePaths PatternStop) → IsErrAnd r (λ e. e ≡ stop) → Finds known at p (Err stop) → Finds known at p r
+  stops_as (Ok f) h k = absurd h
+  stops_as (Err e) h k = subst (λ (s : PatternStop). Finds known at p (Err s)) (sym h) k
+
+  pub more_stops_as : {T : Type 0} (before after : FoundPaths) (r : Result T PatternStop) → IsErrAnd r (λ e. e ≡ stop)
+      → FindsMore {T = T} known at p before after (Err stop) → FindsMore known at p before after r
+  more_stops_as before after (Ok x) h k = absurd h
+  more_stops_as {T = T} before after (Err e) h k = subst (λ (s : PatternStop). FindsMore {T = T} known at p before after (Err s)) (sym h) k
+
 not_slash : (c : ℕ) → (c ≡ 47 → ⊥) → (c == 47) ≡ false
 not_slash c h = grind (arith, nat_tests)
 
@@ -291,7 +298,7 @@ module _ (at : Place) where
       (ap (λ ps. paths_below at ps folders listed) e)) h
 
 pub is_cut : (path : List ℕ) (n : ℕ) (front back : List ℕ) → n < length path → get_or path n 0 ≡ 47 → ((k : ℕ) → k < n → get_or path k 0 ≡ 47 → ⊥)
-    → front ≡ take n path → back ≡ drop (n + 1) path → IsCut path front back
+    → front ≡ take n path → back ≡ drop (n + 1) path → IsCutPattern path front back
 is_cut path n front back h e none f b = record {
   pieces = first_piece path n h e none ∙ ap (λ p. p ∷ path_pieces (drop (suc n) path)) (sym f) ∙ ap (λ p. front ∷ path_pieces p)
       (ap (λ k. drop k path) (let k : suc n ≡ n + 1 = omega arith in k) ∙ sym b);
@@ -325,9 +332,6 @@ with_files_more known path paths before b h = record {
 
 pub with_files_first : (known : KnownFiles) (paths : List (List ℕ)) → HaveSameOutcome known (paths_with_files paths) (rest_with_files paths [])
 with_files_first known paths = same_by known (paths_with_files paths) (rest_with_files paths []) (sym (nothing_after (paths_with_files paths)))
-
-pub with_files_last : (known : KnownFiles) (before : List (List ℕ)) → Comes known (rest_with_files [] before) (returned before)
-with_files_last known before = subst (λ ps. Comes known (rest_with_files [] before) (returned ps)) (append-nil before) (comes_at_once known (before ++ []))
 
 -- the files of a pattern are those paths that match it and at which files are, sorted
 pub files_found : (known : KnownFiles) (at : Place) (pattern : List ℕ) (listed : ℕ) (f : FoundPaths) (paths : List (List ℕ))

@@ -1,12 +1,9 @@
 -- Outcomes of programs that only read files and list folders.
-use Rattle.std.proofs.Common.{◌≡◌, ℕ, List, Option, refl, ap, ◌∙◌}
+use Rattle.kc_files.proofs.Common.{◌≡◌, ℕ, List, Option, refl, ap, ◌∙◌, Fault, list_folder, Program, returns, fails, does, ◌>>=◌, World, returned, failed, Outcome, outcome, TreeContents, KnownFiles, Agrees, Grows, Comes, HaveSameOutcome}
 use Rattle.std.proofs.Math.Path.{fun_ext}
-use Rattle.kc_macros_model.specs.Programs.{Fault, list_folder, Program, returns, fails, stops, does, ◌>>=◌}
-use Rattle.kc_macros_model.specs.Worlds.{World, Ending, returned, failed, Outcome, outcome}
+use Rattle.kc_macros_model.specs.Programs.{stops}
+use Rattle.kc_macros_model.specs.Worlds.{Ending}
 use Rattle.kc_macros_model.proofs.Outcomes.{continued_by, composed}
-use Rattle.kc_files.specs.TreeContents.{TreeContents}
-use Rattle.kc_files.specs.between.KnownFiles.{KnownFiles, Agrees, Grows}
-use Rattle.kc_files.specs.between.FileRuns.{Comes, HaveSameOutcome}
 
 -- programs one after another group either way
 pub grouped : {A B C : Type 0} (p : Program A) (f : A → Program B) (g : B → Program C) → ((p >>= f) >>= g) ≡ (p >>= λ x. f x >>= g)

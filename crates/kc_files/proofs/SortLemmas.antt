@@ -1,18 +1,15 @@
 -- Texts in ascending order, and the one list of them.
-use Rattle.std.proofs.Common.{◌≡◌, ℕ, suc, ◌+◌, ◌<◌, ◌≤◌, Bool, true, false, cond, List, [], ◌∷◌, length, get_or, refl, sym, ap, ◌∙◌, arith, Ordering}
-use Rattle.std.specs.Prelude.{Vec, bytes_eq, sum_by}
+use Rattle.std.proofs.Common.{Ordering}
+use Rattle.std.specs.Prelude.{sum_by}
 use Rattle.std.specs.Ordering.{nat_cmp, is_le, is_lt, is_gt, ordering_reverse}
 use Rattle.std.specs.declared.cmp.Ordering.TheVariants.{Less, Equal, Greater}
 use Rattle.std.specs.Cmp.Lexicographic.{slice_cmp}
 use Rattle.std.specs.List.Sorted.{IsPermutation}
-use Rattle.std.specs.declared.alloc.Global.{Global}
-use Rattle.std.proofs.lemmas.Bool.Decides.{nat_tests}
+use Rattle.kc_files.proofs.Common.{◌≡◌, ℕ, suc, ◌+◌, ◌<◌, ◌≤◌, Bool, true, false, cond, List, [], ◌∷◌, length, get_or, refl, sym, ap, ◌∙◌, arith, Vec, bytes_eq, Global, nat_tests, bytes_eq-Decides, sorted, items_of}
 use Rattle.std.proofs.lemmas.Cmp.{same_from_slice_cmp, upto, nat_list_cmp_total}
 use Rattle.std.proofs.lemmas.List.Sorted.{sum_by-IsPermutation, IsPermutation-map}
 use Rattle.std.proofs.lemmas.List.Recursion.{is_sum_by}
-use Rattle.std.proofs.lemmas.Slice.Eq.{bytes_eq-Decides}
-use Rattle.kc_macros_model.specs.PathPatterns.{is_in_order, inserted, sorted}
-use Rattle.kc_files.specs.TextViews.{items_of}
+use Rattle.kc_macros_model.specs.PathPatterns.{is_in_order, inserted}
 use Rattle.kc_files.proofs.TableLemmas.{bytes_eq_same}
 
 order_of : (x y : List ℕ) (o : Ordering) → o ≡ slice_cmp nat_cmp x y → is_le o ≡ is_in_order x y

@@ -1,13 +1,8 @@
 -- Tables by bytes, through the maps that hold them.
-use Rattle.std.proofs.Common.{◌≡◌, ℕ, Bool, true, false, cond, List, [], ◌∷◌, ◌++◌, map, Option, Some, None, refl, sym, ap, ◌∙◌, ◌⊎◌, inl, inr, subst}
-use Rattle.std.specs.Prelude.{Vec, bytes_eq, option_map, is_some, OnOk, OnErr, IfOk, Result, Ok, Err}
-use Rattle.std.specs.Option.{option_copied}
+use Rattle.kc_files.proofs.Common.{◌≡◌, ℕ, Bool, true, false, cond, List, [], ◌∷◌, ◌++◌, map, Option, Some, None, refl, sym, ap, ◌∙◌, ◌⊎◌, inl, inr, subst, Vec, bytes_eq, option_map, is_some, OnOk, OnErr, IfOk, Result, Ok, Err, option_copied, Global, bytes_eq-Decides, lookup, insert_entry}
+use Rattle.kc_files.proofs.Common.{keyword_in_table, seen_as}
 use Rattle.std.specs.Borrow.{Bor}
-use Rattle.std.specs.declared.alloc.Global.{Global}
-use Rattle.std.proofs.lemmas.Slice.Eq.{bytes_eq-Decides}
-use Rattle.std.specs.Map.{lookup}
-use Rattle.indexmap.specs.IndexMap.{insert_entry}
-use Rattle.kc_tree_model.specs.Keywords.{keyword_in_table}
+use Rattle.std.proofs.lemmas.List.{map-append}
 
 pub bytes_eq_turned : (x y : List ℕ) → bytes_eq x y ≡ bytes_eq y x
 bytes_eq_turned x y = by_tests (bytes_eq x y) (bytes_eq y x) refl refl
@@ -24,6 +19,9 @@ bytes_eq_same x = (bytes_eq-Decides x x).1 refl
 pub copied_view : {X A : Type 0} (view : X → A) (o : Option (Bor X)) → option_map (λ (r : Bor X). view r.now) o ≡ option_map view (option_copied o)
 copied_view view None = refl
 copied_view view (Some r) = refl
+
+abbrev pub itself : {X : Type 0} → X → X
+itself x = x
 
 pub some_copied : {X : Type 0} (o : Option (Bor X)) → is_some o ≡ is_some (option_copied o)
 some_copied None = refl
@@ -108,3 +106,30 @@ module _ {A : Type 0} where
           ⊎ ((other ≡ key) × (y ≡ x))
       by_test true ih h = inl h
       by_test false ih h = ih h
+
+-- tables with each value seen in another way
+module _ {X A : Type 0} (view : X → A) where
+  pub found_as : (t : List (List ℕ × X)) (key : List ℕ) → keyword_in_table (seen_as view t) key ≡ option_map view (keyword_in_table t key)
+  found_as [] key = refl
+  found_as (e ∷ t) key = ap (λ o. cond (bytes_eq e.0 key) (Some (view e.1)) o) (found_as t key) ∙ by_test (bytes_eq e.0 key)
+    where
+      by_test : (b : Bool) → cond b (Some (view e.1)) (option_map view (keyword_in_table t key)) ≡ option_map view (cond b (Some e.1) (keyword_in_table t key))
+      by_test true = refl
+      by_test false = refl
+
+  pub seen_more : (t : List (List ℕ × X)) (key : List ℕ) (x : X) → seen_as view (t ++ (key, x) ∷ []) ≡ seen_as view t ++ (key, view x) ∷ []
+  seen_more t key x = map-append (λ (e : List ℕ × X). (e.0, view e.1)) t ((key, x) ∷ [])
+
+  pub not_found_as : (t : List (List ℕ × X)) (key : List ℕ) → keyword_in_table t key ≡ None → keyword_in_table (seen_as view t) key ≡ None
+  not_found_as t key h = found_as t key ∙ ap (option_map view) h
+
+  -- what is looked for in a table is there, or not, also where the table is seen in another way
+  pub there_as : (o : Option (Bor X)) (t : List (List ℕ × X)) (key : List ℕ) → is_some o ≡ true → option_map (λ (r : Bor X). r.now) o ≡ keyword_in_table t key
+      → keyword_in_table (seen_as view t) key ≡ None → ⊥
+  there_as None t key s e h = let z : ⊥ = cc in z
+  there_as (Some r) t key s e h = let f : Some (view r.now) ≡ None = ap (option_map view) e ∙ sym (found_as t key) ∙ h in let z : ⊥ = cc in z
+
+  pub absent_as : (o : Option (Bor X)) (t : List (List ℕ × X)) (key : List ℕ) → is_some o ≡ false → option_map (λ (r : Bor X). r.now) o ≡ keyword_in_table t key
+      → keyword_in_table (seen_as view t) key ≡ None
+  absent_as None t key s e = not_found_as t key (sym e)
+  absent_as (Some r) t key s e = absurd (let z : ⊥ = cc in z)

@@ -3,7 +3,7 @@ ghost use Rattle.std.specs.Prelude.{◌≡◌, ◌<◌, ◌^◌, false, List, []
 ghost use Rattle.kc_files.specs.ExpandedTexts.{file_of_slices};
 ghost use Rattle.kc_macros_model.specs.ReadingStates.{is_taken, has_key, key_of};
 ghost use Rattle.kc_files.specs.PathsOfKeys.{path_of_key};
-ghost use Rattle.kc_files.specs.checker.ExpandedViews.{HasDistinctKeys, with_file};
+ghost use Rattle.kc_files.specs.checker.ExpandedViews.{HasDistinctKeys, with_file, IsPushed};
 
 use super::expanded_tree::ExpandedText;
 use indexmap::IndexMap;
@@ -133,7 +133,7 @@ impl ExpandedFiles {
     }
 
     /// Appends the text of a path under the path as its key, unless a file has that key; returns whether none had.
-    fn push_first(&mut self, path: &[u8], text: Rc<Vec<u8>>) -> Result<bool, AllocError>
+    fn insert_first(&mut self, path: &[u8], text: Rc<Vec<u8>>) -> Result<bool, AllocError>
         ensures first { IfOk result (λ first. first ≡ not (has_key self.old path.now)) }
         ensures ok { OnOk result (self.new ≡ with_file path.now path.now text.value.items self.old) }
         ensures err { OnErr result (self.new ≡ self.old) }
@@ -145,23 +145,21 @@ impl ExpandedFiles {
         Ok(self.files.len() > before)
     }
 
-    /// Appends the text of a path under the first key that isn't taken, unless it is there; returns the key.
-    fn keep_beside(
+    /// Appends the text of a path other than the root's under the path as its key, unless a file has that key; returns whether it
+    /// did.
+    fn push_below_root(
         &mut self,
         root: &[u8],
         path: &[u8],
         text: Rc<Vec<u8>>,
-    ) -> Result<Vec<u8>, AllocError>
-        ensures key { IfOk result (λ key. key.items ≡ key_of root.now self.old path.now text.value.items) }
-        ensures ok { IfOk result (λ key. self.new ≡ with_file (key_of root.now self.old path.now text.value.items) path.now text.value.items self.old) }
+    ) -> Result<bool, AllocError>
+        ensures ok { IfOk result (λ pushed. IsPushed root.now path.now text.value.items self.old pushed self.new) }
         ensures err { OnErr result (self.new ≡ self.old) }
     {
-        let key = self.key_of(root, path, &text)?;
-        if self.has_key(&key) {
-            return Ok(key);
+        if path == root {
+            return Ok(false);
         }
-        self.push(&key, path, text)?;
-        Ok(key)
+        self.insert_first(path, text)
     }
 
     /// Appends the expanded text of a path, and returns its key: the path, or the path with `#` and a number. A text that is
@@ -170,7 +168,7 @@ impl ExpandedFiles {
     /// # Errors
     ///
     /// Where memory runs out, nothing is changed.
-    pub fn keep(
+    pub fn insert(
         &mut self,
         root: &[u8],
         path: &[u8],
@@ -180,14 +178,16 @@ impl ExpandedFiles {
         ensures ok { IfOk result (λ key. self.new ≡ with_file (key_of root.now self.old path.now text.value.items) path.now text.value.items self.old) }
         ensures err { OnErr result (self.new ≡ self.old) }
     {
-        if path == root {
-            return self.keep_beside(root, path, text);
-        }
         let key = Vec::from_slice(self.alloc, path)?;
-        if self.push_first(path, text.clone()?)? {
+        if self.push_below_root(root, path, text.clone()?)? {
             return Ok(key);
         }
-        self.keep_beside(root, path, text)
+        let key = self.key_of(root, path, &text)?;
+        if self.has_key(&key) {
+            return Ok(key);
+        }
+        self.push(&key, path, text)?;
+        Ok(key)
     }
 
     /// The path that was read for the expanded file of a key, if there is one.

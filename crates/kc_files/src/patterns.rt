@@ -2,18 +2,18 @@
 ghost use Rattle.std.specs.Prelude.{◌≡◌, ◌≢◌, ℕ, ◌<◌, ◌++◌, ◌∷◌, [], IfOk, IfSome, IfNone, OnOk, filter, length, map, slice_index, if◌then◌else◌};
 ghost use Rattle.kc_macros_model.specs.Programs.{Place, list_folder, does};
 ghost use Rattle.kc_macros_model.specs.Worlds.{returned};
-ghost use Rattle.kc_macros_model.specs.PathPatterns.{matches_name, matching_listed, paths_in_folder, paths_in_folders, paths_below, path_pieces, paths_with_files, files_of_pattern};
+ghost use Rattle.kc_macros_model.specs.PathPatterns.{matches_name, matching_listed, paths_in_folders, paths_below, path_pieces, paths_with_files, files_of_pattern};
 ghost use Rattle.kc_files.specs.TextViews.{items_of, texts_of};
 ghost use Rattle.kc_files.specs.between.KnownFiles.{Grows};
 ghost use Rattle.kc_files.specs.between.FileRuns.{Comes};
 ghost use Rattle.kc_files.specs.checker.FileViews.{known_of};
-ghost use Rattle.kc_files.specs.checker.PatternRuns.{found_of, slashed, IsCut, Finds, FindsMore};
+ghost use Rattle.kc_files.specs.checker.PatternRuns.{found_of, IsCutPattern, Finds, FindsMore};
 ghost use Rattle.kc_files.specs.TreeContents.{StaysKnown};
 
+use super::file_cache::{FileCache, is_there};
 use super::files::TreeFiles;
 use super::name_matches::matches_name;
 use super::paths::is_pattern;
-use super::store::Store;
 use kc_value::MAX_LISTED_NAMES;
 use std::alloc::{AllocError, Global};
 
@@ -74,7 +74,7 @@ fn push_matching(
 /// Lists a folder, and appends those of its names that match a piece, as paths.
 fn push_listed<F: TreeFiles>(
     alloc: Global,
-    store: &mut Store,
+    store: &mut FileCache,
     files: &mut F,
     piece: &[u8],
     folder: &[u8],
@@ -85,10 +85,7 @@ fn push_listed<F: TreeFiles>(
     ensures finds { (at : Place) → FindsMore (known_of store.new) at (does (list_folder folder.now) (matching_listed at piece.now folder.now found.old.listed)) (found_of found.old) (found_of found.new) result }
 {
     store.list(alloc, files, folder)?;
-    let names = match store.names_in(folder) {
-        Ok(names) => names,
-        Err(stop) => return Err(stop),
-    };
+    let names = store.names_in(folder)?;
     let listed = found.listed.saturating_add(names.len());
     if listed > MAX_LISTED_NAMES {
         return Err(PatternStop::TooMany);
@@ -98,33 +95,23 @@ fn push_listed<F: TreeFiles>(
     Ok(())
 }
 
-/// Appends the paths that a piece matches in a folder; a piece that is no pattern is taken as a name, and nothing is listed.
-fn push_paths<F: TreeFiles>(
-    alloc: Global,
-    store: &mut Store,
-    files: &mut F,
-    piece: &[u8],
-    folder: &[u8],
-    found: &mut FoundPaths,
-) -> Result<(), PatternStop>
-    ensures same { StaysKnown (F.contents files.old) (F.contents files.new) }
-    ensures grows { Grows (F.contents files.old) (F.contents files.new) (known_of store.old) (known_of store.new) }
-    ensures finds { (at : Place) → FindsMore (known_of store.new) at (paths_in_folder at piece.now folder.now found.old.listed) (found_of found.old) (found_of found.new) result }
+/// Texts with another after each.
+fn each_joined(alloc: Global, fronts: &[Vec<u8>], back: &[u8]) -> Result<Vec<Vec<u8>>, AllocError>
+    ensures { IfOk result (λ texts. texts_of texts ≡ map (λ front. front ++ back.now) (items_of fronts.now)) }
 {
-    if is_pattern(piece) {
-        return push_listed(alloc, store, files, piece, folder, found);
+    let mut texts = Vec::new(alloc);
+    for front in fronts {
+        let text = joined(alloc, front, back)?;
+        texts.push(text)?;
     }
-    let path = joined(alloc, folder, piece)?;
-    if found.paths.push(path).is_err() {
-        return Err(PatternStop::OutOfMemory);
-    }
-    Ok(())
+    Ok(texts)
 }
 
-/// The paths that a piece of a pattern matches in some folders.
+/// The paths that a piece of a pattern matches in some folders; a piece that is no pattern is taken as a name, and nothing is
+/// listed.
 fn paths_in_folders<F: TreeFiles>(
     alloc: Global,
-    store: &mut Store,
+    store: &mut FileCache,
     files: &mut F,
     piece: &[u8],
     folders: &[Vec<u8>],
@@ -134,14 +121,16 @@ fn paths_in_folders<F: TreeFiles>(
     ensures grows { Grows (F.contents files.old) (F.contents files.new) (known_of store.old) (known_of store.new) }
     ensures finds { (at : Place) → Finds (known_of store.new) at (paths_in_folders at piece.now (items_of folders.now) listed) result }
 {
+    if !is_pattern(piece) {
+        let paths = each_joined(alloc, folders, piece)?;
+        return Ok(FoundPaths { paths, listed });
+    }
     let mut found = FoundPaths {
         paths: Vec::new(alloc),
         listed,
     };
     for folder in folders {
-        if let Err(stop) = push_paths(alloc, store, files, piece, folder, &mut found) {
-            return Err(stop);
-        }
+        push_listed(alloc, store, files, piece, folder, &mut found)?;
     }
     Ok(found)
 }
@@ -168,7 +157,7 @@ struct CutPath<'a> {
 
 /// Cuts a path at its first slash, if it has one.
 fn cut_at_slash(path: &[u8]) -> Option<CutPath<'_>>
-    ensures some { IfSome result (λ c. IsCut path.now c.piece.now c.tail.now) }
+    ensures some { IfSome result (λ c. IsCutPattern path.now c.piece.now c.tail.now) }
     ensures none { IfNone result (path_pieces path.now ≡ path.now ∷ []) }
 {
     match place_of_slash(path) {
@@ -180,18 +169,6 @@ fn cut_at_slash(path: &[u8]) -> Option<CutPath<'_>>
     }
 }
 
-/// Paths with a slash after each.
-fn with_slashes(alloc: Global, paths: &[Vec<u8>]) -> Result<Vec<Vec<u8>>, AllocError>
-    ensures { IfOk result (λ folders. texts_of folders ≡ map (λ path. path ++ 47 ∷ []) (items_of paths.now)) }
-{
-    let mut folders = Vec::new(alloc);
-    for path in paths {
-        let folder = joined(alloc, path, b"/")?;
-        folders.push(folder)?;
-    }
-    Ok(folders)
-}
-
 /// The root folder alone, whose path is empty.
 fn root_folder(alloc: Global) -> Result<Vec<Vec<u8>>, AllocError>
     ensures { IfOk result (λ folders. texts_of folders ≡ [] ∷ []) }
@@ -201,50 +178,25 @@ fn root_folder(alloc: Global) -> Result<Vec<Vec<u8>>, AllocError>
     Ok(folders)
 }
 
-/// The folders that match a piece in some folders, with a slash after each.
-fn folders_in_folders<F: TreeFiles>(
+/// The paths below some folders that match a pattern.
+fn paths_below<F: TreeFiles>(
     alloc: Global,
-    store: &mut Store,
-    files: &mut F,
-    piece: &[u8],
-    folders: &[Vec<u8>],
-    listed: usize,
-) -> Result<FoundPaths, PatternStop>
-    ensures same { StaysKnown (F.contents files.old) (F.contents files.new) }
-    ensures grows { Grows (F.contents files.old) (F.contents files.new) (known_of store.old) (known_of store.new) }
-    ensures finds { (at : Place) → Finds (known_of store.new) at (slashed (paths_in_folders at piece.now (items_of folders.now) listed)) result }
-{
-    match paths_in_folders(alloc, store, files, piece, folders, listed) {
-        Ok(found) => Ok(FoundPaths {
-            paths: with_slashes(alloc, &found.paths)?,
-            listed: found.listed,
-        }),
-        Err(stop) => Err(stop),
-    }
-}
-
-/// The paths that match a pattern.
-fn matching_paths<F: TreeFiles>(
-    alloc: Global,
-    store: &mut Store,
+    store: &mut FileCache,
     files: &mut F,
     pattern: &[u8],
-    listed: usize,
+    mut found: FoundPaths,
 ) -> Result<FoundPaths, PatternStop>
     ensures same { StaysKnown (F.contents files.old) (F.contents files.new) }
     ensures grows { Grows (F.contents files.old) (F.contents files.new) (known_of store.old) (known_of store.new) }
-    ensures finds { (at : Place) → Finds (known_of store.new) at (paths_below at (path_pieces pattern.now) ([] ∷ []) listed) result }
+    ensures finds { (at : Place) → Finds (known_of store.new) at (paths_below at (path_pieces pattern.now) (texts_of found.paths) found.listed) result }
 {
     let mut rest = pattern;
-    let mut found = FoundPaths {
-        paths: root_folder(alloc)?,
-        listed,
-    };
     while let Some(cut) = cut_at_slash(rest) {
-        match folders_in_folders(alloc, store, files, cut.piece, &found.paths, found.listed) {
-            Ok(folders) => found = folders,
-            Err(stop) => return Err(stop),
-        }
+        let matched = paths_in_folders(alloc, store, files, cut.piece, &found.paths, found.listed)?;
+        found = FoundPaths {
+            paths: each_joined(alloc, &matched.paths, b"/")?,
+            listed: matched.listed,
+        };
         rest = cut.tail;
     }
     paths_in_folders(alloc, store, files, rest, &found.paths, found.listed)
@@ -269,7 +221,7 @@ fn push_if(
 /// Those paths of a list at which files are, in the order of the list, also those that can't be read. An `Err` means out of memory.
 pub fn paths_with_files<F: TreeFiles>(
     alloc: Global,
-    store: &mut Store,
+    store: &mut FileCache,
     files: &mut F,
     paths: &[Vec<u8>],
 ) -> Result<Vec<Vec<u8>>, AllocError>
@@ -279,8 +231,8 @@ pub fn paths_with_files<F: TreeFiles>(
 {
     let mut found = Vec::new(alloc);
     for path in paths {
-        let there = store.has_file(alloc, files, path)?;
-        push_if(alloc, there, path, &mut found)?;
+        let read = store.file(alloc, files, path)?;
+        push_if(alloc, is_there(&read), path, &mut found)?;
     }
     Ok(found)
 }
@@ -288,7 +240,7 @@ pub fn paths_with_files<F: TreeFiles>(
 /// The files of a pattern: the paths that match it and at which files are, in ascending order of their bytes.
 pub fn files_of_pattern<F: TreeFiles>(
     alloc: Global,
-    store: &mut Store,
+    store: &mut FileCache,
     files: &mut F,
     pattern: &[u8],
     listed: usize,
@@ -297,10 +249,11 @@ pub fn files_of_pattern<F: TreeFiles>(
     ensures grows { Grows (F.contents files.old) (F.contents files.new) (known_of store.old) (known_of store.new) }
     ensures finds { (at : Place) → Finds (known_of store.new) at (files_of_pattern at pattern.now listed) result }
 {
-    let found = match matching_paths(alloc, store, files, pattern, listed) {
-        Ok(found) => found,
-        Err(stop) => return Err(stop),
+    let root = FoundPaths {
+        paths: root_folder(alloc)?,
+        listed,
     };
+    let found = paths_below(alloc, store, files, pattern, root)?;
     let mut paths = paths_with_files(alloc, store, files, &found.paths)?;
     paths.sort()?;
     Ok(FoundPaths {

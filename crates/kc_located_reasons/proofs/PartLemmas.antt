@@ -1,24 +1,12 @@
 -- Parts with their places.
-use Rattle.std.proofs.Common.{◌≡◌, ℕ, ◌+◌, ◌<◌, length, get_or, drop, append_assoc, add-one, drop-cons, Bool, true, false, cond, ◌||◌, List, [], ◌∷◌, ◌++◌, map, refl, ap, sym, ◌∙◌}
-use Rattle.std.specs.Prelude.{All}
-use Rattle.std.specs.Global.{Vec}
-use Rattle.std.specs.List.{list_any}
-use Rattle.std.proofs.lemmas.List.{map-append}
-use Rattle.kc_value.specs.declared.tri.Tri.{Tri}
+use Rattle.std.proofs.Common.{ℕ, ◌<◌, get_or, append_assoc, add-one, drop-cons}
+use Rattle.kc_located_reasons.proofs.Common.{◌≡◌, ◌+◌, length, drop, List, [], ◌∷◌, ◌++◌, map, refl, ap, sym, ◌∙◌, All, map-append, Tri, Part, parts_view, position_view, located_view, all_located, at_place, lacking_at, located_lacking, LocatedPart, located_part_view, located_parts_view, part_at}
 use Rattle.kc_expr.specs.Expr.{Environment}
 use Rattle.kc_expr.specs.between.Arena.{Exprs}
-use Rattle.kc_reasons_model.specs.Conjuncts.{Part}
-use Rattle.kc_reasons_model.specs.Reasons.{is_empty, unless_one_lacks_nothing}
 use Rattle.kc_reasons.specs.declared.low_parts.LowPart.{LowPart}
-use Rattle.kc_reasons.specs.between.Parts.{parts_view}
 use Rattle.kc_symbol_lines.specs.declared.located.Position.{Position}
 use Rattle.kc_symbol_lines.specs.declared.located.LocatedExpr.{LocatedExpr}
-use Rattle.kc_symbol_lines.specs.between.LinesView.{position_view, located_view, all_located}
 use Rattle.kc_located_reasons.specs.LocatedNeeds as model
-use Rattle.kc_located_reasons.specs.LocatedNeeds.{at_place, lacking_at, located_lacking}
-use Rattle.kc_located_reasons.specs.declared.located_parts.LocatedPart.{LocatedPart}
-use Rattle.kc_located_reasons.specs.between.PartsView.{located_part_view, located_parts_view, located_alternatives_view}
-use Rattle.kc_located_reasons.specs.checker.PartLists.{part_at, is_empty_vec}
 
 parts_placed : (exprs : Exprs) (at : Position) (low : List LowPart) → located_parts_view exprs (map (part_at at) low) ≡ map (at_place (position_view at)) (parts_view exprs low)
 parts_placed exprs at [] = refl
@@ -42,26 +30,3 @@ more_lines exprs names t parts k p old new all l h e =
     let next : drop k parts ≡ get_or parts k p ∷ drop (k + 1) parts = rw add-one (drop-cons parts k p l) in
     ap (λ xs. xs ++ rest) e ∙ append_assoc old (lacking_at names t (located_view exprs (get_or parts k p))) rest
     ∙ ap (λ ps. old ++ located_lacking names t (all_located exprs ps)) (sym next) ∙ h
-
--- whether one of some lists is empty, as the code and the definitions ask it
-any_empty : (exprs : Exprs) (vs : List (Vec LocatedPart)) → list_any is_empty (located_alternatives_view exprs vs) ≡ list_any is_empty_vec vs
-any_empty exprs [] = refl
-any_empty exprs (v ∷ vs) = ap (λ b. b || list_any is_empty (located_alternatives_view exprs vs)) (same v.items) ∙ ap (λ b. is_empty_vec v || b) (any_empty exprs vs)
-  where
-    same : (ps : List LocatedPart) → is_empty (located_parts_view exprs ps) ≡ is_empty ps
-    same [] = refl
-    same (p ∷ ps) = refl
-
-module _ (exprs : Exprs) (env : Bool) (found : List (Vec LocatedPart)) (parts : List (List model.LocatedPart)) (without : env ≡ false)
-    (are : located_alternatives_view exprs found ≡ parts) where
-  by_test : (b : Bool) → list_any is_empty_vec found ≡ b → cond env [] (unless_one_lacks_nothing parts) ≡ cond b [] parts
-  by_test b e =
-      ap (λ c. cond c [] (unless_one_lacks_nothing parts)) without
-      ∙ ap (λ c. cond c [] parts) (ap (list_any is_empty) (sym are) ∙ any_empty exprs found ∙ e)
-
-  pub where_one_is_empty : (last : List (Vec LocatedPart)) → list_any is_empty_vec found ≡ true → last ≡ []
-      → located_alternatives_view exprs last ≡ cond env [] (unless_one_lacks_nothing parts)
-  where_one_is_empty last e none = ap (located_alternatives_view exprs) none ∙ sym (by_test true e)
-
-  pub where_none_is_empty : list_any is_empty_vec found ≡ false → located_alternatives_view exprs found ≡ cond env [] (unless_one_lacks_nothing parts)
-  where_none_is_empty e = are ∙ sym (by_test false e)

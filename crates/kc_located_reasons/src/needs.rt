@@ -1,39 +1,19 @@
 //! What a symbol's prompts and dependencies lack, and on which lines it stands.
 ghost use Rattle.std.specs.Prelude.{◌≡◌, ◌<◌, [], length, IfOk};
-ghost use Rattle.std.specs.List.{list_any};
 ghost use Rattle.kc_tree.specs.between.Views.{symbol_view, SymbolFits};
 ghost use Rattle.kc_evaluation.specs.checker.ValuationView.{valuation_tree, valuation_exprs, valuation_values};
 ghost use Rattle.kc_rules_model.specs.SymbolValues.{environment};
 ghost use Rattle.kc_symbol_lines.specs.between.LinesView.{symbol_lines_view, AreHeld};
 ghost use Rattle.kc_located_reasons.specs.LocatedNeeds.{prompts_lack_at, dependencies_lack_at};
 ghost use Rattle.kc_located_reasons.specs.between.PartsView.{located_alternatives_view, ArePartsThere};
-ghost use Rattle.kc_located_reasons.specs.checker.PartLists.{is_empty_vec};
 
 use super::located_parts::{LocatedPart, located_lacking_of_each};
 use kc_evaluation::{Valuation, is_from_environment, is_symbol_unmet, reverse_limit};
+use kc_reasons::unless_one_is_empty;
 use kc_symbol_lines::SymbolLines;
 use kc_tree::Symbol;
 use kc_value::Tri;
 use std::alloc::{AllocError, Global};
-
-/// Whether a list is empty.
-fn is_empty(list: &Vec<LocatedPart>) -> bool
-    ensures { result ≡ is_empty_vec list.now }
-{
-    list.len() == 0
-}
-
-/// Whether one of some lists is empty.
-fn has_empty(lists: &[Vec<LocatedPart>]) -> bool
-    ensures { result ≡ list_any is_empty_vec lists.now }
-{
-    for list in lists {
-        if is_empty(list) {
-            return true;
-        }
-    }
-    false
-}
 
 /// What each prompt of a symbol lacks of what is wanted, by its lines; nothing where one lacks nothing, and of a symbol with an
 /// `option env`. An `Err` means out of memory.
@@ -52,11 +32,7 @@ pub fn prompts_lack_at(
         return Ok(Vec::new(alloc));
     }
     let found = located_lacking_of_each(alloc, under, &lines.prompts, wanted)?;
-    if has_empty(&found) {
-        Ok(Vec::new(alloc))
-    } else {
-        Ok(found)
-    }
+    Ok(unless_one_is_empty(alloc, found))
 }
 
 /// What the dependency of each definition of a symbol lacks of what is selected, if that is more, by its lines. An `Err` means out

@@ -1,1 +1,2 @@
+pub mod KeywordLemmas
 pub mod RealTokenLemmas

@@ -21,12 +21,6 @@ static PROMPT_WORDS: [&[u8]; 9] = [
 /// Words that a path of files to be read follows.
 static SOURCE_WORDS: [&[u8]; 4] = [b"source", b"rsource", b"osource", b"orsource"];
 
-/// Words of a `source` whose path begins in the folder of the file.
-static RELATIVE_SOURCES: [&[u8]; 2] = [b"rsource", b"orsource"];
-
-/// Words of a `source` whose files may be missing.
-static OPTIONAL_SOURCES: [&[u8]; 2] = [b"osource", b"orsource"];
-
 /// Words after which a help text begins.
 static HELP_WORDS: [&[u8]; 2] = [b"help", b"---help---"];
 
@@ -45,20 +39,6 @@ pub fn is_source_word(word: &[u8]) -> bool
     ensures { result ≡ is_in_list word.now source_words }
 {
     is_among(&SOURCE_WORDS, word)
-}
-
-/// Whether this word of a `source` line means that its path is relative to the folder of the file with the line.
-pub(crate) fn is_relative_source(word: &[u8]) -> bool
-    ensures { result ≡ is_in_list word.now (codes "rsource" ∷ codes "orsource" ∷ []) }
-{
-    is_among(&RELATIVE_SOURCES, word)
-}
-
-/// Whether this word of a `source` line means that the files of its path may be missing.
-pub(crate) fn is_optional_source(word: &[u8]) -> bool
-    ensures { result ≡ is_in_list word.now (codes "osource" ∷ codes "orsource" ∷ []) }
-{
-    is_among(&OPTIONAL_SOURCES, word)
 }
 
 /// Whether a help text begins after a word: `help` or `---help---`.

@@ -8,10 +8,9 @@ ghost use Rattle.kc_macro_forms.specs.between.WrittenTokens.{token_of, tokens_of
 ghost use Rattle.kc_macro_forms.specs.between.LineFormViews.{source_sort_of, form_view};
 ghost use Rattle.kc_macro_forms.specs.checker.RealTokens.{is_decisive_word, form_by};
 
-use super::form_words::{
-    is_help_word, is_optional_source, is_prompt_word, is_relative_source, is_source_word,
-};
-use super::real_tokens::{is_empty_line, next_real};
+use super::form_words::{is_help_word, is_prompt_word, is_source_word};
+use super::keywords::is_among;
+use super::significant_tokens::{is_empty_line, next_significant};
 use super::token_sorts::{is_bare_prompt, is_path, is_unknown, is_word};
 use super::written_tokens::WrittenToken;
 use kc_macros::is_text;
@@ -45,18 +44,24 @@ fn meaning_of(token: &WrittenToken) -> Option<&[u8]>
     }
 }
 
+/// Words of a `source` whose path begins in the folder of the file.
+static RELATIVE_SOURCES: [&[u8]; 2] = [b"rsource", b"orsource"];
+
+/// Words of a `source` whose files may be missing.
+static OPTIONAL_SOURCES: [&[u8]; 2] = [b"osource", b"orsource"];
+
 /// The sort of `source` that a word means.
 fn sort_of_source(word: &[u8]) -> SourceSort
     ensures { source_sort_of result ≡ sort_of_source word.now }
 {
     SourceSort {
-        relative: is_relative_source(word),
-        optional: is_optional_source(word),
+        relative: is_among(&RELATIVE_SOURCES, word),
+        optional: is_among(&OPTIONAL_SOURCES, word),
     }
 }
 
 /// The form of a line of two tokens, of which the first is this word.
-fn form_of_pair<'t>(word: &[u8], token: &'t WrittenToken) -> LineForm<'t>
+fn form_of_two_words<'t>(word: &[u8], token: &'t WrittenToken) -> LineForm<'t>
     ensures { form_view result ≡ form_of_pair word.now (token_of token.now) }
 {
     let bytes = token.bytes.as_slice();
@@ -76,14 +81,14 @@ fn form_of_pair<'t>(word: &[u8], token: &'t WrittenToken) -> LineForm<'t>
 }
 
 /// The form of a line by its first word, its second token, and whether no token comes after it.
-fn form_by<'t>(word: &[u8], token: &'t WrittenToken, alone: bool) -> LineForm<'t>
+fn form_of_words<'t>(word: &[u8], token: &'t WrittenToken, alone: bool) -> LineForm<'t>
     ensures { form_view result ≡ form_by word.now (token_of token.now) alone }
 {
     if is_prompt_word(word) && is_bare_prompt(token) {
         return LineForm::BarePrompt(token.bytes.as_slice());
     }
     if alone {
-        return form_of_pair(word, token);
+        return form_of_two_words(word, token);
     }
     LineForm::Plain
 }
@@ -92,16 +97,16 @@ fn form_by<'t>(word: &[u8], token: &'t WrittenToken, alone: bool) -> LineForm<'t
 pub fn line_form(tokens: &[WrittenToken]) -> LineForm<'_>
     ensures { form_view result ≡ form_of (without_gaps (tokens_of tokens.now)) }
 {
-    let Some((first, after_first)) = next_real(tokens) else {
+    let Some((first, after_first)) = next_significant(tokens) else {
         return LineForm::Plain;
     };
-    let Some((second, after_second)) = next_real(after_first) else {
+    let Some((second, after_second)) = next_significant(after_first) else {
         return LineForm::Plain;
     };
     if !is_word(first) {
         return LineForm::Plain;
     }
-    form_by(first.bytes.as_slice(), second, is_empty_line(after_second))
+    form_of_words(first.bytes.as_slice(), second, is_empty_line(after_second))
 }
 
 /// Whether a token is `help` or `---help---`.
@@ -116,13 +121,10 @@ fn is_help_token(token: &WrittenToken) -> bool
 pub fn is_help_line(tokens: &[WrittenToken]) -> bool
     ensures { result ≡ is_help_line (without_gaps (tokens_of tokens.now)) }
 {
-    let Some((first, after)) = next_real(tokens) else {
-        return false;
-    };
-    if !is_empty_line(after) {
-        return false;
+    match next_significant(tokens) {
+        Some((first, after)) => is_empty_line(after) && is_help_token(first),
+        None => false,
     }
-    is_help_token(first)
 }
 
 /// Whether a token begins a `source` line or a help text.
@@ -151,11 +153,8 @@ fn has_unknown(tokens: &[WrittenToken]) -> bool
 pub fn is_undecided(tokens: &[WrittenToken]) -> bool
     ensures { result ≡ is_undecided (without_gaps (tokens_of tokens.now)) }
 {
-    let Some((first, after)) = next_real(tokens) else {
-        return false;
-    };
-    if !is_decisive(first) {
-        return false;
+    match next_significant(tokens) {
+        Some((first, after)) => is_decisive(first) && has_unknown(after),
+        None => false,
     }
-    has_unknown(after)
 }

@@ -5,47 +5,7 @@ ghost use Rattle.kc_tree_model.specs.Keywords.{keywords};
 ghost use Rattle.kc_macros_model.specs.WrittenTokens.{is_keyword};
 
 use kc_macros::is_text;
-
-/// Words that begin statements and attributes.
-static LINE_KEYWORDS: [&[u8]; 37] = [
-    b"config",
-    b"menuconfig",
-    b"choice",
-    b"endchoice",
-    b"menu",
-    b"endmenu",
-    b"if",
-    b"endif",
-    b"comment",
-    b"source",
-    b"mainmenu",
-    b"bool",
-    b"tristate",
-    b"string",
-    b"hex",
-    b"int",
-    b"def_bool",
-    b"def_tristate",
-    b"prompt",
-    b"default",
-    b"depends",
-    b"select",
-    b"imply",
-    b"range",
-    b"visible",
-    b"help",
-    b"---help---",
-    b"modules",
-    b"option",
-    b"def_int",
-    b"def_hex",
-    b"def_string",
-    b"rsource",
-    b"osource",
-    b"orsource",
-    b"optional",
-    b"transitional",
-];
+use kc_tree_model::keyword_named;
 
 /// Words with a meaning inside a statement.
 static INNER_KEYWORDS: [&[u8]; 4] = [b"on", b"env", b"defconfig_list", b"allnoconfig_y"];
@@ -61,7 +21,7 @@ pub(crate) fn is_among(words: &[&[u8]], word: &[u8]) -> bool
 fn is_line_keyword(word: &[u8]) -> bool
     ensures { result ≡ list_any (λ e. bytes_eq e.0 word.now) keywords }
 {
-    is_among(&LINE_KEYWORDS, word)
+    keyword_named(word).is_some()
 }
 
 /// Whether a word has a meaning inside a statement.

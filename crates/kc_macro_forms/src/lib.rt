@@ -5,7 +5,7 @@ mod form_words;
 mod forms;
 mod keywords;
 mod line_texts;
-mod real_tokens;
+mod significant_tokens;
 mod token_sorts;
 mod written_tokens;
 

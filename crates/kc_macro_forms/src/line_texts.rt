@@ -6,7 +6,7 @@ ghost use Rattle.kc_macros_model.specs.LineForms.{with_nth_token, line_bytes, wi
 ghost use Rattle.kc_macros_model.specs.TreeExpansion.{source_line};
 ghost use Rattle.kc_macro_forms.specs.between.WrittenTokens.{tokens_of};
 
-use super::real_tokens::gap_count;
+use super::significant_tokens::gap_count;
 use super::written_tokens::{WrittenToken, quoted_text_token};
 use kc_macros::is_text;
 use std::alloc::{AllocError, Global};

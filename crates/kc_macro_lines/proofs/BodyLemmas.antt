@@ -1,38 +1,27 @@
 -- Bytes between quotes, written item by item.
-use Rattle.std.proofs.Common.{◌≡◌, ℕ, true, List, [], ◌∷◌, ◌++◌, Some, refl, sym, ap, ◌∙◌, append_assoc}
-use Rattle.std.proofs.lemmas.List.{append-nil}
-use Rattle.kc_macros_model.specs.Programs.{Place, Fault, Program, returns, fails, ◌>>=◌}
-use Rattle.kc_macros_model.specs.References.{Item, reference, item_bytes, items}
-use Rattle.kc_macros_model.specs.Variables.{Value, joined_values, Bindings}
-use Rattle.kc_macros_model.specs.Expansion.{text_value}
-use Rattle.kc_macros_model.specs.WrittenTokens.{WrittenBody, WrittenToken, token_of_body, body_of, body_of_value, joined_bodies, written_item, written_items}
-use Rattle.kc_macros_model.specs.Worlds.{returned}
-use Rattle.kc_macros.specs.declared.stop.Stop.{Stop}
-use Rattle.kc_answers.specs.RunStates.{RunState}
-use Rattle.kc_macros.specs.Runs.{ends, end_of_stop, Runs}
+use Rattle.kc_macro_lines.proofs.Common.{◌≡◌, ℕ, true, List, [], ◌∷◌, ◌++◌, Some, refl, sym, ap, ◌∙◌, append_assoc, append-nil, Place, Program, returns, ◌>>=◌, Item, reference, item_bytes, items, Value, Bindings, text_value, WrittenToken, token_of_body, body_of, joined_bodies, written_items}
+use Rattle.kc_macro_lines.proofs.Common.{returned, Stop, RunState, ends, end_of_stop, Runs, bodies_left, quoted_written, Leads, then_runs, stops_early, runs_nothing, returns_as, then_returns, then_then, then_same, runs_same, leads_same, leads_then, leads_on, fails_so}
+use Rattle.kc_macros_model.specs.Programs.{Fault, fails}
+use Rattle.kc_macros_model.specs.Variables.{joined_values}
+use Rattle.kc_macros_model.specs.WrittenTokens.{WrittenQuotedText, body_of_value, written_item}
 use Rattle.kc_macros.specs.between.Stops.{FailsWith}
-use Rattle.kc_macro_lines.specs.checker.Bodies.{bodies_left, quoted_written}
-use Rattle.kc_macros.specs.checker.ProgramSteps.{Leads}
-use Rattle.kc_macros.proofs.RunLemmas.{then_runs, stops_early, runs_nothing, returns_as}
-use Rattle.kc_macros.proofs.ProgramLemmas.{then_returns, then_then, then_same, runs_same, leads_same, leads_then, leads_on}
 use Rattle.kc_macros.proofs.PartialValueLemmas.{joined_three, joined_nothing, nothing_joined}
-use Rattle.kc_macros.proofs.ExpansionLemmas.{fails_so}
 
-same_body : (bytes bytes2 : List ℕ) (v v2 : Value) → bytes ≡ bytes2 → v ≡ v2 → (let a : WrittenBody = record { bytes = bytes; meaning = v } in
-    let b : WrittenBody = record { bytes = bytes2; meaning = v2 } in a ≡ b)
-same_body bytes bytes2 v v2 h k = ap (λ x. let a : WrittenBody = record { bytes = x; meaning = v } in a) h
-    ∙ ap (λ x. let a : WrittenBody = record { bytes = bytes2; meaning = x } in a) k
+same_body : (bytes bytes2 : List ℕ) (v v2 : Value) → bytes ≡ bytes2 → v ≡ v2 → (let a : WrittenQuotedText = record { bytes = bytes; meaning = v } in
+    let b : WrittenQuotedText = record { bytes = bytes2; meaning = v2 } in a ≡ b)
+same_body bytes bytes2 v v2 h k = ap (λ x. let a : WrittenQuotedText = record { bytes = x; meaning = v } in a) h
+    ∙ ap (λ x. let a : WrittenQuotedText = record { bytes = bytes2; meaning = x } in a) k
 
-joined_bodies_three : (a b c : WrittenBody) → joined_bodies a (joined_bodies b c) ≡ joined_bodies (joined_bodies a b) c
+joined_bodies_three : (a b c : WrittenQuotedText) → joined_bodies a (joined_bodies b c) ≡ joined_bodies (joined_bodies a b) c
 joined_bodies_three a b c =
     same_body (a.bytes ++ (b.bytes ++ c.bytes)) ((a.bytes ++ b.bytes) ++ c.bytes) (joined_values a.meaning (joined_values b.meaning c.meaning))
     (joined_values (joined_values a.meaning b.meaning) c.meaning)
     (sym (append_assoc a.bytes b.bytes c.bytes)) (joined_three a.meaning b.meaning c.meaning)
 
-nothing_before : (a : WrittenBody) → joined_bodies (body_of [] []) a ≡ a
+nothing_before : (a : WrittenQuotedText) → joined_bodies (body_of [] []) a ≡ a
 nothing_before a = same_body a.bytes a.bytes (joined_values (Some []) a.meaning) a.meaning refl (joined_nothing a.meaning)
 
-nothing_after : (a : WrittenBody) → joined_bodies a (body_of [] []) ≡ a
+nothing_after : (a : WrittenQuotedText) → joined_bodies a (body_of [] []) ≡ a
 nothing_after a = same_body (a.bytes ++ []) a.bytes (joined_values a.meaning (Some [])) a.meaning (append-nil a.bytes) (nothing_joined a.meaning)
 
 module _ (at : Place) (b : Bindings) (quote : ℕ) where
@@ -40,10 +29,10 @@ module _ (at : Place) (b : Bindings) (quote : ℕ) where
   bodies_at_first is = sym (then_same (written_items at b quote is) (λ r. returns (joined_bodies (body_of [] []) r)) returns
       (λ r. ap returns (nothing_before r)) ∙ then_returns (written_items at b quote is))
 
-  pub no_body_left : (a : WrittenBody) → bodies_left at b quote a [] ≡ returns a
+  pub no_body_left : (a : WrittenQuotedText) → bodies_left at b quote a [] ≡ returns a
   no_body_left a = ap returns (nothing_after a)
 
-  pub body_left : (a : WrittenBody) (i : Item) (is : List Item) → bodies_left at b quote a (i ∷ is) ≡ written_item at b quote i >>=
+  pub body_left : (a : WrittenQuotedText) (i : Item) (is : List Item) → bodies_left at b quote a (i ∷ is) ≡ written_item at b quote i >>=
       (λ f. bodies_left at b quote (joined_bodies a f) is)
   body_left a i is =
       then_then (written_item at b quote i) (λ f. written_items at b quote is >>= λ r. returns (joined_bodies f r)) (λ r. returns (joined_bodies a r))
@@ -53,12 +42,12 @@ module _ (at : Place) (b : Bindings) (quote : ℕ) where
       ∙ then_same (written_items at b quote is) (λ r. returns (joined_bodies a (joined_bodies f r))) (λ r. returns (joined_bodies (joined_bodies a f) r))
       (λ r. ap returns (joined_bodies_three a f r)))
 
-  module _ (s : RunState) (a : WrittenBody) (text : List ℕ) where
-    abbrev at_first : Program WrittenBody
+  module _ (s : RunState) (a : WrittenQuotedText) (text : List ℕ) where
+    abbrev at_first : Program WrittenQuotedText
     at_first = bodies_left at b quote a (items true 0 text)
 
     -- an item between quotes that is written without an event leads to writing the items after it
-    pub item_written : (i : Item) (f a2 : WrittenBody) (more : List Item) → items true 0 text ≡ i ∷ more → written_item at b quote i ≡ returns f
+    pub item_written : (i : Item) (f a2 : WrittenQuotedText) (more : List Item) → items true 0 text ≡ i ∷ more → written_item at b quote i ≡ returns f
         → a2 ≡ joined_bodies a f → Leads s at_first s (bodies_left at b quote a2 more)
     item_written i f a2 more h k e =
         leads_same s at_first (bodies_left at b quote a2 more)
@@ -73,7 +62,7 @@ module _ (at : Place) (b : Bindings) (quote : ℕ) where
         ∙ ap (λ p. p >>= (λ x. bodies_left at b quote (joined_bodies a x) more)) k) w
 
     module _ (inside whole : List ℕ) (more : List Item) (h : items true 0 text ≡ reference inside ∷ more) (e : whole ≡ item_bytes (reference inside)) where
-      abbrev with_value : Value → Program WrittenBody
+      abbrev with_value : Value → Program WrittenQuotedText
       with_value v = bodies_left at b quote (joined_bodies a (body_of_value quote v)) more
 
       to_value : at_first ≡ text_value at b whole >>= with_value
@@ -87,7 +76,7 @@ module _ (at : Place) (b : Bindings) (quote : ℕ) where
       value_stopped t stop r = runs_same s t at_first (text_value at b whole >>= with_value) (end_of_stop stop) to_value
           (stops_early s t (text_value at b whole) with_value stop r)
 
-      pub value_written : (t : RunState) (v : Value) (a2 : WrittenBody) → a2 ≡ joined_bodies a (body_of_value quote v)
+      pub value_written : (t : RunState) (v : Value) (a2 : WrittenQuotedText) → a2 ≡ joined_bodies a (body_of_value quote v)
           → Runs s t (text_value at b whole) (ends (returned v)) → Leads s at_first t (bodies_left at b quote a2 more)
       value_written t v a2 k r =
           leads_then s s t at_first (text_value at b whole >>= with_value) (bodies_left at b quote a2 more)
@@ -97,16 +86,16 @@ module _ (at : Place) (b : Bindings) (quote : ℕ) where
           (leads_same t (with_value v) (bodies_left at b quote a2 more) (ap (λ x. bodies_left at b quote x more) (sym k))))
 
 -- if no bytes between quotes are written yet and they have no meaning yet, they are the empty body
-pub nothing_written : (bytes meaning : List ℕ) → bytes ≡ [] → meaning ≡ [] → (let a : WrittenBody = record { bytes = bytes; meaning = Some meaning } in
+pub nothing_written : (bytes meaning : List ℕ) → bytes ≡ [] → meaning ≡ [] → (let a : WrittenQuotedText = record { bytes = bytes; meaning = Some meaning } in
     a ≡ body_of [] [])
 nothing_written bytes meaning h k = same_body bytes [] (Some meaning) (Some []) h (ap Some k)
 
-module _ (at : Place) (b : Bindings) (quote : ℕ) (s : RunState) (a : WrittenBody) where
+module _ (at : Place) (b : Bindings) (quote : ℕ) (s : RunState) (a : WrittenQuotedText) where
   pub body_begins : (is : List Item) → a ≡ body_of [] [] → Leads s (written_items at b quote is) s (bodies_left at b quote a is)
   body_begins is h = leads_same s (written_items at b quote is) (bodies_left at b quote a is) (bodies_at_first at b quote is
       ∙ ap (λ x. bodies_left at b quote x is) (sym h))
 
-  pub body_ends : (first : RunState) (p : Program WrittenBody) (is : List Item) → is ≡ [] → Leads first p s (bodies_left at b quote a is)
+  pub body_ends : (first : RunState) (p : Program WrittenQuotedText) (is : List Item) → is ≡ [] → Leads first p s (bodies_left at b quote a is)
       → Runs first s p (ends (returned a))
   body_ends first p is h l = l.leads s (ends (returned a)) (runs_same s s (bodies_left at b quote a is) (returns a) (ends (returned a))
       (ap (bodies_left at b quote a) h ∙ no_body_left at b quote a) (runs_nothing s a))
@@ -116,7 +105,7 @@ module _ (at : Place) (b : Bindings) (quote : ℕ) (text : List ℕ) (s t : RunS
       → Runs s t (quoted_written at b quote text) (end_of_stop stop)
   quoted_stopped stop r = stops_early s t (written_items at b quote (items true 0 text)) (λ body. returns (token_of_body quote body)) stop r
 
-  pub quoted_returned : (body : WrittenBody) (x : WrittenToken) → x ≡ token_of_body quote body → Runs s t (written_items at b quote (items true 0 text))
+  pub quoted_returned : (body : WrittenQuotedText) (x : WrittenToken) → x ≡ token_of_body quote body → Runs s t (written_items at b quote (items true 0 text))
       (ends (returned body)) → Runs s t (quoted_written at b quote text) (ends (returned x))
   quoted_returned body x e r =
       returns_as s t t (quoted_written at b quote text) (token_of_body quote body) x refl e

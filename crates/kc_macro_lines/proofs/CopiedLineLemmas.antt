@@ -1,33 +1,24 @@
 -- Lines without `$`, and lines on which nothing acts.
-use Rattle.std.proofs.Common.{◌≡◌, ℕ, zero, suc, ◌+◌, ◌≤◌, Bool, true, false, ◌&&◌, ◌||◌, cond, List, [], ◌∷◌, ◌++◌, length, take, drop, get_or, Option, Some, None, refl, sym, ap, ◌∙◌, subst, arith}
-use Rattle.std.specs.Prelude.{◌==◌, not, nat_lt, pred, bytes_eq, codes, is_some, is_none, option_map}
-use Rattle.std.specs.List.{list_any, prefix_len}
-use Rattle.std.specs.Str.{is_utf8}
-use Rattle.std.proofs.lemmas.List.{drop_all}
-use Rattle.std.proofs.lemmas.Bool.{eqb-true, le-ltb}
-use Rattle.kc_tokens.specs.Token.{is_white_byte}
-use Rattle.kc_tree_model.specs.Limits.{is_in_list}
+use Rattle.kc_macro_lines.proofs.Common.{◌≡◌, ℕ, zero, suc, ◌+◌, ◌≤◌, Bool, true, false, ◌&&◌, ◌||◌, cond, List, [], ◌∷◌, ◌++◌, length, take, drop, get_or, Option, Some, None, refl, sym, ap, ◌∙◌, subst, arith, ◌==◌, not, nat_lt, pred, bytes_eq, codes, is_some, option_map, list_any, prefix_len}
+use Rattle.kc_macro_lines.proofs.Common.{is_utf8, drop_all, eqb-true, le-ltb, is_white_byte, is_in_list, Place, Program, returns, stops, ◌>>=◌, Item, byte, escaped, item_bytes, reference_of, first_item, items, inside_length, is_unterminated, is_reference, is_plain_dollar, Bindings, LineToken, gap}
+use Rattle.kc_macro_lines.proofs.Common.{run, quoted, other, broken, token_bytes, extent, is_run_byte, run_token, quoted_token, first_token, line_tokens, bytes_of_tokens, Word, Other, WrittenToken, written_as, body_of, joined_bodies, written_items, token_of_body, written_token, run_value}
+use Rattle.kc_macro_lines.proofs.Common.{token_of_text, AssignedText, LineContent, tokens, with_token, is_gap, is_unknown, is_gap_token, is_open_front, assignment_to, assignment_at, assignment_or, line_content, without_front, solid_tokens, asked_after_option, asked_by, prompt_words, source_words}
+use Rattle.kc_macro_lines.proofs.Common.{help_words, is_acting_word, IsQuiet}
+use Rattle.std.specs.Prelude.{is_none}
 use Rattle.kc_tree_model.specs.LogicalLines.{begins_help}
 use Rattle.kc_macros_model.specs.declared.fault.MacroKind.TheVariants.{LineTooLong}
 use Rattle.kc_value.specs.declared.limits.TheConstants.{MAX_TEXT_BYTES}
 use Rattle.kc_macros_model.specs.Expansion.{fault}
-use Rattle.kc_macros_model.specs.Programs.{Place, Program, returns, stops, ◌>>=◌}
-use Rattle.kc_macros_model.specs.References.{Item, byte, escaped, item_bytes, reference_of, first_item, items, inside_length, is_unterminated, is_reference, is_plain_dollar}
-use Rattle.kc_macros_model.specs.Variables.{Bindings}
-use Rattle.kc_macros_model.specs.LineTokens.{LineToken, gap, run, quoted, other, broken, token_bytes, extent, is_run_byte, run_token, quoted_token, first_token, line_tokens, bytes_of_tokens}
-use Rattle.kc_macros_model.specs.declared.token_sort.TokenSort.TheVariants.{Gap, Word, Other}
-use Rattle.kc_macros_model.specs.WrittenTokens.{WrittenToken, written_as, body_of, joined_bodies, written_items, token_of_body, written_token, run_value, token_of_text}
-use Rattle.kc_macros_model.specs.Assignments.{AssignedText, LineContent, tokens, with_token, is_gap, is_unknown, is_gap_token, is_open_front, assignment_to, assignment_at, assignment_or, line_content, without_front}
-use Rattle.kc_macros_model.specs.EnvironmentLines.{solid_tokens, asked_after_option, asked_by, meant_line}
+use Rattle.kc_macros_model.specs.declared.token_sort.TokenSort.TheVariants.{Gap}
+use Rattle.kc_macros_model.specs.EnvironmentLines.{meant_line}
 use Rattle.kc_macros_model.proofs.EnvironmentLines.{meant_same}
-use Rattle.kc_macros_model.specs.LineForms.{LineForm, plain, bare_prompt, replaced_by, named_choice, sources, sort_of_source, is_path, form_of, form_by_word, form_of_pair, is_word, is_bare_prompt, is_help_line, is_undecided, without_gaps, line_bytes, prompt_words, source_words, help_words}
+use Rattle.kc_macros_model.specs.LineForms.{LineForm, plain, bare_prompt, replaced_by, named_choice, sources, sort_of_source, is_path, form_of, form_by_word, form_of_pair, is_word, is_bare_prompt, is_help_line, is_undecided, without_gaps, line_bytes}
 use Rattle.kc_macros_model.specs.ReadingStates.{ReadingState, progress, WrittenLine, written_line}
 use Rattle.kc_macros_model.specs.TreeExpansion.{SourceReader, form_written, short_line, tokens_written, content_written, line_written}
 use Rattle.kc_macro_lines.specs.between.CopiedLines.{IsCopied}
-use Rattle.kc_macro_lines.specs.checker.LineTexts.{has_token}
-use Rattle.kc_macro_lines.specs.checker.QuietLines.{is_acting_word, HasNoWordNext, IsQuiet}
+use Rattle.kc_macro_lines.specs.checker.QuietLines.{HasNoWordNext}
 use Rattle.kc_macro_lines.proofs.WrittenTokenLemmas.{run_is_word}
-use Rattle.kc_macro_lines.proofs.LineTokenLemmas.{row_of_tokens, tokens_skip, any_token}
+use Rattle.kc_macro_lines.proofs.LineTokenLemmas.{row_of_tokens, tokens_skip}
 
 -- whether a text has a `$`
 abbrev pub has_dollar : List ℕ → Bool
@@ -444,18 +435,6 @@ module _ (text : List ℕ) (short : length text ≤ MAX_TEXT_BYTES) (utf8 : is_u
 pub copied : (text : List ℕ) → length text ≤ MAX_TEXT_BYTES → is_utf8 text ≡ true → has_dollar text ≡ false → IsQuiet (line_tokens 0 text) → IsCopied text
 copied text short utf8 plain_text quiet = record { written = copied_line text short utf8 plain_text quiet }
 
--- a line of gaps alone
-quiet_gaps : (ts : List LineToken) → list_any (λ t. not (is_gap_token t)) ts ≡ false → IsQuiet ts
-quiet_gaps [] h = tt
-quiet_gaps (gap s ∷ ts) h = quiet_gaps ts h
-quiet_gaps (run s ∷ ts) h = absurd (let z : ⊥ = cc in z)
-quiet_gaps (quoted quote s ∷ ts) h = tt
-quiet_gaps (other s ∷ ts) h = tt
-quiet_gaps (broken s ∷ ts) h = tt
-
-pub quiet_empty : (text : List ℕ) → has_token text ≡ false → IsQuiet (line_tokens 0 text)
-quiet_empty text h = quiet_gaps (line_tokens 0 text) (any_token text ∙ h)
-
 white_first : (c : ℕ) (s : List ℕ) → is_white_byte c ≡ true → line_tokens 0 (c ∷ s) ≡ gap (c ∷ []) ∷ line_tokens 0 s
 white_first c s e =
     ap (λ b. let t = cond b (gap (c ∷ [])) (after_white c s) in t ∷ line_tokens (pred (length (token_bytes t))) s) e
@@ -464,12 +443,13 @@ white_first c s e =
     after_white c s = cond (c == 35) (gap (c ∷ s)) (cond (is_run_byte c) (run_token (take (extent false (λ d. not (is_run_byte d)) 0 (c ∷ s)) (c ∷ s)))
         (cond (c == 34 || (c == 39)) (quoted_token (extent true (λ d. d == c) 0 s) c s) (other (c ∷ []))))
 
-pub white_dropped : (c : ℕ) (s : List ℕ) → is_white_byte c ≡ true → without_front is_white_byte (c ∷ s) ≡ without_front is_white_byte s
-white_dropped c s e = ap (λ b. drop (cond b (1 + prefix_len is_white_byte s) 0) (c ∷ s)) e ∙ ap (λ n. drop n (c ∷ s))
-    (let n : 1 + prefix_len is_white_byte s ≡ suc (prefix_len is_white_byte s) = omega arith in n)
+-- a byte at the front that passes a test is dropped, and one that doesn't pass stays
+pub passed_dropped : (p : ℕ → Bool) (c : ℕ) (s : List ℕ) → p c ≡ true → without_front p (c ∷ s) ≡ without_front p s
+passed_dropped p c s e = ap (λ b. drop (cond b (1 + prefix_len p s) 0) (c ∷ s)) e ∙ ap (λ n. drop n (c ∷ s))
+    (let n : 1 + prefix_len p s ≡ suc (prefix_len p s) = omega arith in n)
 
-pub ink_stays : (c : ℕ) (s : List ℕ) → is_white_byte c ≡ false → without_front is_white_byte (c ∷ s) ≡ c ∷ s
-ink_stays c s e = ap (λ b. drop (cond b (1 + prefix_len is_white_byte s) 0) (c ∷ s)) e
+pub failed_stays : (p : ℕ → Bool) (c : ℕ) (s : List ℕ) → p c ≡ false → without_front p (c ∷ s) ≡ c ∷ s
+failed_stays p c s e = ap (λ b. drop (cond b (1 + prefix_len p s) 0) (c ∷ s)) e
 
 -- a line is quiet, as `IsQuiet` defines, if it is without the white bytes at its front
 pub quiet_front : (text : List ℕ) → IsQuiet (line_tokens 0 (without_front is_white_byte text)) → IsQuiet (line_tokens 0 text)
@@ -478,8 +458,8 @@ quiet_front (c ∷ s) q = by_test (λ k. quiet_front s k) (is_white_byte c) refl
   where
     by_test : (IsQuiet (line_tokens 0 (without_front is_white_byte s)) → IsQuiet (line_tokens 0 s)) → (b : Bool) → is_white_byte c ≡ b
         → IsQuiet (line_tokens 0 (c ∷ s))
-    by_test ih true e = subst IsQuiet (sym (white_first c s e)) (ih (subst (λ x. IsQuiet (line_tokens 0 x)) (white_dropped c s e) q))
-    by_test ih false e = subst (λ x. IsQuiet (line_tokens 0 x)) (ink_stays c s e) q
+    by_test ih true e = subst IsQuiet (sym (white_first c s e)) (ih (subst (λ x. IsQuiet (line_tokens 0 x)) (passed_dropped is_white_byte c s e) q))
+    by_test ih false e = subst (λ x. IsQuiet (line_tokens 0 x)) (failed_stays is_white_byte c s e) q
 
 -- a line whose tokens, without the white bytes at its front, are these ones is quiet if they are
 pub quiet_by : (text rest : List ℕ) (t : LineToken) (ts : List LineToken) → rest ≡ without_front is_white_byte text → line_tokens 0 rest ≡ t ∷ ts
@@ -515,8 +495,8 @@ front_word (c ∷ s) h = by_test (λ k. front_word s k) (is_white_byte c) refl
   where
     by_test : (is_run_byte (get_or (without_front is_white_byte s) 0 0) ≡ false → HasNoWordNext (line_tokens 0 s)) → (b : Bool) → is_white_byte c ≡ b
         → HasNoWordNext (line_tokens 0 (c ∷ s))
-    by_test ih true e = subst HasNoWordNext (sym (white_first c s e)) (ih (ap (λ x. is_run_byte (get_or x 0 0)) (sym (white_dropped c s e)) ∙ h))
-    by_test ih false e = ink_first c s e (ap (λ x. is_run_byte (get_or x 0 0)) (sym (ink_stays c s e)) ∙ h)
+    by_test ih true e = subst HasNoWordNext (sym (white_first c s e)) (ih (ap (λ x. is_run_byte (get_or x 0 0)) (sym (passed_dropped is_white_byte c s e)) ∙ h))
+    by_test ih false e = ink_first c s e (ap (λ x. is_run_byte (get_or x 0 0)) (sym (failed_stays is_white_byte c s e)) ∙ h)
 
 pub no_word_after : (text rest : List ℕ) → rest ≡ without_front is_white_byte text → is_run_byte (get_or rest 0 0) ≡ false → HasNoWordNext (line_tokens 0 text)
 no_word_after text rest e h = front_word text (ap (λ x. is_run_byte (get_or x 0 0)) (sym e) ∙ h)

@@ -1,14 +1,11 @@
 -- Items and extents of a text, item by item.
-use Rattle.std.proofs.Common.{◌≡◌, ℕ, zero, suc, ◌+◌, ◌-◌, ◌<◌, ◌≤◌, Bool, true, false, ◌&&◌, ◌||◌, cond, List, [], ◌∷◌, ◌++◌, length, take, drop, get_or, Option, Some, None, refl, sym, ap, ◌∙◌, arith, length-append, length-drop, inl, inr}
-use Rattle.std.specs.Prelude.{◌==◌, ◌⊎◌, pred, is_some, not, nat_lt, slice_get}
-use Rattle.std.proofs.lemmas.Bool.{lt-ltb, le-ltb, cases_lt}
-use Rattle.std.specs.List.{list_any}
+use Rattle.std.proofs.Common.{inl, inr}
+use Rattle.std.specs.Prelude.{◌⊎◌, slice_get}
+use Rattle.std.proofs.lemmas.Bool.{lt-ltb, cases_lt}
+use Rattle.kc_macro_lines.proofs.Common.{◌≡◌, ℕ, zero, suc, ◌+◌, ◌-◌, ◌<◌, ◌≤◌, Bool, true, false, ◌&&◌, ◌||◌, cond, List, [], ◌∷◌, ◌++◌, length, take, drop, get_or, Option, Some, None, refl, sym, ap, ◌∙◌, arith, length-append, length-drop, ◌==◌, pred, is_some, not, nat_lt, le-ltb, list_any, Item}
+use Rattle.kc_macro_lines.proofs.Common.{byte, escaped, reference, unterminated, item_bytes, reference_of, first_item, items, is_unterminated, is_reference, is_plain_dollar, inside_length, extent, first_item_of, rest_is}
 use Rattle.std.specs.Cmp.{first_so}
-use Rattle.kc_macros_model.specs.References.{Item, byte, escaped, reference, unterminated, item_bytes, reference_of, first_item, items, is_unterminated, is_reference, is_plain_dollar, inside_length}
 use Rattle.kc_macros_model.specs.ExpansionRules.{begins_reference}
-use Rattle.kc_macros_model.specs.LineTokens.{run, quoted, other, broken, extent, run_token, quoted_token}
-use Rattle.kc_macro_lines.specs.checker.LineTexts.{first_item_of}
-use Rattle.kc_macros.proofs.PieceLemmas.{rest_is}
 
 items_skip : (q : Bool) (n : ℕ) (s : List ℕ) → items q n s ≡ items q 0 (drop n s)
 items_skip q zero s = refl
@@ -147,17 +144,6 @@ two_of_pair p n h = by_order (cases_lt 1 n)
     by_order (inl l) = l
     by_order (inr l) = absurd (let z : false ≡ true = sym (ap (λ t. p && t) (le-ltb 1 n l) ∙ and_false p) ∙ h in let w : ⊥ = cc in w)
 
--- a run token is broken if one of its references has no `)`
-pub run_by : (s : List ℕ) (b : Bool) → list_any is_unterminated (items false 0 s) ≡ b → run_token s ≡ cond b (broken s) (run s)
-run_by s b h = ap (λ t. cond t (broken s) (run s)) h
-
--- a text that begins with a quote is a broken token if one of its references has no `)`, a quoted token if its closing quote is
--- there, and other bytes if not
-pub quoted_by : (n quote : ℕ) (s : List ℕ) (b d : Bool) → list_any is_unterminated (items true 0 (take n s)) ≡ b → nat_lt n (length s) ≡ d
-    → quoted_token n quote s ≡ cond b (broken (quote ∷ s)) (cond d (quoted quote (take n s)) (other (quote ∷ s)))
-quoted_by n quote s b d h k = ap (λ t. cond t (broken (quote ∷ s)) (cond (nat_lt n (length s)) (quoted quote (take n s)) (other (quote ∷ s)))) h
-    ∙ ap (λ t. cond b (broken (quote ∷ s)) (cond t (quoted quote (take n s)) (other (quote ∷ s)))) k
-
 pub whole_text : (s : List ℕ) (quote : ℕ) → slice_get s 0 ≡ Some quote → s ≡ quote ∷ drop 1 s
 whole_text [] quote h = absurd (let z : ⊥ = cc in z)
 whole_text (c ∷ s) quote h = ap (λ d. d ∷ s) (let e : c ≡ quote = cc in e)
@@ -198,6 +184,13 @@ module _ (p : Item → Bool) (q : Bool) (rest : List ℕ) (some : 0 < length res
   item_later n len f text same =
       same ∙ ap (list_any p) (items_first q rest n some len) ∙ ap (λ b. b || list_any p (items q 0 (drop n rest))) f
       ∙ ap (λ s. list_any p (items q 0 s)) (sym (rest_is rest n))
+
+  -- whether one was found before, or an item of the rest passes, by the first item of the rest and those after it
+  pub item_either : (n : ℕ) → n ≡ length (item_bytes (first_item_of q rest)) → (before : Bool) → (before || list_any p (items q 0 rest))
+      ≡ ((before || p (first_item_of q rest)) || list_any p (items q 0 (take (length rest - n) (drop n rest))))
+  item_either n len true = refl
+  item_either n len false = ap (list_any p) (items_first q rest n some len)
+      ∙ ap (λ s. p (first_item_of q rest) || list_any p (items q 0 s)) (sym (rest_is rest n))
 
 by_front : (s : List ℕ) (b : Bool) → begins_reference s ≡ b → (p : Item → Bool) → ((o : Option ℕ) → p (reference_of (drop 2 s) o) ≡ false) → (b ≡ true)
     → p (first_item_of false s) ≡ false

@@ -1,4 +1,5 @@
 pub mod Bodies
+pub mod RunContents
 pub mod LineTexts
 pub mod LineFronts
 pub mod QuietLines

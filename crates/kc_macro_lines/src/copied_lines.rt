@@ -75,7 +75,7 @@ fn begins_word(text: &[u8]) -> bool
 }
 
 /// Whether a line whose first word is this one, with these bytes after it, stays as it is.
-fn is_quiet_word(word: &[u8], after: &[u8]) -> bool
+fn begins_nothing_to_expand(word: &[u8], after: &[u8]) -> bool
     ensures { result ≡ true → IsQuiet (name_token word.now ∷ line_tokens 0 after.now) }
 {
     if is_acting_word(word) {
@@ -101,7 +101,7 @@ fn word_length(text: &[u8]) -> usize
 }
 
 /// Whether a line without `$` stays as it is, by its first token.
-fn is_quiet(text: &[u8]) -> bool
+fn has_nothing_to_expand(text: &[u8]) -> bool
     requires no_dollar { list_any (λ c. c == 36) text.now ≡ false }
     ensures quiet { result ≡ true → IsQuiet (line_tokens 0 text.now) }
 {
@@ -117,7 +117,7 @@ fn is_quiet(text: &[u8]) -> bool
         return false;
     }
     let (word, after) = rest.split_at(length);
-    is_quiet_word(word, after)
+    begins_nothing_to_expand(word, after)
 }
 
 /// Whether the expansion surely copies a line: it has no `$` and at most 65,536 bytes, is UTF-8, assigns nothing, and is no
@@ -132,5 +132,5 @@ pub fn is_copied(text: &[u8]) -> bool
     if has_dollar_or_wide(text) {
         return false;
     }
-    is_quiet(text)
+    has_nothing_to_expand(text)
 }

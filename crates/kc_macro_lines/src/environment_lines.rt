@@ -10,8 +10,9 @@ ghost use Rattle.kc_macro_lines.specs.checker.LineTexts.{token_view, has_equals_
 
 use super::line_content::{LineContent, front_token, read_tokens};
 use super::line_tokens::LineToken;
+use super::scope::Scope;
 use kc_answers::is_environment_name;
-use kc_macros::{Bindings, Place, Run, Stop, is_text};
+use kc_macros::{Bindings, ExpansionState, Place, Stop, is_text};
 use std::alloc::{AllocError, Global};
 
 /// Whether a token is white or a comment.
@@ -53,7 +54,7 @@ fn is_run(word: &[u8], token: LineToken<'_>) -> bool
     ensures { result ≡ is_run word.now (token_view token.entry) }
 {
     match token {
-        LineToken::Run(text) => is_text(text, word),
+        LineToken::Word(text) => is_text(text, word),
         _ => false,
     }
 }
@@ -157,18 +158,19 @@ fn environment_line(alloc: Global, name: &[u8]) -> Result<Vec<u8>, AllocError>
 /// The first fault of the expansion; `Unanswered` where it isn't known whether the line is an assignment, or to which
 /// name; or memory ran out.
 pub fn read_line(
-    run: &mut Run<'_>,
+    run: &mut ExpansionState<'_>,
     at: Place<'_>,
     bindings: &Bindings,
     text: &[u8],
 ) -> Result<LineContent, Stop>
     ensures { Runs run.old run.new (line_content (place_of at.entry) (bindings_of bindings.now) true (line_tokens 0 (meant_line text.now))) (end_of content_of result) }
 {
+    let scope = Scope { at, bindings };
     match environment_asked(text) {
         Some(name) => {
             let line = environment_line(run.alloc(), name)?;
-            read_tokens(run, at, bindings, &line)
+            read_tokens(run, &scope, &line)
         }
-        None => read_tokens(run, at, bindings, text),
+        None => read_tokens(run, &scope, text),
     }
 }

@@ -15,7 +15,7 @@ use kc_tokens::is_white;
 #[derive(Clone, Copy)]
 pub(crate) enum LineToken<'a> {
     Gap(&'a [u8]),
-    Run(&'a [u8]),
+    Word(&'a [u8]),
     Quoted(u8, &'a [u8]),
     Other(&'a [u8]),
     Broken(&'a [u8]),
@@ -44,10 +44,7 @@ fn is_unterminated_front(text: &[u8], in_quotes: bool) -> bool
     requires not_empty { 0 < length text.now }
     ensures value { result ≡ is_unterminated (first_item_of in_quotes text.now) }
 {
-    if begins_reference_at(text, 0) {
-        return inside_length(&text[2..]).is_none();
-    }
-    false
+    begins_reference_at(text, 0) && inside_length(&text[2..]).is_none()
 }
 
 /// How many bytes the reference at the front of a text has; all where it doesn't end.
@@ -137,7 +134,7 @@ fn run_token(text: &[u8]) -> LineToken<'_>
     if has_unterminated(run, false) {
         LineToken::Broken(run)
     } else {
-        LineToken::Run(run)
+        LineToken::Word(run)
     }
 }
 

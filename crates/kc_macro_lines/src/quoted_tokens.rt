@@ -1,60 +1,43 @@
 //! Quoted tokens, and all tokens of a line, with the values of their references.
 ghost use Rattle.std.specs.Prelude.{◌≡◌, ◌<◌, [], true, length, IfOk};
 ghost use Rattle.kc_macros_model.specs.References.{items};
-ghost use Rattle.kc_macros_model.specs.ExpansionRules.{begins_reference};
 ghost use Rattle.kc_macros_model.specs.WrittenTokens.{body_of, written_items, written_token, token_of_body};
 ghost use Rattle.kc_macros.specs.between.Variables.{bindings_of};
 ghost use Rattle.kc_macro_forms.specs.between.WrittenTokens.{token_of};
 ghost use Rattle.kc_macros.specs.Runs.{place_of, Runs, end_of};
-ghost use Rattle.kc_macro_lines.specs.checker.Bodies.{body_of_code, has_dollar_or_backslash, bodies_left, quoted_written};
+ghost use Rattle.kc_macro_lines.specs.checker.Bodies.{body_of_code, has_dollar_or_backslash, bodies_left};
 ghost use Rattle.kc_macros.specs.checker.ProgramSteps.{Steps};
 ghost use Rattle.kc_macro_lines.specs.checker.LineTexts.{token_view};
 
 use super::line_tokens::{LineToken, is_pair};
-use super::token_values::{Body, push_byte, push_pair, push_reference, written_run};
+use super::scope::Scope;
+use super::token_values::{QuotedText, push_byte, push_pair, push_reference, written_word};
 use kc_macro_forms::{WrittenToken, new_token};
 use kc_macros::{
-    Bindings, Bytes, Place, Run, Stop, begins_reference_at, fault, reference_at_front, text_value,
+    Bytes, ExpansionState, Stop, begins_reference_at, fault, reference_at_front, text_value,
 };
 use kc_macros_model::{MacroKind, TokenSort};
 use std::alloc::{AllocError, Global};
 
-/// Appends the value of the reference at the front of a text between quotes to `out`; returns the rest.
-fn next_reference<'t>(
-    run: &mut Run<'_>,
-    at: Place<'_>,
-    bindings: &Bindings,
-    quote: u8,
-    text: &'t [u8],
-    out: &mut Body,
-) -> Result<&'t [u8], Stop>
-    requires begins { begins_reference text.now ≡ true }
-    ensures steps { Steps run.old run.new (bodies_left (place_of at.entry) (bindings_of bindings.now) quote (body_of_code out.old) (items true 0 text.now)) (λ rest. bodies_left (place_of at.entry) (bindings_of bindings.now) quote (body_of_code out.new) (items true 0 rest.now)) result }
-    ensures shorter { IfOk result (λ rest. length rest.now < length text.now) }
-{
-    let Some((inside, after)) = reference_at_front(text) else {
-        return Err(fault(run.alloc(), at, MacroKind::Unterminated, b""));
-    };
-    let value = text_value(run, at, bindings, &text[..inside.len() + 3])?;
-    push_reference(out, quote, &value)?;
-    Ok(after)
-}
-
-/// Appends the item at the front of a text between quotes to `out`, as it is written; returns the rest.
+/// Appends the item at the front of a text between quotes to `out`, of a reference its value; returns the rest.
 fn next_item<'t>(
-    run: &mut Run<'_>,
-    at: Place<'_>,
-    bindings: &Bindings,
+    run: &mut ExpansionState<'_>,
+    scope: &Scope<'_>,
     quote: u8,
     text: &'t [u8],
-    out: &mut Body,
+    out: &mut QuotedText,
 ) -> Result<&'t [u8], Stop>
     requires not_empty { 0 < length text.now }
-    ensures steps { Steps run.old run.new (bodies_left (place_of at.entry) (bindings_of bindings.now) quote (body_of_code out.old) (items true 0 text.now)) (λ rest. bodies_left (place_of at.entry) (bindings_of bindings.now) quote (body_of_code out.new) (items true 0 rest.now)) result }
+    ensures steps { Steps run.old run.new (bodies_left (place_of scope.now.at) (bindings_of scope.now.bindings.now) quote (body_of_code out.old) (items true 0 text.now)) (λ rest. bodies_left (place_of scope.now.at) (bindings_of scope.now.bindings.now) quote (body_of_code out.new) (items true 0 rest.now)) result }
     ensures shorter { IfOk result (λ rest. length rest.now < length text.now) }
 {
     if begins_reference_at(text, 0) {
-        return next_reference(run, at, bindings, quote, text, out);
+        let Some((inside, after)) = reference_at_front(text) else {
+            return Err(fault(run.alloc(), scope.at, MacroKind::Unterminated, b""));
+        };
+        let value = text_value(run, scope.at, scope.bindings, &text[..inside.len() + 3])?;
+        push_reference(out, quote, &value)?;
+        return Ok(after);
     }
     if is_pair(text, true) {
         push_pair(out, text[1])?;
@@ -76,10 +59,10 @@ fn has_dollar_or_backslash(text: &[u8]) -> bool
 }
 
 /// Bytes between quotes that are written as they are.
-fn plain_body(alloc: Global, text: &[u8]) -> Result<Body, AllocError>
+fn plain_body(alloc: Global, text: &[u8]) -> Result<QuotedText, AllocError>
     ensures { IfOk result (λ body. body_of_code body ≡ body_of text.now text.now) }
 {
-    Ok(Body {
+    Ok(QuotedText {
         bytes: Vec::from_slice(alloc, text)?,
         meaning: Vec::from_slice(alloc, text)?,
         known: true,
@@ -87,10 +70,10 @@ fn plain_body(alloc: Global, text: &[u8]) -> Result<Body, AllocError>
 }
 
 /// No bytes between quotes, with room for `room` bytes.
-fn empty_body(alloc: Global, room: usize) -> Result<Body, AllocError>
+fn empty_body(alloc: Global, room: usize) -> Result<QuotedText, AllocError>
     ensures { IfOk result (λ body. body_of_code body ≡ body_of [] []) }
 {
-    Ok(Body {
+    Ok(QuotedText {
         bytes: Vec::with_capacity(alloc, room)?,
         meaning: Vec::with_capacity(alloc, room)?,
         known: true,
@@ -99,13 +82,12 @@ fn empty_body(alloc: Global, room: usize) -> Result<Body, AllocError>
 
 /// The bytes between quotes as they are written.
 fn written_body(
-    run: &mut Run<'_>,
-    at: Place<'_>,
-    bindings: &Bindings,
+    run: &mut ExpansionState<'_>,
+    scope: &Scope<'_>,
     quote: u8,
     text: &[u8],
-) -> Result<Body, Stop>
-    ensures { Runs run.old run.new (written_items (place_of at.entry) (bindings_of bindings.now) quote (items true 0 text.now)) (end_of body_of_code result) }
+) -> Result<QuotedText, Stop>
+    ensures { Runs run.old run.new (written_items (place_of scope.now.at) (bindings_of scope.now.bindings.now) quote (items true 0 text.now)) (end_of body_of_code result) }
 {
     if !has_dollar_or_backslash(text) {
         return Ok(plain_body(run.alloc(), text)?);
@@ -113,13 +95,13 @@ fn written_body(
     let mut out = empty_body(run.alloc(), text.len())?;
     let mut rest = text;
     'items: while !rest.is_empty() {
-        rest = next_item(run, at, bindings, quote, rest, &mut out)?;
+        rest = next_item(run, scope, quote, rest, &mut out)?;
     }
     Ok(out)
 }
 
 /// Bytes between quotes as a token.
-fn token_of_body(alloc: Global, quote: u8, body: Body) -> Result<WrittenToken, AllocError>
+fn token_of_body(alloc: Global, quote: u8, body: QuotedText) -> Result<WrittenToken, AllocError>
     ensures { IfOk result (λ t. token_of t ≡ token_of_body quote (body_of_code body)) }
 {
     let mut bytes = Vec::with_capacity(alloc, body.bytes.len().saturating_add(2))?;
@@ -138,34 +120,22 @@ fn token_of_body(alloc: Global, quote: u8, body: Body) -> Result<WrittenToken, A
     })
 }
 
-/// A quoted token as it is written.
-fn written_quoted(
-    run: &mut Run<'_>,
-    at: Place<'_>,
-    bindings: &Bindings,
-    quote: u8,
-    text: &[u8],
-) -> Result<WrittenToken, Stop>
-    ensures { Runs run.old run.new (quoted_written (place_of at.entry) (bindings_of bindings.now) quote text.now) (end_of token_of result) }
-{
-    let body = written_body(run, at, bindings, quote, text)?;
-    Ok(token_of_body(run.alloc(), quote, body)?)
-}
-
 /// A token of a line as the expansion writes it, with the values of its references.
 pub(crate) fn written_token(
-    run: &mut Run<'_>,
-    at: Place<'_>,
-    bindings: &Bindings,
+    run: &mut ExpansionState<'_>,
+    scope: &Scope<'_>,
     token: LineToken<'_>,
 ) -> Result<WrittenToken, Stop>
-    ensures { Runs run.old run.new (written_token (place_of at.entry) (bindings_of bindings.now) (token_view token.entry)) (end_of token_of result) }
+    ensures { Runs run.old run.new (written_token (place_of scope.now.at) (bindings_of scope.now.bindings.now) (token_view token.entry)) (end_of token_of result) }
 {
     match token {
         LineToken::Gap(text) => Ok(new_token(run.alloc(), TokenSort::Gap, text, b"")?),
-        LineToken::Run(text) => written_run(run, at, bindings, text),
-        LineToken::Quoted(quote, text) => written_quoted(run, at, bindings, quote, text),
+        LineToken::Word(text) => written_word(run, scope, text),
+        LineToken::Quoted(quote, text) => {
+            let body = written_body(run, scope, quote, text)?;
+            Ok(token_of_body(run.alloc(), quote, body)?)
+        }
         LineToken::Other(text) => Ok(new_token(run.alloc(), TokenSort::Other, text, b"")?),
-        LineToken::Broken(_) => Err(fault(run.alloc(), at, MacroKind::Unterminated, b"")),
+        LineToken::Broken(_) => Err(fault(run.alloc(), scope.at, MacroKind::Unterminated, b"")),
     }
 }

@@ -7,13 +7,13 @@ ghost use Rattle.kc_macros.specs.between.Variables.{bindings_of};
 ghost use Rattle.kc_macro_forms.specs.between.WrittenTokens.{token_of};
 ghost use Rattle.kc_macros.specs.Runs.{place_of, Runs, end_of};
 ghost use Rattle.kc_macro_lines.specs.checker.Bodies.{body_of_code};
+ghost use Rattle.kc_macro_lines.specs.checker.RunContents.{IsRunContent};
 ghost use Rattle.kc_macro_lines.specs.checker.LineTexts.{first_item_of};
 
 use super::line_tokens::item_length;
+use super::scope::Scope;
 use kc_macro_forms::{WrittenToken, new_token, push_escaped, token_of_value};
-use kc_macros::{
-    Bindings, Bytes, Place, Run, Stop, begins_reference_at, inside_length, text_value,
-};
+use kc_macros::{Bytes, ExpansionState, Stop, begins_reference_at, inside_length, text_value};
 use kc_macros_model::TokenSort;
 use std::alloc::AllocError;
 
@@ -26,15 +26,14 @@ pub(crate) fn has_dollar(text: &[u8]) -> bool
 
 /// The value of a run, a token of word bytes and references; it is its own text if it has no `$`.
 pub(crate) fn run_value(
-    run: &mut Run<'_>,
-    at: Place<'_>,
-    bindings: &Bindings,
+    run: &mut ExpansionState<'_>,
+    scope: &Scope<'_>,
     text: &[u8],
 ) -> Result<Option<Bytes>, Stop>
-    ensures { Runs run.old run.new (run_value (place_of at.entry) (bindings_of bindings.now) text.now) (end_of (λ v. v) result) }
+    ensures { Runs run.old run.new (run_value (place_of scope.now.at) (bindings_of scope.now.bindings.now) text.now) (end_of (λ v. v) result) }
 {
     if has_dollar(text) {
-        return text_value(run, at, bindings, text);
+        return text_value(run, scope.at, scope.bindings, text);
     }
     Ok(Some(Bytes::copied(run.alloc(), text)?))
 }
@@ -44,10 +43,7 @@ fn is_reference_front(text: &[u8]) -> bool
     requires not_empty { 0 < length text.now }
     ensures value { result ≡ is_reference (first_item_of false text.now) }
 {
-    if begins_reference_at(text, 0) {
-        return inside_length(&text[2..]).is_some();
-    }
-    false
+    begins_reference_at(text, 0) && inside_length(&text[2..]).is_some()
 }
 
 /// Whether a text begins with a `$` that begins no reference.
@@ -55,70 +51,66 @@ fn is_plain_dollar_front(text: &[u8]) -> bool
     requires not_empty { 0 < length text.now }
     ensures value { result ≡ is_plain_dollar (first_item_of false text.now) }
 {
-    if begins_reference_at(text, 0) {
-        return false;
-    }
-    text[0] == b'$'
+    !begins_reference_at(text, 0) && text[0] == b'$'
 }
 
-/// Whether a run has a reference.
-fn has_reference(text: &[u8]) -> bool
-    ensures { result ≡ list_any is_reference (items false 0 text.now) }
-{
-    let mut rest = text;
-    'items: while !rest.is_empty() {
-        if is_reference_front(rest) {
-            return true;
-        }
-        rest = &rest[item_length(rest, false)..];
-    }
-    false
+/// What a run has: a `$` that begins no reference, else a reference, or only word bytes.
+#[derive(Clone, Copy)]
+enum RunContent {
+    PlainDollar,
+    Reference,
+    Word,
 }
 
-/// Whether a run has a `$` that begins no reference.
-fn has_plain_dollar(text: &[u8]) -> bool
-    ensures { result ≡ list_any is_plain_dollar (items false 0 text.now) }
+/// What a run has.
+fn run_content(text: &[u8]) -> RunContent
+    ensures { IsRunContent (items false 0 text.now) result }
 {
+    let mut has_reference = false;
     let mut rest = text;
     'items: while !rest.is_empty() {
         if is_plain_dollar_front(rest) {
-            return true;
+            return RunContent::PlainDollar;
         }
+        has_reference = has_reference || is_reference_front(rest);
         rest = &rest[item_length(rest, false)..];
     }
-    false
+    if has_reference {
+        RunContent::Reference
+    } else {
+        RunContent::Word
+    }
 }
 
 /// A run, a token of word bytes and references, as the expansion writes it: its value as one token. A run with a `$` that begins
 /// no reference is kept, so that the reader of the written line refuses it.
-pub(crate) fn written_run(
-    run: &mut Run<'_>,
-    at: Place<'_>,
-    bindings: &Bindings,
+pub(crate) fn written_word(
+    run: &mut ExpansionState<'_>,
+    scope: &Scope<'_>,
     text: &[u8],
 ) -> Result<WrittenToken, Stop>
-    ensures { Runs run.old run.new (written_run (place_of at.entry) (bindings_of bindings.now) text.now) (end_of token_of result) }
+    ensures { Runs run.old run.new (written_run (place_of scope.now.at) (bindings_of scope.now.bindings.now) text.now) (end_of token_of result) }
 {
-    if has_plain_dollar(text) {
-        return Ok(new_token(run.alloc(), TokenSort::Other, text, b"")?);
+    match run_content(text) {
+        RunContent::PlainDollar => Ok(new_token(run.alloc(), TokenSort::Other, text, b"")?),
+        RunContent::Reference => {
+            let value = text_value(run, scope.at, scope.bindings, text)?;
+            Ok(token_of_value(run.alloc(), &value)?)
+        }
+        RunContent::Word => Ok(new_token(run.alloc(), TokenSort::Word, text, text)?),
     }
-    if has_reference(text) {
-        let value = text_value(run, at, bindings, text)?;
-        return Ok(token_of_value(run.alloc(), &value)?);
-    }
-    Ok(new_token(run.alloc(), TokenSort::Word, text, text)?)
 }
 
 /// The bytes that are written between two quotes so far, and the text that they mean, if it is known.
 #[derive(Drop)]
-pub(crate) struct Body {
+pub(crate) struct QuotedText {
     pub(crate) bytes: Vec<u8>,
     pub(crate) meaning: Vec<u8>,
     pub(crate) known: bool,
 }
 
 /// Appends a byte to those written between two quotes; a `$` gets a backslash.
-pub(crate) fn push_byte(out: &mut Body, byte: u8) -> Result<(), AllocError>
+pub(crate) fn push_byte(out: &mut QuotedText, byte: u8) -> Result<(), AllocError>
     ensures { OnOk result (body_of_code out.new ≡ joined_bodies (body_of_code out.old) (body_of (if byte == 36 then 92 ∷ byte ∷ [] else byte ∷ []) (byte ∷ []))) }
 {
     if byte == b'$' {
@@ -130,7 +122,7 @@ pub(crate) fn push_byte(out: &mut Body, byte: u8) -> Result<(), AllocError>
 }
 
 /// Appends a backslash and another byte to those written between two quotes.
-pub(crate) fn push_pair(out: &mut Body, byte: u8) -> Result<(), AllocError>
+pub(crate) fn push_pair(out: &mut QuotedText, byte: u8) -> Result<(), AllocError>
     ensures { OnOk result (body_of_code out.new ≡ joined_bodies (body_of_code out.old) (body_of (92 ∷ byte ∷ []) (byte ∷ []))) }
 {
     out.bytes.push(b'\\')?;
@@ -141,7 +133,7 @@ pub(crate) fn push_pair(out: &mut Body, byte: u8) -> Result<(), AllocError>
 
 /// Appends the value of a reference to the bytes written between two quotes, with backslashes where they are needed.
 pub(crate) fn push_reference(
-    out: &mut Body,
+    out: &mut QuotedText,
     quote: u8,
     value: &Option<Bytes>,
 ) -> Result<(), AllocError>

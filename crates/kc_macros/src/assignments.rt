@@ -10,8 +10,8 @@ ghost use Rattle.kc_macros.specs.Runs.{place_of, Runs, end_of};
 use super::bindings::Bindings;
 use super::bytes::Bytes;
 use super::events::{fault, spend};
+use super::expansion_state::ExpansionState;
 use super::partial_value::value_length;
-use super::run::Run;
 use super::stop::{Place, Stop};
 use super::text_values::text_value;
 use super::variable::Variable;
@@ -28,7 +28,7 @@ pub struct Assignment {
 }
 
 /// Does the work of storing `length` bytes for a variable, unless that is too many.
-fn store(run: &mut Run<'_>, at: Place<'_>, length: usize) -> Result<(), Stop>
+fn store(run: &mut ExpansionState<'_>, at: Place<'_>, length: usize) -> Result<(), Stop>
     ensures { Runs run.old run.new (stored_bytes (place_of at.entry) length) (end_of (λ u. u) result) }
 {
     if length > MAX_TEXT_BYTES {
@@ -38,7 +38,11 @@ fn store(run: &mut Run<'_>, at: Place<'_>, length: usize) -> Result<(), Stop>
 }
 
 /// Stores a value as a simple variable.
-fn stored_simple(run: &mut Run<'_>, at: Place<'_>, value: Option<Bytes>) -> Result<Variable, Stop>
+fn stored_simple(
+    run: &mut ExpansionState<'_>,
+    at: Place<'_>,
+    value: Option<Bytes>,
+) -> Result<Variable, Stop>
     ensures { Runs run.old run.new (stored_simple (place_of at.entry) value) (end_of variable_of result) }
 {
     store(run, at, value_length(&value))?;
@@ -46,7 +50,11 @@ fn stored_simple(run: &mut Run<'_>, at: Place<'_>, value: Option<Bytes>) -> Resu
 }
 
 /// Stores a text as a recursive variable.
-fn stored_recursive(run: &mut Run<'_>, at: Place<'_>, text: Bytes) -> Result<Variable, Stop>
+fn stored_recursive(
+    run: &mut ExpansionState<'_>,
+    at: Place<'_>,
+    text: Bytes,
+) -> Result<Variable, Stop>
     ensures { Runs run.old run.new (stored_recursive (place_of at.entry) text) (end_of variable_of result) }
 {
     store(run, at, text.as_slice().len())?;
@@ -79,7 +87,7 @@ fn spaced_value(
 
 /// The variable that `+=` makes of an earlier one, whose flavour it keeps.
 fn appended(
-    run: &mut Run<'_>,
+    run: &mut ExpansionState<'_>,
     at: Place<'_>,
     bindings: &Bindings,
     text: &[u8],
@@ -102,7 +110,7 @@ fn appended(
 
 /// The variable that an assignment makes for a name, which may have an earlier one.
 fn variable_assigned(
-    run: &mut Run<'_>,
+    run: &mut ExpansionState<'_>,
     at: Place<'_>,
     bindings: &Bindings,
     name: &[u8],
@@ -131,7 +139,7 @@ fn variable_assigned(
 /// The first fault of the expansion, `LineTooLong` where more than 65,536 bytes would be stored, `TooMany` where too
 /// little work is left, or memory ran out. The variables are then as they were.
 pub fn assign(
-    run: &mut Run<'_>,
+    run: &mut ExpansionState<'_>,
     at: Place<'_>,
     bindings: &mut Bindings,
     assignment: Assignment,

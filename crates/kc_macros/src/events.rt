@@ -3,13 +3,13 @@ ghost use Rattle.std.specs.Prelude.{◌≡◌, Some, None, IfOk, option_map};
 ghost use Rattle.kc_tree_model.specs.Keywords.{keyword_in_table};
 ghost use Rattle.kc_macros_model.specs.Variables.{value_of_answer};
 ghost use Rattle.kc_macros_model.specs.Expansion.{asked_value, reported};
-ghost use Rattle.kc_macros.specs.Runs.{place_of, fault_of, notice_of, Runs, end_of};
+ghost use Rattle.kc_macros.specs.Runs.{place_of, fault_of, Runs, end_of};
 ghost use Rattle.kc_macros.specs.between.Stops.{FailsWith};
 ghost use Rattle.kc_macros.specs.checker.Events.{spent};
 
 use super::bytes::Bytes;
-use super::run::Run;
-use super::stop::{MacroFault, MacroNotice, Place, Stop};
+use super::expansion_state::ExpansionState;
+use super::stop::{MacroFault, MacroNotice, Place, Stop, ValueResult};
 use kc_macros_model::{MacroKind, MacroNoticeKind};
 use std::alloc::{AllocError, Global};
 
@@ -40,25 +40,8 @@ pub fn fault(alloc: Global, at: Place<'_>, kind: MacroKind, text: &[u8]) -> Stop
     }
 }
 
-/// A notice with its own copies of the path and the text.
-fn new_notice(
-    alloc: Global,
-    at: Place<'_>,
-    kind: MacroNoticeKind,
-    text: &[u8],
-) -> Result<MacroNotice, AllocError>
-    ensures { IfOk result (λ n. notice_of n ≡ record { at = place_of at.entry; kind = kind; text = text.now }) }
-{
-    Ok(MacroNotice {
-        file: Bytes::copied(alloc, at.file)?,
-        line: at.line,
-        kind,
-        text: Bytes::copied(alloc, text)?,
-    })
-}
-
 /// Takes this much work from what the run has left, or fails with `TooMany` if less is left.
-pub(crate) fn spend(run: &mut Run<'_>, at: Place<'_>, work: usize) -> Result<(), Stop>
+pub(crate) fn spend(run: &mut ExpansionState<'_>, at: Place<'_>, work: usize) -> Result<(), Stop>
     ensures { Runs run.old run.new (spent (place_of at.entry) work) (end_of (λ u. u) result) }
 {
     if run.left() < work {
@@ -70,14 +53,19 @@ pub(crate) fn spend(run: &mut Run<'_>, at: Place<'_>, work: usize) -> Result<(),
 
 /// Adds a notice to those of the run, and returns an empty value for the reference that reports it.
 pub(crate) fn report(
-    run: &mut Run<'_>,
+    run: &mut ExpansionState<'_>,
     at: Place<'_>,
     kind: MacroNoticeKind,
     text: &[u8],
-) -> Result<Option<Bytes>, Stop>
+) -> ValueResult
     ensures { Runs run.old run.new (reported (place_of at.entry) kind text.now) (end_of (λ v. v) result) }
 {
-    let notice = new_notice(run.alloc(), at, kind, text)?;
+    let notice = MacroNotice {
+        file: Bytes::copied(run.alloc(), at.file)?,
+        line: at.line,
+        kind,
+        text: Bytes::copied(run.alloc(), text)?,
+    };
     run.push_notice(notice)?;
     Ok(Some(Bytes::from_vec(Vec::new(run.alloc()))))
 }
@@ -93,11 +81,7 @@ fn answered_value(alloc: Global, answer: Option<&[u8]>) -> Result<Bytes, AllocEr
 }
 
 /// The value of a question without an answer: unknown, or a fault where each question must have one.
-fn unanswered_value(
-    run: &mut Run<'_>,
-    at: Place<'_>,
-    question: &[u8],
-) -> Result<Option<Bytes>, Stop>
+fn unanswered_value(run: &mut ExpansionState<'_>, at: Place<'_>, question: &[u8]) -> ValueResult
     requires unanswered { keyword_in_table run.old.answers question.now ≡ None }
     ensures run { Runs run.old run.new (asked_value (place_of at.entry) question.now) (end_of (λ v. v) result) }
 {
@@ -110,7 +94,7 @@ fn unanswered_value(
 
 /// The text of the answer to a question, empty for a name that isn't set. Without an answer it is `None`, or a fault where each
 /// question must have an answer.
-pub(crate) fn ask(run: &mut Run<'_>, at: Place<'_>, question: &[u8]) -> Result<Option<Bytes>, Stop>
+pub(crate) fn ask(run: &mut ExpansionState<'_>, at: Place<'_>, question: &[u8]) -> ValueResult
     ensures { Runs run.old run.new (asked_value (place_of at.entry) question.now) (end_of (λ v. v) result) }
 {
     match run.answer(question) {

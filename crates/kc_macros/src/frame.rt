@@ -38,16 +38,17 @@ pub(crate) fn is_recursion(names: &[&[u8]], name: &[u8], args: &[Option<Bytes>])
     false
 }
 
-/// The names of the variables whose values are being expanded, with one more at their front.
-pub(crate) fn with_name<'a>(
+/// The names or paths that are open within each other, the innermost first, with one more that is opened within them. An `Err`
+/// means out of memory.
+pub fn with_innermost<'a>(
     alloc: Global,
-    name: &'a [u8],
-    names: &[&'a [u8]],
+    inner: &'a [u8],
+    outer: &[&'a [u8]],
 ) -> Result<Vec<&'a [u8]>, AllocError>
-    ensures { IfOk result (λ ns. texts_of_slices ns.items ≡ name.now ∷ texts_of_slices names.now) }
+    ensures { IfOk result (λ all. texts_of_slices all.items ≡ inner.now ∷ texts_of_slices outer.now) }
 {
     let mut all = Vec::new(alloc);
-    all.push(name)?;
-    all.extend_from_slice(names)?;
+    all.push(inner)?;
+    all.extend_from_slice(outer)?;
     Ok(all)
 }

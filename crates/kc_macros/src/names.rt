@@ -4,14 +4,14 @@ ghost use Rattle.kc_tree_model.specs.Keywords.{keyword_in_table};
 ghost use Rattle.kc_macros_model.specs.Variables.{command_question, built_ins};
 ghost use Rattle.kc_macros_model.specs.Expansion.{fault as fault_program, reported, shell_value, built_in_value, other_value, unbound_value};
 ghost use Rattle.kc_macros.specs.Runs.{place_of, Runs, end_of};
-ghost use Rattle.kc_macros.specs.checker.BuiltIns.{arity_of, message_text, message_value};
+ghost use Rattle.kc_macros.specs.checker.BuiltIns.{message_text, message_value};
 
 use super::built_in_functions::{arity, built_in, is_text};
 use super::bytes::Bytes;
 use super::events::{ask, fault, report};
+use super::expansion_state::ExpansionState;
 use super::parameter::is_number;
-use super::run::Run;
-use super::stop::{Place, Stop};
+use super::stop::{Place, ValueResult};
 use itoa::Buffer;
 use kc_answers::{is_environment_name, without_white_end};
 use kc_macros_model::{BuiltIn, MacroKind, MacroNoticeKind};
@@ -36,11 +36,7 @@ fn command_question(alloc: Global, command: &[u8]) -> Result<Vec<u8>, AllocError
 }
 
 /// The value of `shell`: the answer to its command, if both are known.
-fn shell_value(
-    run: &mut Run<'_>,
-    at: Place<'_>,
-    command: &Option<Bytes>,
-) -> Result<Option<Bytes>, Stop>
+fn shell_value(run: &mut ExpansionState<'_>, at: Place<'_>, command: &Option<Bytes>) -> ValueResult
     ensures { Runs run.old run.new (shell_value (place_of at.entry) command.now) (end_of (λ v. v) result) }
 {
     match command {
@@ -74,11 +70,11 @@ fn known_text(text: &Option<Bytes>) -> Option<&[u8]>
 
 /// The value of `info` or `warning-if`, which is empty: reports a notice with this text, if there is one.
 fn notice_value(
-    run: &mut Run<'_>,
+    run: &mut ExpansionState<'_>,
     at: Place<'_>,
     kind: MacroNoticeKind,
     text: Option<&[u8]>,
-) -> Result<Option<Bytes>, Stop>
+) -> ValueResult
     ensures { Runs run.old run.new (message_value (reported (place_of at.entry) kind) (option_map (λ t. t.now) text.entry)) (end_of (λ v. v) result) }
 {
     match text {
@@ -88,7 +84,7 @@ fn notice_value(
 }
 
 /// The value of `error-if`: a fault with this text, if there is one, and else empty.
-fn error_value(run: &mut Run<'_>, at: Place<'_>, text: Option<&[u8]>) -> Result<Option<Bytes>, Stop>
+fn error_value(run: &mut ExpansionState<'_>, at: Place<'_>, text: Option<&[u8]>) -> ValueResult
     ensures { Runs run.old run.new (message_value (fault_program (place_of at.entry) MacroKind.Error) (option_map (λ t. t.now) text.entry)) (end_of (λ v. v) result) }
 {
     match text {
@@ -97,17 +93,19 @@ fn error_value(run: &mut Run<'_>, at: Place<'_>, text: Option<&[u8]>) -> Result<
     }
 }
 
-/// The value of a built-in function that is called with as many arguments as it takes.
-fn called_value(
-    run: &mut Run<'_>,
+/// The value of a built-in function; another count of arguments than it takes is a fault.
+fn built_in_value(
+    run: &mut ExpansionState<'_>,
     at: Place<'_>,
     name: &[u8],
     function: BuiltIn,
     args: &[Option<Bytes>],
-) -> Result<Option<Bytes>, Stop>
-    requires arity { length args.now ≡ arity_of function }
-    ensures run { Runs run.old run.new (built_in_value (place_of at.entry) name.now function args.now) (end_of (λ v. v) result) }
+) -> ValueResult
+    ensures { Runs run.old run.new (built_in_value (place_of at.entry) name.now function args.now) (end_of (λ v. v) result) }
 {
+    if args.len() != arity(function) {
+        return Err(fault(run.alloc(), at, MacroKind::Arguments, name));
+    }
     match function {
         BuiltIn::Filename => Ok(Some(Bytes::copied(run.alloc(), at.file)?)),
         BuiltIn::Lineno => Ok(Some(decimal_text(run.alloc(), at.line)?)),
@@ -125,29 +123,13 @@ fn called_value(
     }
 }
 
-/// The value of a built-in function; another count of arguments is a fault.
-fn built_in_value(
-    run: &mut Run<'_>,
-    at: Place<'_>,
-    name: &[u8],
-    function: BuiltIn,
-    args: &[Option<Bytes>],
-) -> Result<Option<Bytes>, Stop>
-    ensures { Runs run.old run.new (built_in_value (place_of at.entry) name.now function args.now) (end_of (λ v. v) result) }
-{
-    if args.len() != arity(function) {
-        return Err(fault(run.alloc(), at, MacroKind::Arguments, name));
-    }
-    called_value(run, at, name, function, args)
-}
-
 /// The value of a name that is neither a variable nor built in.
 fn other_value(
-    run: &mut Run<'_>,
+    run: &mut ExpansionState<'_>,
     at: Place<'_>,
     name: &[u8],
     args: &[Option<Bytes>],
-) -> Result<Option<Bytes>, Stop>
+) -> ValueResult
     ensures { Runs run.old run.new (other_value (place_of at.entry) name.now args.now) (end_of (λ v. v) result) }
 {
     if !args.is_empty() {
@@ -165,11 +147,11 @@ fn other_value(
 /// The value of a reference to a name that is no variable, with these arguments: that of a built-in function, of a parameter that
 /// wasn't given, or of a name of the environment.
 pub(crate) fn unbound_value(
-    run: &mut Run<'_>,
+    run: &mut ExpansionState<'_>,
     at: Place<'_>,
     name: &[u8],
     args: &[Option<Bytes>],
-) -> Result<Option<Bytes>, Stop>
+) -> ValueResult
     ensures { Runs run.old run.new (unbound_value (place_of at.entry) name.now args.now (keyword_in_table built_ins name.now)) (end_of (λ v. v) result) }
 {
     match built_in(name) {

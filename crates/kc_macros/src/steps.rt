@@ -13,11 +13,11 @@ ghost use Rattle.kc_macros.specs.checker.Frames.{frame_place, frame_item, frame_
 
 use super::bytes::Bytes;
 use super::events::{fault, spend};
-use super::frame::{Frame, is_recursion, with_name};
+use super::expansion_state::ExpansionState;
+use super::frame::{Frame, is_recursion, with_innermost};
 use super::partial_value::{PartialValue, push_text, value_length};
 use super::references::{pieces, plain_length, reference_at_front};
-use super::run::Run;
-use super::stop::{Place, Stop};
+use super::stop::{Place, Stop, ValueResult};
 use kc_macros_model::MacroKind;
 use kc_value::MAX_PIECES;
 use std::alloc::Global;
@@ -25,7 +25,7 @@ use std::alloc::Global;
 /// The frame in which the items of a text in a frame are expanded, after the work for the text; a fault where too many expansions
 /// are open within each other.
 pub(crate) fn inner_frame<'a>(
-    run: &mut Run<'_>,
+    run: &mut ExpansionState<'_>,
     frame: &Frame<'a>,
     text: &[u8],
 ) -> Result<Frame<'a>, Stop>
@@ -47,10 +47,10 @@ pub(crate) fn inner_frame<'a>(
 
 /// The value of a text, after the work for the value.
 pub(crate) fn paid_value(
-    run: &mut Run<'_>,
+    run: &mut ExpansionState<'_>,
     at: Place<'_>,
     value: Option<Bytes>,
-) -> Result<Option<Bytes>, Stop>
+) -> ValueResult
     ensures { Runs run.old run.new (paid (place_of at.entry) value) (end_of (λ v. v) result) }
 {
     spend(run, at, value_length(&value))?;
@@ -70,7 +70,7 @@ pub(crate) fn names_within<'a>(
     if is_recursion(names, name, args) {
         return Err(fault(alloc, at, MacroKind::Recursion, name));
     }
-    Ok(with_name(alloc, name, names)?)
+    Ok(with_innermost(alloc, name, names)?)
 }
 
 /// The pieces of a reference that is no argument of the call, by the bytes between its parentheses; a fault for more than 16.

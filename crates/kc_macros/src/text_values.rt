@@ -1,7 +1,6 @@
 //! The value of a text: each reference in it replaced by its value, from left to right.
-ghost use Rattle.std.specs.Prelude.{◌≤◌, ◌∷◌, List, Some, length, OnOk};
+ghost use Rattle.std.specs.Prelude.{◌≤◌, ◌∷◌, List, length, OnOk};
 ghost use Rattle.kc_macros_model.specs.References.{Item, reference};
-ghost use Rattle.kc_macros_model.specs.Variables.{recursive};
 ghost use Rattle.kc_macros_model.specs.Expansion.{piece_values, call_value, named_value, text_value};
 ghost use Rattle.kc_value.specs.declared.limits.TheConstants.{MAX_TEXT_BYTES};
 ghost use Rattle.kc_macros.specs.between.Variables.{bindings_of};
@@ -14,20 +13,20 @@ ghost use Rattle.kc_macros.specs.checker.Frames.{frame_place, frame_bindings, fr
 use super::bindings::Bindings;
 use super::bytes::Bytes;
 use super::events::fault;
+use super::expansion_state::ExpansionState;
 use super::frame::Frame;
 use super::names::unbound_value;
 use super::parameter::argument_of;
 use super::partial_value::{PartialValue, copied_value, empty_value, push_value, value_if_known};
-use super::run::Run;
 use super::steps::{inner_frame, names_within, next_reference, paid_value, reference_pieces};
-use super::stop::{Place, Stop};
+use super::stop::{Place, Stop, ValueResult};
 use super::variable::Variable;
 use kc_macros_model::MacroKind;
 use kc_value::MAX_OPEN_EXPANSIONS;
 
 /// The value of a text in a frame; a fault where too many expansions are open within each other.
 #[cycle(expansion)]
-fn expanded(run: &mut Run<'_>, frame: &Frame<'_>, text: &[u8]) -> Result<Option<Bytes>, Stop>
+fn expanded(run: &mut ExpansionState<'_>, frame: &Frame<'_>, text: &[u8]) -> ValueResult
     ensures { Runs run.old run.new (frame_value frame.now text.now) (end_of (λ v. v) result) }
 {
     let inner = inner_frame(run, frame, text)?;
@@ -37,7 +36,7 @@ fn expanded(run: &mut Run<'_>, frame: &Frame<'_>, text: &[u8]) -> Result<Option<
 
 /// The values of the items of a text, one after the other.
 #[cycle(expansion)]
-fn text_items(run: &mut Run<'_>, frame: &Frame<'_>, text: &[u8]) -> Result<Option<Bytes>, Stop>
+fn text_items(run: &mut ExpansionState<'_>, frame: &Frame<'_>, text: &[u8]) -> ValueResult
     ensures { Runs run.old run.new (frame_items frame.now text.now) (end_of (λ v. v) result) }
 {
     let mut out = empty_value(run.alloc());
@@ -52,7 +51,7 @@ fn text_items(run: &mut Run<'_>, frame: &Frame<'_>, text: &[u8]) -> Result<Optio
 /// Appends the value of a reference, by the bytes between its parentheses, to `out`.
 #[cycle(expansion)]
 fn push_reference(
-    run: &mut Run<'_>,
+    run: &mut ExpansionState<'_>,
     frame: &Frame<'_>,
     inside: &[u8],
     out: &mut PartialValue,
@@ -67,11 +66,7 @@ fn push_reference(
 
 /// The value of a reference, by the bytes between its parentheses.
 #[cycle(expansion)]
-fn reference_value(
-    run: &mut Run<'_>,
-    frame: &Frame<'_>,
-    inside: &[u8],
-) -> Result<Option<Bytes>, Stop>
+fn reference_value(run: &mut ExpansionState<'_>, frame: &Frame<'_>, inside: &[u8]) -> ValueResult
     ensures { Runs run.old run.new (frame_item frame.now (reference inside.now)) (end_of (λ v. v) result) }
 {
     if let Some(value) = argument_of(frame.args, inside) {
@@ -85,7 +80,7 @@ fn reference_value(
 /// The values of the pieces of a reference, in order.
 #[cycle(expansion)]
 fn piece_values(
-    run: &mut Run<'_>,
+    run: &mut ExpansionState<'_>,
     frame: &Frame<'_>,
     pieces: &[&[u8]],
 ) -> Result<Vec<Option<Bytes>>, Stop>
@@ -102,10 +97,10 @@ fn piece_values(
 /// The value of a reference, by the values of its pieces: a name and its arguments.
 #[cycle(expansion)]
 fn call_value(
-    run: &mut Run<'_>,
+    run: &mut ExpansionState<'_>,
     frame: &Frame<'_>,
     values: &[Option<Bytes>],
-) -> Result<Option<Bytes>, Stop>
+) -> ValueResult
     ensures { Runs run.old run.new (call_value (frame_expander frame.now) (frame_place frame.now) (frame_bindings frame.now) (frame_names frame.now) values.now) (end_of (λ v. v) result) }
 {
     if values.is_empty() {
@@ -120,42 +115,28 @@ fn call_value(
 /// The value of a name with these arguments: of a variable, or of a name that isn't one.
 #[cycle(expansion)]
 fn named_value(
-    run: &mut Run<'_>,
+    run: &mut ExpansionState<'_>,
     frame: &Frame<'_>,
     name: &[u8],
     args: &[Option<Bytes>],
-) -> Result<Option<Bytes>, Stop>
+) -> ValueResult
     ensures { Runs run.old run.new (named_value (frame_expander frame.now) (frame_place frame.now) (frame_names frame.now) name.now args.now (frame_bindings frame.now name.now)) (end_of (λ v. v) result) }
 {
     match frame.bindings.get(name) {
         None => unbound_value(run, frame.at, name, args),
         Some(Variable::Simple(value)) => copied_value(run.alloc(), value),
         Some(Variable::Recursive(text)) => {
-            recursive_value(run, frame, name, args, text.as_slice())
+            let names = names_within(run.alloc(), frame.at, frame.names, name, args)?;
+            let inner = Frame {
+                at: frame.at,
+                bindings: frame.bindings,
+                names: names.as_slice(),
+                args,
+                more: frame.more,
+            };
+            expanded(run, &inner, text.as_slice())
         }
     }
-}
-
-/// The value of a recursive variable with this text, called with these arguments.
-#[cycle(expansion)]
-fn recursive_value(
-    run: &mut Run<'_>,
-    frame: &Frame<'_>,
-    name: &[u8],
-    args: &[Option<Bytes>],
-    text: &[u8],
-) -> Result<Option<Bytes>, Stop>
-    ensures { Runs run.old run.new (named_value (frame_expander frame.now) (frame_place frame.now) (frame_names frame.now) name.now args.now (Some (recursive text.now))) (end_of (λ v. v) result) }
-{
-    let names = names_within(run.alloc(), frame.at, frame.names, name, args)?;
-    let inner = Frame {
-        at: frame.at,
-        bindings: frame.bindings,
-        names: names.as_slice(),
-        args,
-        more: frame.more,
-    };
-    expanded(run, &inner, text)
 }
 
 /// The value of a text of a line: each reference in it is replaced by its value, from left to right; unknown where it
@@ -165,11 +146,11 @@ fn recursive_value(
 ///
 /// The first fault of the expansion, or memory ran out.
 pub fn text_value(
-    run: &mut Run<'_>,
+    run: &mut ExpansionState<'_>,
     at: Place<'_>,
     bindings: &Bindings,
     text: &[u8],
-) -> Result<Option<Bytes>, Stop>
+) -> ValueResult
     ensures { Runs run.old run.new (text_value (place_of at.entry) (bindings_of bindings.now) text.now) (end_of (λ v. v) result) }
 {
     let frame = Frame {

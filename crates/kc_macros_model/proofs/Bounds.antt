@@ -1,17 +1,8 @@
 -- The bytes of values and variables.
-use Rattle.std.proofs.Common.{◌≡◌, ℕ, zero, suc, ◌+◌, ◌≤◌, Bool, true, false, List, [], ◌∷◌, ◌++◌, Some, None, refl, subst, arith, length-append}
-use Rattle.std.specs.Prelude.{nat_le}
-use Rattle.std.proofs.lemmas.Bool.{leb-true}
-use Rattle.kc_macros_model.specs.declared.fault.MacroKind.TheVariants.{LineTooLong}
-use Rattle.kc_value.specs.declared.limits.TheConstants.{MAX_TEXT_BYTES}
-use Rattle.kc_macros_model.specs.Programs.{Place, Program, returns, ◌>>=◌}
-use Rattle.kc_macros_model.specs.References.{Item, items}
-use Rattle.kc_macros_model.specs.Variables.{Value, value_length, joined_values, Variable, simple, recursive}
-use Rattle.kc_macros_model.specs.Expansion.{fault, spends, item_value, unless_too_long, item_values, expanded, text_value}
-use Rattle.kc_macros_model.specs.declared.operator.Operator.TheVariants.{SetsNow, Appends, Sets}
-use Rattle.kc_macros_model.specs.Assignments.{stored, stored_simple}
-use Rattle.kc_macros_model.specs.Worlds.{World, returned}
-use Rattle.kc_macros_model.specs.ExpansionRules.{ending_in}
+use Rattle.kc_macros_model.proofs.Common.{◌≡◌, ℕ, zero, suc, ◌+◌, ◌≤◌, Bool, true, false, List, [], ◌∷◌, ◌++◌, Some, None, refl, subst, arith, length-append, nat_le, leb-true, LineTooLong, MAX_TEXT_BYTES, Place, Program, returns, ◌>>=◌, Item, items, Value, value_length, joined_values, Variable}
+use Rattle.kc_macros_model.proofs.Common.{simple, recursive, fault, spends, item_value, unless_too_long, item_values, expanded, SetsNow, Appends, Sets, stored, World, returned, ending_in}
+use Rattle.kc_macros_model.specs.Expansion.{text_value}
+use Rattle.kc_macros_model.specs.Assignments.{stored_simple}
 use Rattle.kc_macros_model.specs.ExpansionLaws.{ValuesAreBounded, stored_length, VariablesAreBounded}
 use Rattle.kc_macros_model.proofs.ExpansionByRules.{split_return, same_return}
 

@@ -1,15 +1,8 @@
 -- The expansion of a text returns only values that the rules of expansion give.
-use Rattle.std.proofs.Common.{◌≡◌, ℕ, zero, suc, ◌+◌, ◌≤◌, Bool, true, false, List, [], ◌∷◌, ◌++◌, length, Option, Some, None, refl, sym, ◌∙◌, subst}
-use Rattle.std.specs.Prelude.{nat_le}
-use Rattle.std.proofs.lemmas.Bool.{leb-true}
-use Rattle.kc_macros_model.specs.declared.fault.MacroKind.TheVariants.{Arguments, Recursion, LineTooLong}
-use Rattle.kc_value.specs.declared.limits.TheConstants.{MAX_TEXT_BYTES, MAX_PIECES}
-use Rattle.kc_macros_model.specs.Programs.{Place, Program, returns, fails, stops, does, ◌>>=◌}
-use Rattle.kc_macros_model.specs.References.{pieces, Item, items}
-use Rattle.kc_macros_model.specs.Variables.{Value, value_length, joined_values, Variable, simple, recursive, Bindings, argument_of}
-use Rattle.kc_macros_model.specs.Expansion.{fault, spends, is_recursion, Expander, named_value, piece_values, call_value, reference_value, item_value, unless_too_long, item_values, expanded}
-use Rattle.kc_macros_model.specs.Worlds.{World, reply, Ending, returned, failed, stopped}
-use Rattle.kc_macros_model.specs.ExpansionRules.{ending_in, Expands, done, byte as byte_rule, reference as reference_rule, Refers, parameter, call, unknown_name, ExpandEach, no_pieces, piece, Means, simple_variable, recursive_variable, unbound}
+use Rattle.kc_macros_model.proofs.Common.{◌≡◌, ℕ, zero, suc, ◌+◌, ◌≤◌, Bool, true, false, List, [], ◌∷◌, ◌++◌, length, Option, Some, None, refl, sym, ◌∙◌, subst, nat_le, leb-true, Arguments, Recursion, LineTooLong, MAX_TEXT_BYTES, MAX_PIECES, Place, Program, returns, fails, stops, does, ◌>>=◌}
+use Rattle.kc_macros_model.proofs.Common.{pieces, Item, items, Value, value_length, joined_values, Variable, simple, recursive, Bindings, argument_of, fault, spends, is_recursion, Expander, named_value, piece_values, call_value, reference_value, item_value, unless_too_long, item_values, expanded}
+use Rattle.kc_macros_model.proofs.Common.{World, reply, Ending, returned, failed, stopped, ending_in, Expands, done, Refers, parameter, call, unknown_name, ExpandEach, no_pieces, piece, Means, simple_variable, recursive_variable, unbound}
+use Rattle.kc_macros_model.specs.ExpansionRules.{byte as byte_rule, reference as reference_rule}
 use Rattle.kc_macros_model.specs.ExpansionLaws.{ExpansionKeepsTheRules}
 use Rattle.kc_macros_model.proofs.TextItems.{IsRow, no_items, then_byte, then_reference, then_unterminated, is_row}
 

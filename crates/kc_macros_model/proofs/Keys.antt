@@ -1,18 +1,13 @@
 -- The keys that are tried for an expanded file: one of them is free.
-use Rattle.std.proofs.Common.{◌≡◌, ℕ, zero, suc, ◌+◌, ◌<◌, ◌≤◌, Bool, true, false, ◌&&◌, ◌||◌, List, [], ◌∷◌, ◌++◌, length, map, refl, sym, ap, ◌∙◌, subst, arith, length-append, inl, inr, ◌⊎◌}
-use Rattle.std.specs.Prelude.{not, bytes_eq, decimal}
-use Rattle.std.specs.List.{list_any, IsDistinct, AllByRecursion}
+use Rattle.kc_macros_model.proofs.Common.{◌≡◌, ℕ, zero, suc, ◌+◌, ◌<◌, ◌≤◌, Bool, true, false, ◌&&◌, ◌||◌, List, [], ◌∷◌, ◌++◌, length, map, refl, sym, ap, ◌∙◌, subst, arith, length-append, inl, inr, ◌⊎◌, not, bytes_eq, decimal, list_any, AllByRecursion, first_so, nat_list_eq_equiv}
+use Rattle.kc_macros_model.proofs.Common.{bytes_eq-Decides, MAX_FILES, ExpandedFile, is_taken, free_key, key_of, IsKeyOf, the_path}
+use Rattle.std.specs.List.{IsDistinct}
 use Rattle.std.specs.Set.{is_member}
-use Rattle.std.specs.Cmp.{first_so}
 use Rattle.std.proofs.lemmas.Bool.{cases_lt}
 use Rattle.std.proofs.lemmas.List.{append_cancel_left, length-map}
-use Rattle.std.proofs.lemmas.Cmp.{nat_list_eq_equiv}
 use Rattle.std.proofs.lemmas.Fmt.{decimal_injective}
 use Rattle.std.proofs.lemmas.Map.Made.{length-le_from_is_member}
-use Rattle.std.proofs.lemmas.Slice.Eq.{bytes_eq-Decides}
-use Rattle.kc_value.specs.declared.limits.TheConstants.{MAX_FILES}
-use Rattle.kc_macros_model.specs.ReadingStates.{ExpandedFile, is_taken, free_key, key_of}
-use Rattle.kc_macros_model.specs.ReadingLaws.{IsKeyOf, the_path, numbered}
+use Rattle.kc_macros_model.specs.ReadingLaws.{numbered}
 
 pub same_text : (x y : List ℕ) → bytes_eq x y ≡ true → x ≡ y
 same_text x y e = (bytes_eq-Decides x y).0 e

@@ -1,10 +1,6 @@
 -- Lines of a text by their numbers.
-use Rattle.std.proofs.Common.{◌≡◌, ℕ, zero, suc, ◌+◌, Bool, true, false, cond, List, [], ◌∷◌, ◌++◌, take, drop, refl, sym, ap, ◌∙◌, append_assoc, subst, arith}
-use Rattle.std.specs.Prelude.{◌==◌, bytes_eq}
-use Rattle.std.proofs.lemmas.List.{append-nil}
-use Rattle.std.proofs.lemmas.Slice.Eq.{bytes_eq-Decides}
-use Rattle.kc_tree_model.specs.LogicalLines.{PhysicalLine, with_first_byte, split_at_newlines}
-use Rattle.kc_macros_model.specs.TreeExpansion.{bytes_of_lines, newlines_of, lines_written}
+use Rattle.kc_macros_model.proofs.Common.{◌≡◌, ℕ, zero, suc, ◌+◌, Bool, true, false, cond, List, [], ◌∷◌, ◌++◌, take, drop, refl, sym, ap, ◌∙◌, append_assoc, subst, arith, ◌==◌, bytes_eq, append-nil, bytes_eq-Decides, PhysicalLine, with_first_byte, split_at_newlines, bytes_of_lines, newlines_of}
+use Rattle.kc_macros_model.proofs.Common.{lines_written}
 use Rattle.kc_macros_model.specs.LinePlaces.{line_after, AreAsRead, AreEmpty, Stands, as_read, replaced}
 use Rattle.kc_macros_model.proofs.CleanTexts.{IsClean, clean_none, clean_first, clean_rest}
 use Rattle.kc_macros_model.proofs.LineCounts.{AreCleanLines, no_lines, next_line}

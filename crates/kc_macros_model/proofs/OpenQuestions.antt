@@ -1,12 +1,6 @@
 -- Questions that a world doesn't answer.
-use Rattle.std.proofs.Common.{◌≡◌, ℕ, Bool, true, false, ◌||◌, cond, List, [], ◌∷◌, ◌++◌, Option, Some, None, refl, sym, ap, ◌∙◌}
-use Rattle.std.specs.Prelude.{bytes_eq, filter, is_none, reverse}
-use mathlib.Core.List.{reverse-cons}
+use Rattle.kc_macros_model.proofs.Common.{◌≡◌, ℕ, Bool, true, false, ◌||◌, cond, List, [], ◌∷◌, ◌++◌, Option, Some, None, refl, sym, ap, ◌∙◌, bytes_eq, filter, is_none, reverse, reverse-cons, bytes_eq-Decides, is_in_list, without_repeats, Answer, Event, ask, World, without_answer}
 use Rattle.std.proofs.lemmas.List.Elements.{filter-append}
-use Rattle.std.proofs.lemmas.Slice.Eq.{bytes_eq-Decides}
-use Rattle.kc_tree_model.specs.Limits.{is_in_list, without_repeats}
-use Rattle.kc_macros_model.specs.Programs.{Answer, Event, ask}
-use Rattle.kc_macros_model.specs.Worlds.{World, without_answer}
 
 -- the open questions that a question with this answer leaves: the question itself if it has no answer, else no question
 abbrev pub if_unanswered : List ℕ → Option Answer → List (List ℕ)

@@ -1,33 +1,17 @@
 -- Lines that have nothing to expand, assign or rewrite are written as they are.
-use Rattle.std.proofs.Common.{◌≡◌, ℕ, zero, suc, ◌+◌, Bool, true, false, ◌&&◌, ◌||◌, cond, List, [], ◌∷◌, ◌++◌, length, take, drop, map, Option, Some, None, refl, sym, ap, ◌∙◌}
-use Rattle.std.specs.Prelude.{not, nat_lt, bytes_eq, codes, is_none, ◌==◌}
-use Rattle.std.specs.List.{list_all, list_any}
+use Rattle.kc_macros_model.proofs.Common.{◌≡◌, ℕ, zero, suc, ◌+◌, Bool, true, false, ◌&&◌, ◌||◌, cond, List, [], ◌∷◌, ◌++◌, length, take, drop, map, Option, Some, None, refl, sym, ap, ◌∙◌, not, nat_lt, bytes_eq, codes, is_none, ◌==◌, list_all, list_any, first_so, second_so, take-append-drop}
+use Rattle.kc_macros_model.proofs.Common.{PhysicalLine, split_at_newlines, without_return, is_continued, joined_bytes, continuation_count, begins_help, LineTooLong, MAX_TEXT_BYTES, Place, Program, returns, stops, ◌>>=◌, fault, line_tokens, Word, WrittenToken, written_as, LineContent, tokens, is_gap}
+use Rattle.kc_macros_model.proofs.Common.{line_content, environment_asked, meant_line, SourceSort, LineForm, plain, named_choice, sources, is_word, is_path, form_by_word, form_of, without_gaps, with_nth_token, line_bytes, is_help_line, is_pattern, ReadingState, Progress, progress, WrittenLine}
+use Rattle.kc_macros_model.proofs.Common.{written_line, place, SourceReader, form_written, short_line, tokens_written, content_written, bytes_of_lines, lines_written, newlines_of, help_after, lines_read, is_kept_token, token_as_it_is, is_assignment, tokens_as_they_are, is_plain_form, plain_path}
+use Rattle.kc_macros_model.proofs.Common.{is_one_of, is_copied, is_plain_line, is_before_help, logical_texts, no_paths, nat_list_eq_equiv}
 use Rattle.std.specs.Str.{is_utf8}
-use Rattle.std.specs.Cmp.{first_so, second_so}
-use Rattle.std.proofs.lemmas.List.{take-append-drop}
-use Rattle.kc_tree_model.specs.LogicalLines.{PhysicalLine, split_at_newlines, without_return, is_continued, joined_bytes, continuation_count, begins_help}
-use Rattle.kc_macros_model.specs.declared.fault.MacroKind.TheVariants.{LineTooLong}
-use Rattle.kc_value.specs.declared.limits.TheConstants.{MAX_TEXT_BYTES}
-use Rattle.kc_macros_model.specs.Programs.{Place, Program, returns, stops, ◌>>=◌}
-use Rattle.kc_macros_model.specs.Expansion.{fault}
-use Rattle.kc_macros_model.specs.LineTokens.{line_tokens}
-use Rattle.kc_macros_model.specs.declared.token_sort.TokenSort.TheVariants.{Word}
-use Rattle.kc_macros_model.specs.WrittenTokens.{WrittenToken, written_as}
-use Rattle.kc_macros_model.specs.Assignments.{LineContent, tokens, is_gap, line_content}
-use Rattle.kc_macros_model.specs.EnvironmentLines.{environment_asked, meant_line}
-use Rattle.kc_macros_model.specs.LineForms.{SourceSort, LineForm, plain, bare_prompt, replaced_by, named_choice, sources, is_word, is_path, form_by_word, form_of, without_gaps, with_nth_token, line_bytes, is_help_line}
-use Rattle.kc_macros_model.specs.PathPatterns.{is_pattern}
-use Rattle.kc_macros_model.specs.ReadingStates.{ReadingState, Progress, progress, WrittenLine, written_line}
-use Rattle.kc_macros_model.specs.TreeExpansion.{place, SourceReader, form_written, short_line, tokens_written, content_written, bytes_of_lines, lines_written, newlines_of, help_after, lines_read}
-use Rattle.kc_macros_model.specs.PlainLines.{is_kept_token, token_as_it_is, is_assignment, tokens_as_they_are, is_plain_form, plain_path, is_one_of, is_copied, is_plain_line, is_before_help, logical_texts, no_paths, PlainLinesStay, PlainFilesStay}
+use Rattle.kc_macros_model.specs.PlainLines.{PlainLinesStay, PlainFilesStay}
 use Rattle.kc_macros_model.proofs.EnvironmentLines.{meant_same}
 use Rattle.kc_macros_model.proofs.CleanTexts.{neither_first}
 use Rattle.kc_macros_model.proofs.Keys.{same_text}
-use Rattle.kc_macros_model.proofs.KnownTrees.{gaps_gone_known, decided}
 use Rattle.kc_macros_model.proofs.LineCounts.{split_bytes, lines_both, drop_twice}
-use Rattle.kc_macros_model.proofs.PlainTokens.{not_so, bytes_as_they_are, known_as_they_are, tokens_stay}
+use Rattle.kc_macros_model.proofs.PlainTokens.{not_so, bytes_as_they_are, decided_as_they_are, tokens_stay}
 use Rattle.kc_macros_model.proofs.TokensOfLines.{tokens_are_line}
-use Rattle.std.proofs.lemmas.Cmp.{nat_list_eq_equiv}
 
 -- the written tokens of a line that has nothing to expand, gaps among them
 abbrev pub own_tokens : List ℕ → List WrittenToken
@@ -46,7 +30,7 @@ line_by_form sub at continued text s f free no_name form =
     ap (λ (p : Program LineContent). p >>= content_written sub at continued s) (tokens_stay at s.bindings (line_tokens 0 text) free no_name)
     ∙ either_way continued
     ∙ ap (λ b. elim b as (λ z. Program WrittenLine) [ true ↦ stops | false ↦ form_written sub at ts (form_of real) s >>= short_line at (is_help_line real) ])
-    (decided (gaps_gone_known (known_as_they_are (line_tokens 0 text))))
+    (decided_as_they_are (line_tokens 0 text))
     ∙ ap (λ g. form_written sub at ts g s >>= short_line at (is_help_line real)) form
   where
     ts : List WrittenToken
@@ -70,10 +54,7 @@ short_stays at help text new s e h =
 
 pub plain_form_is : (f : LineForm) → is_plain_form f ≡ true → f ≡ plain
 plain_form_is plain e = refl
-plain_form_is (bare_prompt text) e = let z : ⊥ = cc in absurd z
-plain_form_is (replaced_by text) e = let z : ⊥ = cc in absurd z
-plain_form_is (named_choice name) e = let z : ⊥ = cc in absurd z
-plain_form_is (sources sort path) e = let z : ⊥ = cc in absurd z
+plain_form_is x e = let z : ⊥ = cc in absurd z
 
 -- a plain line that sources nothing and isn't too long is written as it is
 pub plain_line_stays : (sub : SourceReader) (at : Place) (continued : Bool) (text : List ℕ) (s : ReadingState)

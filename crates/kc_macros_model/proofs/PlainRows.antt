@@ -1,9 +1,7 @@
 -- Examples of lines that have nothing to expand, assign or rewrite, and of sources that aren't among them, computed.
-use Rattle.std.proofs.Common.{◌≡◌, ℕ, Bool, true, false, List, [], ◌∷◌, map, refl}
-use Rattle.std.specs.Prelude.{codes, bytes_eq}
+use Rattle.kc_macros_model.proofs.Common.{◌≡◌, ℕ, Bool, true, false, List, [], ◌∷◌, map, refl, codes, bytes_eq, is_plain_line, no_paths}
 use Rattle.std.specs.Str.{is_utf8, chars}
 use Rattle.kc_tokens.specs.Token.{next_token}
-use Rattle.kc_macros_model.specs.PlainLines.{is_plain_line, no_paths}
 
 -- whether each line is plain
 abbrev plain_ones : (List ℕ → Bool) → List (List ℕ) → List Bool

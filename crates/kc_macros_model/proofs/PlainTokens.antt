@@ -1,25 +1,15 @@
 -- Tokens that have nothing to expand are written as they are.
-use Rattle.std.proofs.Common.{◌≡◌, ℕ, zero, suc, ◌≤◌, Bool, true, false, ◌&&◌, ◌||◌, cond, List, [], ◌∷◌, ◌++◌, length, take, drop, map, Option, Some, None, refl, sym, ap, ◌∙◌, subst, arith}
-use Rattle.std.specs.Prelude.{◌==◌, pred, not, nat_lt, is_some}
-use Rattle.std.specs.List.{list_all, list_any}
-use Rattle.std.specs.Cmp.{first_so, second_so}
-use Rattle.std.proofs.lemmas.Bool.{eqb-true}
-use Rattle.std.proofs.lemmas.List.{take-append-drop}
-use Rattle.kc_tokens.specs.Token.{is_white_byte}
-use Rattle.kc_macros_model.specs.Programs.{Place, Program, returns, stops, ◌>>=◌}
-use Rattle.kc_macros_model.specs.References.{Item, byte, escaped, item_bytes, inside_length, reference_of, items, is_reference, is_plain_dollar, is_unterminated}
-use Rattle.kc_macros_model.specs.Variables.{Bindings}
+use Rattle.kc_macros_model.proofs.Common.{◌≡◌, ℕ, zero, suc, ◌≤◌, Bool, true, false, ◌&&◌, ◌||◌, cond, List, [], ◌∷◌, ◌++◌, length, take, drop, map, Option, Some, None, refl, sym, ap, ◌∙◌, subst, arith, ◌==◌, pred, not, nat_lt, is_some, list_all, list_any, first_so, second_so, eqb-true}
+use Rattle.kc_macros_model.proofs.Common.{take-append-drop, is_white_byte, Place, Program, returns, stops, ◌>>=◌, Item, byte, escaped, item_bytes, inside_length, reference_of, items, is_reference, is_plain_dollar, is_unterminated, Bindings, LineToken, gap, run, quoted, other, broken, token_bytes}
+use Rattle.kc_macros_model.proofs.Common.{extent, is_run_byte, run_token, quoted_token, first_token, bytes_of_tokens, Word, Other, WrittenToken, written_as, token_of_text, token_of_value, WrittenQuotedText, body_of, joined_bodies, written_items, token_of_body, run_value, written_token, AssignedText}
+use Rattle.kc_macros_model.proofs.Common.{LineContent, tokens, with_token, is_gap, is_open_front, assignment_or, line_content, line_bytes, has_dollar, is_kept_token, token_as_it_is, is_assignment, is_in_list, is_unknown, source_words, help_words, is_word, without_gaps, is_undecided}
 use Rattle.kc_macros_model.specs.Expansion.{text_value}
-use Rattle.kc_macros_model.specs.LineTokens.{LineToken, gap, run, quoted, other, broken, token_bytes, extent, is_run_byte, run_token, quoted_token, first_token, bytes_of_tokens}
-use Rattle.kc_macros_model.specs.declared.token_sort.TokenSort.TheVariants.{Word, Other}
-use Rattle.kc_macros_model.specs.WrittenTokens.{WrittenToken, written_as, token_of_text, token_of_value, WrittenBody, body_of, joined_bodies, written_items, token_of_body, run_value, written_token}
-use Rattle.kc_macros_model.specs.Assignments.{AssignedText, assignment_to, LineContent, tokens, with_token, is_gap, is_open_front, assignment_or, line_content}
-use Rattle.kc_macros_model.specs.LineForms.{line_bytes}
-use Rattle.kc_macros_model.specs.PlainLines.{is_kept_item, has_dollar, LinesWithoutDollars, is_kept_token, text_of_items, token_as_it_is, is_assignment}
+use Rattle.kc_macros_model.specs.Assignments.{assignment_to}
+use Rattle.kc_macros_model.specs.PlainLines.{is_kept_item, LinesWithoutDollars, text_of_items}
 use Rattle.kc_macros_model.proofs.CleanTexts.{neither_first, neither_second}
 use Rattle.kc_macros_model.proofs.TokensOfLines.{IsInTokens, no_bytes, next_token, is_in_tokens}
-use Rattle.kc_macros_model.proofs.KnownTexts.{known}
-use Rattle.kc_macros_model.proofs.KnownLines.{IsKnownToken, AreKnownTokens, no_known_tokens, next_known_token}
+use Rattle.kc_macros_model.proofs.CleanTexts.{neither_second}
+use Rattle.kc_macros_model.proofs.FormMatches.{second_of_and}
 
 pub not_so : (b : Bool) → not b ≡ true → b ≡ false
 not_so true e = absurd (let z : ⊥ = cc in z)
@@ -181,31 +171,46 @@ bytes_as_they_are (quoted quote s ∷ ts) = ap (λ x. (quote ∷ (s ++ quote ∷
 bytes_as_they_are (other s ∷ ts) = ap (λ x. s ++ x) (bytes_as_they_are ts)
 bytes_as_they_are (broken s ∷ ts) = ap (λ x. s ++ x) (bytes_as_they_are ts)
 
-known_as_it_is : (t : LineToken) → IsKnownToken (token_as_it_is t)
-known_as_it_is (gap s) = record { sort = refl; meaning = known }
+known_as_it_is : (t : LineToken) → is_unknown (token_as_it_is t) ≡ false
+known_as_it_is (gap s) = refl
 known_as_it_is (run s) = by_test (list_any is_plain_dollar (items false 0 s))
   where
-    by_test : (b : Bool) → IsKnownToken (cond b (written_as Other s []) (written_as Word s s))
-    by_test true = record { sort = refl; meaning = known }
-    by_test false = record { sort = refl; meaning = known }
-known_as_it_is (quoted quote s) = record { sort = refl; meaning = known }
-known_as_it_is (other s) = record { sort = refl; meaning = known }
-known_as_it_is (broken s) = record { sort = refl; meaning = known }
+    by_test : (b : Bool) → is_unknown (cond b (written_as Other s []) (written_as Word s s)) ≡ false
+    by_test true = refl
+    by_test false = refl
+known_as_it_is x = refl
 
-pub known_as_they_are : (ts : List LineToken) → AreKnownTokens (map token_as_it_is ts)
-known_as_they_are [] = no_known_tokens
-known_as_they_are (t ∷ ts) = next_known_token (known_as_it_is t) (known_as_they_are ts)
+none_unknown : (ts : List LineToken) → list_any is_unknown (without_gaps (map token_as_it_is ts)) ≡ false
+none_unknown [] = refl
+none_unknown (t ∷ ts) = by_gap (is_gap (token_as_it_is t)) (none_unknown ts)
+  where
+    rest : List WrittenToken
+    rest = without_gaps (map token_as_it_is ts)
+
+    by_gap : (g : Bool) → list_any is_unknown rest ≡ false → list_any is_unknown (cond (not g) (token_as_it_is t ∷ rest) rest) ≡ false
+    by_gap true e = e
+    by_gap false e = ap (λ b. b || list_any is_unknown rest) (known_as_it_is t) ∙ e
+
+decided : (ts : List WrittenToken) → list_any is_unknown ts ≡ false → is_undecided ts ≡ false
+decided [] e = refl
+decided (t ∷ ts) e =
+    let begins = is_word t && (is_in_list t.bytes source_words || is_in_list t.bytes help_words) in
+    ap (λ b. begins && b) (neither_second (is_unknown t) (list_any is_unknown ts) e) ∙ second_of_and begins
+
+-- the form of a line that has nothing to expand is known
+pub decided_as_they_are : (ts : List LineToken) → is_undecided (without_gaps (map token_as_it_is ts)) ≡ false
+decided_as_they_are ts = decided (without_gaps (map token_as_it_is ts)) (none_unknown ts)
 
 module _ (at : Place) (b : Bindings) where
   body_stays : (quote : ℕ) {s : List ℕ} {is : List Item} → ArePlainItems s is → written_items at b quote is ≡ returns (body_of s (text_of_items is))
   body_stays quote plain_none = refl
   body_stays quote (plain_byte {c = c} {is = is} e r) =
-      ap (λ x. let p : Program WrittenBody = returns (body_of (cond x (92 ∷ c ∷ []) (c ∷ [])) (c ∷ [])) in
+      ap (λ x. let p : Program WrittenQuotedText = returns (body_of (cond x (92 ∷ c ∷ []) (c ∷ [])) (c ∷ [])) in
       p >>= λ first. written_items at b quote is >>= λ rest. returns (joined_bodies first rest)) e
-      ∙ ap (λ (p : Program WrittenBody). p >>= λ rest. returns (joined_bodies (body_of (c ∷ []) (c ∷ [])) rest)) (body_stays quote r)
+      ∙ ap (λ (p : Program WrittenQuotedText). p >>= λ rest. returns (joined_bodies (body_of (c ∷ []) (c ∷ [])) rest)) (body_stays quote r)
   body_stays quote (plain_escaped {c = c} {d = d} {s = s} {is = is} e r) =
-      ap (λ (p : Program WrittenBody). p >>= λ rest. returns (joined_bodies (body_of (92 ∷ d ∷ []) (d ∷ [])) rest)) (body_stays quote r)
-      ∙ ap (λ x. let p : Program WrittenBody = returns (body_of (x ∷ d ∷ s) (d ∷ text_of_items is)) in p) (sym e)
+      ap (λ (p : Program WrittenQuotedText). p >>= λ rest. returns (joined_bodies (body_of (92 ∷ d ∷ []) (d ∷ [])) rest)) (body_stays quote r)
+      ∙ ap (λ x. let p : Program WrittenQuotedText = returns (body_of (x ∷ d ∷ s) (d ∷ text_of_items is)) in p) (sym e)
 
   run_stays : (s : List ℕ) (x y : Bool) → (x || not y) ≡ true
       → (elim x as (λ z. Program WrittenToken) [
@@ -222,7 +227,7 @@ module _ (at : Place) (b : Bindings) where
   pub token_stays : (t : LineToken) → is_kept_token t ≡ true → written_token at b t ≡ returns (token_as_it_is t)
   token_stays (gap s) e = refl
   token_stays (run s) e = run_stays s (list_any is_plain_dollar (items false 0 s)) (list_any is_reference (items false 0 s)) e
-  token_stays (quoted quote s) e = ap (λ (p : Program WrittenBody). p >>= λ body. returns (token_of_body quote body)) (body_stays quote (kept_items s e))
+  token_stays (quoted quote s) e = ap (λ (p : Program WrittenQuotedText). p >>= λ body. returns (token_of_body quote body)) (body_stays quote (kept_items s e))
   token_stays (other s) e = refl
   token_stays (broken s) e = let z : ⊥ = cc in absurd z
 

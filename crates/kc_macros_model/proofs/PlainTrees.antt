@@ -1,30 +1,14 @@
 -- Trees of lines that have nothing to expand, assign or rewrite keep their bytes.
-use Rattle.std.proofs.Common.{◌≡◌, ℕ, zero, suc, ◌+◌, ◌<◌, ◌≤◌, Bool, true, false, ◌&&◌, ◌||◌, cond, List, [], ◌∷◌, ◌++◌, length, take, drop, map, Option, Some, None, refl, sym, ap, ◌∙◌, subst, arith}
-use Rattle.std.specs.Prelude.{not, nat_lt, nat_le, bytes_eq, codes, decimal, is_none, ◌==◌}
-use Rattle.std.specs.List.{All, list_all, list_any}
+use Rattle.kc_macros_model.proofs.Common.{◌≡◌, ℕ, zero, suc, ◌+◌, ◌<◌, ◌≤◌, Bool, true, false, ◌&&◌, ◌||◌, cond, List, [], ◌∷◌, ◌++◌, length, take, drop, map, Option, Some, None, refl, sym, ap, ◌∙◌, subst, arith, not, nat_lt, nat_le, bytes_eq, codes, decimal, is_none, ◌==◌, All, list_all, list_any}
+use Rattle.kc_macros_model.proofs.Common.{first_so, second_so, leb-false, nat_list_eq_equiv, All-cons, All-nil, is_in_list, PhysicalLine, split_at_newlines, without_return, is_continued, joined_bytes, continuation_count, begins_help, MacroKind, MissingFile, SourceLoop, TooDeep, TooMany}
+use Rattle.kc_macros_model.proofs.Common.{MAX_TEXT_BYTES, MAX_FILES, MAX_TREE_BYTES, MAX_OPEN_FILES, MAX_WORK, Place, Fault, Answer, read_file, Program, returns, fails, stops, does, ◌>>=◌, fault, line_tokens, Word, WrittenToken, written_as, line_content, environment_asked, meant_line, sources}
+use Rattle.kc_macros_model.proofs.Common.{form_of, with_nth_token, line_bytes, quoted_text_token, is_help_line, is_pattern, files_of_pattern, ExpandedFile, ReadingState, initial_state, Progress, progress, WrittenLine, written_line, counted, has_key, is_taken, free_key, key_of, stored_file, place}
+use Rattle.kc_macros_model.proofs.Common.{one_file, SourceReader, source_line, pattern_read, path_read, source_followed, short_line, content_written, line_written, bytes_of_lines, lines_written, help_after, lines_read, source_fault, contents_read, sourced_read, source_read, root_read, World}
+use Rattle.kc_macros_model.proofs.Common.{returned, failed, Outcome, after_event, outcome, is_kept_token, is_assignment, tokens_as_they_are, is_plain_form, plain_path, is_one_of, is_copied, is_plain_line, is_before_help, logical_texts}
 use Rattle.std.specs.Str.{is_utf8}
-use Rattle.std.specs.Cmp.{first_so, second_so}
-use Rattle.std.proofs.lemmas.Bool.{leb-false}
-use Rattle.std.proofs.lemmas.Cmp.{nat_list_eq_equiv}
-use Rattle.std.proofs.lemmas.List.Elements.{All-cons, All-nil}
-use Rattle.kc_tree_model.specs.Limits.{is_in_list}
-use Rattle.kc_tree_model.specs.LogicalLines.{PhysicalLine, split_at_newlines, without_return, is_continued, joined_bytes, continuation_count, begins_help}
-use Rattle.kc_macros_model.specs.declared.fault.MacroKind.{MacroKind}
-use Rattle.kc_macros_model.specs.declared.fault.MacroKind.TheVariants.{MissingFile, SourceLoop, TooDeep, TooMany}
-use Rattle.kc_value.specs.declared.limits.TheConstants.{MAX_TEXT_BYTES, MAX_FILES, MAX_TREE_BYTES, MAX_OPEN_FILES, MAX_WORK}
-use Rattle.kc_macros_model.specs.Programs.{Place, Fault, Answer, spend, report, ask, read_file, find_file, list_folder, Program, returns, fails, stops, does, ◌>>=◌}
-use Rattle.kc_macros_model.specs.Expansion.{fault}
-use Rattle.kc_macros_model.specs.LineTokens.{line_tokens}
-use Rattle.kc_macros_model.specs.declared.token_sort.TokenSort.TheVariants.{Word}
-use Rattle.kc_macros_model.specs.WrittenTokens.{WrittenToken, written_as}
-use Rattle.kc_macros_model.specs.Assignments.{line_content}
-use Rattle.kc_macros_model.specs.EnvironmentLines.{environment_asked, meant_line}
-use Rattle.kc_macros_model.specs.LineForms.{sources, form_of, with_nth_token, line_bytes, quoted_text_token, is_help_line}
-use Rattle.kc_macros_model.specs.PathPatterns.{is_pattern, files_of_pattern}
-use Rattle.kc_macros_model.specs.ReadingStates.{ExpandedFile, ReadingState, initial_state, Progress, progress, WrittenLine, written_line, counted, has_key, is_taken, free_key, key_of, stored_file}
-use Rattle.kc_macros_model.specs.TreeExpansion.{place, one_file, SourceReader, source_line, pattern_read, path_read, source_followed, short_line, content_written, line_written, bytes_of_lines, lines_written, help_after, lines_read, source_fault, contents_read, sourced_read, source_read, root_read, tree_read}
-use Rattle.kc_macros_model.specs.Worlds.{World, returned, failed, Outcome, after_event, outcome, expansion}
-use Rattle.kc_macros_model.specs.PlainLines.{is_kept_token, is_assignment, tokens_as_they_are, is_plain_form, plain_path, is_one_of, is_copied, is_plain_line, is_before_help, logical_texts, IsPlainTree, is_fault_of_sources, IsOwnFile, PlainTreesStay}
+use Rattle.kc_macros_model.specs.TreeExpansion.{tree_read}
+use Rattle.kc_macros_model.specs.Worlds.{expansion}
+use Rattle.kc_macros_model.specs.PlainLines.{IsPlainTree, is_fault_of_sources, IsOwnFile, PlainTreesStay}
 use Rattle.kc_macros_model.proofs.EnvironmentLines.{meant_same}
 use Rattle.kc_macros_model.proofs.CleanTexts.{neither_first}
 use Rattle.kc_macros_model.proofs.Keys.{same_text}
@@ -38,11 +22,7 @@ OnlyReads w P (returns x) = P x
 OnlyReads w P (fails f) = is_fault_of_sources f.kind ≡ true
 OnlyReads w P stops = ⊥
 OnlyReads w P (does (read_file path) k) = OnlyReads w P (k (w.bytes path))
-OnlyReads w P (does (spend at work) k) = ⊥
-OnlyReads w P (does (report notice) k) = ⊥
-OnlyReads w P (does (ask at question) k) = ⊥
-OnlyReads w P (does (find_file path) k) = ⊥
-OnlyReads w P (does (list_folder folder) k) = ⊥
+OnlyReads w P x = ⊥
 
 only_both : {A B : Type 0} (w : World) (Q : A → Type 0) (P : B → Type 0) (p : Program A) (f : A → Program B) → OnlyReads w Q p
     → ((x : A) → Q x → OnlyReads w P (f x)) → OnlyReads w P (p >>= f)
@@ -50,11 +30,7 @@ only_both w Q P (returns x) f h k = k x h
 only_both w Q P (fails g) f h k = h
 only_both w Q P stops f h k = absurd h
 only_both w Q P (does (read_file path) n) f h k = only_both w Q P (n (w.bytes path)) f h k
-only_both w Q P (does (spend at work) n) f h k = absurd h
-only_both w Q P (does (report notice) n) f h k = absurd h
-only_both w Q P (does (ask at question) n) f h k = absurd h
-only_both w Q P (does (find_file path) n) f h k = absurd h
-only_both w Q P (does (list_folder folder) n) f h k = absurd h
+only_both w Q P x f h k = absurd h
 
 -- the outcome of a program that only reads files: no notices, no questions, and a value with the fact `P` or a fault of sourcing
 -- files
@@ -88,11 +64,7 @@ module _ {A : Type 0} (w : World) (P : A → Type 0) where
   quiet_outcome left stops h = absurd h
   quiet_outcome left (does (read_file path) k) h =
       let q = quiet_outcome left (k (w.bytes path)) h in record { notices = q.notices; questions = q.questions; value = q.value; faults = q.faults }
-  quiet_outcome left (does (spend at work) k) h = absurd h
-  quiet_outcome left (does (report notice) k) h = absurd h
-  quiet_outcome left (does (ask at question) k) h = absurd h
-  quiet_outcome left (does (find_file path) k) h = absurd h
-  quiet_outcome left (does (list_folder folder) k) h = absurd h
+  quiet_outcome left x h = absurd h
 
   -- the outcome of a program that only reads files is the same under any answers
   same_outcome : (answer : List ℕ → Option Answer) (left : ℕ) (p : Program A) → OnlyReads w P p → outcome true (record w { answer = answer }) left p
@@ -101,11 +73,7 @@ module _ {A : Type 0} (w : World) (P : A → Type 0) where
   same_outcome answer left (fails g) h = refl
   same_outcome answer left stops h = refl
   same_outcome answer left (does (read_file path) k) h = ap (after_event (read_file path)) (same_outcome answer left (k (w.bytes path)) h)
-  same_outcome answer left (does (spend at work) k) h = absurd h
-  same_outcome answer left (does (report notice) k) h = absurd h
-  same_outcome answer left (does (ask at question) k) h = absurd h
-  same_outcome answer left (does (find_file path) k) h = absurd h
-  same_outcome answer left (does (list_folder folder) k) h = absurd h
+  same_outcome answer left x h = absurd h
 
 -- faults of sources, and what holds where there is none
 module _ (open_files : List (List ℕ)) (s : ReadingState) (path : List ℕ) where

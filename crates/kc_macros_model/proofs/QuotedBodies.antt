@@ -1,18 +1,8 @@
 -- Bytes between quotes in which nothing is left to expand.
-use Rattle.std.proofs.Common.{◌≡◌, ℕ, zero, suc, ◌+◌, ◌<◌, ◌≤◌, Bool, true, false, ◌&&◌, ◌||◌, cond, List, [], ◌∷◌, ◌++◌, length, take, Option, Some, None, refl, sym, ap, ◌∙◌, subst, append_assoc, zero-add, arith, length-append}
-use Rattle.std.proofs.Math.Nat.{suc-add}
-use Rattle.std.proofs.Math.Seq.{take-append_seam}
-use Rattle.std.specs.Prelude.{◌==◌, ◌-◌, pred, option_map}
-use Rattle.std.specs.Cmp.{first_so, second_so}
-use Rattle.std.proofs.lemmas.Bool.{eqb-true}
-use Rattle.kc_macros_model.specs.Programs.{Place, returns, ◌>>=◌}
-use Rattle.kc_macros_model.specs.References.{open_after, inside_length, Item, byte, escaped, reference, item_bytes, reference_of, first_item, items}
-use Rattle.kc_macros_model.specs.Variables.{Value, Bindings}
+use Rattle.kc_macros_model.proofs.Common.{◌≡◌, ℕ, zero, suc, ◌+◌, ◌<◌, ◌≤◌, Bool, true, false, ◌&&◌, ◌||◌, cond, List, [], ◌∷◌, ◌++◌, length, take, Option, Some, None, refl, sym, ap, ◌∙◌, subst, append_assoc, zero-add, arith, length-append, suc-add, take-append_seam, ◌==◌, ◌-◌, pred, option_map}
+use Rattle.kc_macros_model.proofs.Common.{first_so, second_so, eqb-true, Place, returns, ◌>>=◌, open_after, inside_length, Item, byte, escaped, reference, item_bytes, reference_of, first_item, items, Value, Bindings, extent, escaped_text, WrittenQuotedText, body_of, body_of_value, joined_bodies}
+use Rattle.kc_macros_model.proofs.Common.{written_item, written_items, World, returned, ending_in}
 use Rattle.kc_macros_model.specs.Expansion.{text_value}
-use Rattle.kc_macros_model.specs.LineTokens.{extent}
-use Rattle.kc_macros_model.specs.WrittenTokens.{escaped_text, WrittenBody, body_of, body_of_value, joined_bodies, written_item, written_items}
-use Rattle.kc_macros_model.specs.Worlds.{World, returned}
-use Rattle.kc_macros_model.specs.ExpansionRules.{ending_in}
 use Rattle.kc_macros_model.proofs.CleanTexts.{neither_first, neither_second}
 use Rattle.kc_macros_model.proofs.ExpansionByRules.{split_return, same_return}
 use Rattle.kc_macros_model.proofs.PlainTokens.{ArePlainItems, plain_none, plain_byte, plain_escaped, and_false}
@@ -83,25 +73,25 @@ module _ (w : World) (at : Place) (b : Bindings) where
   byte_body q c e f false h = body_byte e f h body_none
 
   -- in the written bytes of the items between quotes each `$`, backslash and quote follows a backslash
-  pub inside_written : (q : ℕ) {s : List ℕ} {is : List Item} → IsQuotedInside q s is → (x : WrittenBody) → ending_in w (written_items at b q is) ≡ returned x
+  pub inside_written : (q : ℕ) {s : List ℕ} {is : List Item} → IsQuotedInside q s is → (x : WrittenQuotedText) → ending_in w (written_items at b q is) ≡ returned x
       → IsQuotedBody q x.bytes
-  inside_written q inside_none x e = subst (λ (z : WrittenBody). IsQuotedBody q z.bytes) (same_return (body_of [] []) x e) body_none
+  inside_written q inside_none x e = subst (λ (z : WrittenQuotedText). IsQuotedBody q z.bytes) (same_return (body_of [] []) x e) body_none
   inside_written q (inside_byte {c = c} {is = is} h k r) x e =
       let (y, ey, e2) = split_return w (written_items at b q is) (λ rest. returns
       (joined_bodies (body_of (cond (c == 36) (92 ∷ c ∷ []) (c ∷ [])) (c ∷ [])) rest)) x e in
-      subst (λ (z : WrittenBody). IsQuotedBody q z.bytes) (same_return (joined_bodies (body_of (cond (c == 36) (92 ∷ c ∷ []) (c ∷ [])) (c ∷ [])) y) x e2)
+      subst (λ (z : WrittenQuotedText). IsQuotedBody q z.bytes) (same_return (joined_bodies (body_of (cond (c == 36) (92 ∷ c ∷ []) (c ∷ [])) (c ∷ [])) y) x e2)
       (body_append (byte_body q c h k (c == 36) refl) (inside_written q r y ey))
   inside_written q (inside_pair {c = c} {is = is} r) x e =
       let (y, ey, e2) = split_return w (written_items at b q is) (λ rest. returns (joined_bodies (body_of (92 ∷ c ∷ []) (c ∷ [])) rest)) x e in
-      subst (λ (z : WrittenBody). IsQuotedBody q z.bytes) (same_return (joined_bodies (body_of (92 ∷ c ∷ []) (c ∷ [])) y) x e2)
+      subst (λ (z : WrittenQuotedText). IsQuotedBody q z.bytes) (same_return (joined_bodies (body_of (92 ∷ c ∷ []) (c ∷ [])) y) x e2)
       (body_pair (inside_written q r y ey))
   inside_written q (inside_reference {inside = inside} {is = is} r) x e =
       let (u, eu, e1) = split_return w (written_item at b q (reference inside))
       (λ first. written_items at b q is >>= λ rest. returns (joined_bodies first rest)) x e in
       let (y, ey, e2) = split_return w (written_items at b q is) (λ rest. returns (joined_bodies u rest)) x e1 in
       let (v, ev, e3) = split_return w (text_value at b (item_bytes (reference inside))) (λ v. returns (body_of_value q v)) u eu in
-      let first : IsQuotedBody q u.bytes = subst (λ (z : WrittenBody). IsQuotedBody q z.bytes) (same_return (body_of_value q v) u e3) (value_body q v) in
-      subst (λ (z : WrittenBody). IsQuotedBody q z.bytes) (same_return (joined_bodies u y) x e2) (body_append first (inside_written q r y ey))
+      let first : IsQuotedBody q u.bytes = subst (λ (z : WrittenQuotedText). IsQuotedBody q z.bytes) (same_return (body_of_value q v) u e3) (value_body q v) in
+      subst (λ (z : WrittenQuotedText). IsQuotedBody q z.bytes) (same_return (joined_bodies u y) x e2) (body_append first (inside_written q r y ey))
 
 no_zero : (r : Option ℕ) → option_map suc r ≡ Some 0 → ⊥
 no_zero None e = cc

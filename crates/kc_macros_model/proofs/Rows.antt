@@ -1,21 +1,16 @@
 -- Worked rows, computed.
-use Rattle.std.proofs.Common.{◌≡◌, ℕ, List, [], ◌∷◌, Some, None, Result, Ok, Err, refl, true, false, map, drop, length}
-use Rattle.std.specs.Prelude.{codes, filter, ◌==◌, not, take_while, bytes_eq}
+use Rattle.kc_macros_model.proofs.Common.{◌≡◌, ℕ, List, [], ◌∷◌, Some, None, Result, Ok, Err, refl, true, false, map, drop, length, codes, filter, ◌==◌, not, bytes_eq, keyword_in_table, without_repeats, MacroKind, TooMany, Fault, ExpandedFile, place, World, Ending, returned, failed, stopped}
+use Rattle.kc_macros_model.proofs.Common.{outcome}
+use Rattle.std.specs.Prelude.{take_while}
 use Rattle.std.specs.Fmt.{digits}
 use Rattle.std.specs.Str.{is_utf8, chars}
 use Rattle.std.specs.List.{starts_with}
 use Rattle.kc_tokens.specs.Token.{next_token}
 use Rattle.std.specs.Map.{lookup}
-use Rattle.kc_tree_model.specs.Keywords.{keyword_in_table}
-use Rattle.kc_tree_model.specs.Limits.{without_repeats}
-use Rattle.kc_macros_model.specs.declared.fault.MacroKind.{MacroKind}
-use Rattle.kc_macros_model.specs.declared.fault.MacroKind.TheVariants.{TooMany}
 use Rattle.kc_macros_model.specs.declared.fault.AnswersKind.TheVariants.{Read}
-use Rattle.kc_macros_model.specs.Programs.{Fault}
 use Rattle.kc_macros_model.specs.Expansion.{text_value}
-use Rattle.kc_macros_model.specs.ReadingStates.{ExpandedFile}
-use Rattle.kc_macros_model.specs.TreeExpansion.{place, tree_read}
-use Rattle.kc_macros_model.specs.Worlds.{World, Ending, returned, failed, stopped, outcome, expansion}
+use Rattle.kc_macros_model.specs.TreeExpansion.{tree_read}
+use Rattle.kc_macros_model.specs.Worlds.{expansion}
 use Rattle.kc_macros_model.specs.AnswerFiles.{RecordedAnswers, cut_by, answers_read}
 
 -- the names in a folder, by the paths of files

@@ -1,15 +1,9 @@
 -- The expansion of a text returns each value that the rules give, unless it fails at a limit; a text without references stays.
-use Rattle.std.proofs.Common.{◌≡◌, ℕ, zero, suc, ◌+◌, ◌≤◌, Bool, true, false, ◌||◌, List, [], ◌∷◌, length, Some, None, refl, sym, ap, ◌∙◌, subst, arith}
-use Rattle.std.specs.Prelude.{nat_le}
+use Rattle.kc_macros_model.proofs.Common.{◌≡◌, ℕ, zero, suc, ◌+◌, ◌≤◌, Bool, true, false, ◌||◌, List, [], ◌∷◌, length, Some, None, refl, sym, ap, ◌∙◌, subst, arith, nat_le, Arguments, Recursion, LineTooLong, MAX_TEXT_BYTES, MAX_PIECES, Place, Program, returns, ◌>>=◌, pieces, Item, byte, reference}
+use Rattle.kc_macros_model.proofs.Common.{items, Value, value_length, joined_values, Bindings, argument_of, fault, spends, is_recursion, named_value, piece_values, call_value, reference_value, item_value, unless_too_long, item_values, expanded, World, Ending, ending_in, begins_reference, Expands}
+use Rattle.kc_macros_model.proofs.Common.{done, Refers, parameter, call, unknown_name, ExpandEach, no_pieces, piece, Means, simple_variable, recursive_variable, unbound}
 use Rattle.std.proofs.lemmas.Bool.{le-leb}
-use Rattle.kc_macros_model.specs.declared.fault.MacroKind.TheVariants.{Arguments, Recursion, LineTooLong}
-use Rattle.kc_value.specs.declared.limits.TheConstants.{MAX_TEXT_BYTES, MAX_PIECES}
-use Rattle.kc_macros_model.specs.Programs.{Place, Program, returns, ◌>>=◌}
-use Rattle.kc_macros_model.specs.References.{pieces, Item, byte, reference, items}
-use Rattle.kc_macros_model.specs.Variables.{Value, value_length, joined_values, Bindings, argument_of}
-use Rattle.kc_macros_model.specs.Expansion.{fault, spends, is_recursion, named_value, piece_values, call_value, reference_value, item_value, unless_too_long, item_values, expanded}
-use Rattle.kc_macros_model.specs.Worlds.{World, Ending}
-use Rattle.kc_macros_model.specs.ExpansionRules.{ending_in, begins_reference, Expands, done, byte as byte_rule, reference as reference_rule, Refers, parameter, call, unknown_name, ExpandEach, no_pieces, piece, Means, simple_variable, recursive_variable, unbound}
+use Rattle.kc_macros_model.specs.ExpansionRules.{byte as byte_rule, reference as reference_rule}
 use Rattle.kc_macros_model.specs.ExpansionLaws.{IsValueOrBound, value, bound, RulesAreExpanded, has_reference, PlainTextsStay}
 use Rattle.kc_macros_model.proofs.TextItems.{items_of_byte, items_of_reference}
 use Rattle.kc_macros_model.proofs.ExpansionByRules.{then_end, end_of_both}

@@ -1,25 +1,12 @@
 -- The written tokens of a line have nothing left to expand.
-use Rattle.std.proofs.Common.{◌≡◌, ℕ, suc, ◌<◌, Bool, true, false, ◌&&◌, ◌||◌, cond, List, [], ◌∷◌, ◌++◌, length, take, Option, Some, None, refl, sym, ap, ◌∙◌, subst, append_assoc, arith, length-append}
-use Rattle.std.proofs.Math.Seq.{take-append_seam}
-use Rattle.std.specs.Prelude.{◌==◌, pred, not, nat_lt, is_none}
-use Rattle.std.specs.List.{list_all, list_any}
-use Rattle.std.specs.Cmp.{first_so, second_so}
-use Rattle.std.proofs.lemmas.Bool.{eqb-true, lt-ltb}
-use Rattle.std.proofs.lemmas.List.{append-nil}
-use Rattle.kc_tokens.specs.Token.{is_white_byte, is_word_byte}
-use Rattle.kc_macros_model.specs.Programs.{Place, Program, returns, stops, ◌>>=◌}
-use Rattle.kc_macros_model.specs.References.{Item, item_bytes, first_item, items, is_reference, is_plain_dollar, is_unterminated}
-use Rattle.kc_macros_model.specs.Variables.{Value, Bindings}
+use Rattle.kc_macros_model.proofs.Common.{◌≡◌, ℕ, suc, ◌<◌, Bool, true, false, ◌&&◌, ◌||◌, cond, List, [], ◌∷◌, ◌++◌, length, take, Option, Some, None, refl, sym, ap, ◌∙◌, subst, append_assoc, arith, length-append, take-append_seam, ◌==◌, pred, not, nat_lt, is_none, list_all, list_any, first_so}
+use Rattle.kc_macros_model.proofs.Common.{second_so, eqb-true, append-nil, is_white_byte, Place, Program, returns, stops, ◌>>=◌, Item, item_bytes, first_item, items, is_reference, is_plain_dollar, is_unterminated, Value, Bindings, LineToken, gap, run, quoted, other, broken, token_bytes, extent}
+use Rattle.kc_macros_model.proofs.Common.{is_run_byte, run_token, quoted_token, first_token, line_tokens, Gap, Word, Quoted, Other, is_bare_byte, is_keyword, escaped_text, in_quotes_of, WrittenToken, written_as, token_of_text, token_of_value, written_items, token_of_body, run_value, written_token}
+use Rattle.kc_macros_model.proofs.Common.{AssignedText, assignment_at, LineContent, assigns, tokens, with_token, is_gap, is_unknown, is_open_front, assignment_or, line_content, environment_asked, form_of, line_bytes, World, returned, ending_in, has_dollar, is_kept_token, is_assignment}
+use Rattle.kc_macros_model.proofs.Common.{is_plain_form, tokens_as_they_are, plain_path, is_one_of, is_copied, no_paths}
+use Rattle.std.proofs.lemmas.Bool.{lt-ltb}
+use Rattle.kc_tokens.specs.Token.{is_word_byte}
 use Rattle.kc_macros_model.specs.Expansion.{text_value}
-use Rattle.kc_macros_model.specs.LineTokens.{LineToken, gap, run, quoted, other, broken, token_bytes, extent, is_run_byte, run_token, quoted_token, first_token, line_tokens}
-use Rattle.kc_macros_model.specs.declared.token_sort.TokenSort.TheVariants.{Gap, Word, Quoted, Other}
-use Rattle.kc_macros_model.specs.WrittenTokens.{is_bare_byte, is_keyword, escaped_text, in_quotes_of, WrittenToken, written_as, token_of_text, token_of_value, written_items, token_of_body, run_value, written_token}
-use Rattle.kc_macros_model.specs.Assignments.{AssignedText, assignment_at, LineContent, assigns, tokens, with_token, is_gap, is_unknown, is_open_front, assignment_or, line_content}
-use Rattle.kc_macros_model.specs.EnvironmentLines.{environment_asked}
-use Rattle.kc_macros_model.specs.LineForms.{form_of, line_bytes}
-use Rattle.kc_macros_model.specs.Worlds.{World, returned}
-use Rattle.kc_macros_model.specs.ExpansionRules.{ending_in}
-use Rattle.kc_macros_model.specs.PlainLines.{has_dollar, is_kept_token, is_assignment, is_plain_form, tokens_as_they_are, plain_path, is_one_of, is_copied, no_paths}
 use Rattle.kc_macros_model.specs.SecondExpansionLaws.{is_left_with_dollar, NothingIsLeftToExpand, WrittenLinesStay}
 use Rattle.kc_macros_model.proofs.CleanTexts.{neither_first, neither_second}
 use Rattle.kc_macros_model.proofs.ExpansionByRules.{split_return, same_return}

@@ -1,11 +1,6 @@
 -- A text and the items into which it is cut.
-use Rattle.std.proofs.Common.{◌≡◌, ℕ, zero, suc, ◌≤◌, Bool, true, false, ◌&&◌, cond, List, [], ◌∷◌, ◌++◌, length, Option, Some, None, refl, sym, ap, ◌∙◌, subst, append_assoc, arith, length-append}
-use Rattle.std.specs.Prelude.{◌==◌, option_map, pred}
-use Rattle.std.proofs.Math.Seq.{take-append_seam}
-use Rattle.std.proofs.lemmas.Bool.{eqb-true}
-use Rattle.std.specs.Cmp.{first_so, second_so}
-use Rattle.kc_macros_model.specs.References.{open_after, inside_length, Item, byte, reference, unterminated, item_bytes, reference_of, items}
-use Rattle.kc_macros_model.specs.ExpansionRules.{begins_reference}
+use Rattle.kc_macros_model.proofs.Common.{◌≡◌, ℕ, zero, suc, ◌≤◌, Bool, true, false, ◌&&◌, cond, List, [], ◌∷◌, ◌++◌, length, Option, Some, None, refl, sym, ap, ◌∙◌, subst, append_assoc, arith, length-append, ◌==◌, option_map, pred, take-append_seam, eqb-true, first_so, second_so, open_after}
+use Rattle.kc_macros_model.proofs.Common.{inside_length, Item, byte, reference, unterminated, item_bytes, reference_of, items, begins_reference}
 
 -- a text has a `)` after its first `n` bytes: it is those bytes, the `)`, and the rest
 pub record IsInside (s : List ℕ) (n : ℕ) : Type 0 where

@@ -1,13 +1,6 @@
 -- The tokens of a line one by one, each with the bytes after it.
-use Rattle.std.proofs.Common.{◌≡◌, ℕ, zero, suc, ◌<◌, ◌≤◌, Bool, true, false, ◌||◌, cond, List, [], ◌∷◌, ◌++◌, length, take, drop, refl, sym, ap, ◌∙◌, subst, append_assoc, arith, length-append}
-use Rattle.std.specs.Prelude.{◌==◌, pred, not, nat_lt}
-use Rattle.std.specs.List.{list_any}
-use Rattle.std.proofs.lemmas.List.{take-append-drop, append-nil}
-use Rattle.std.proofs.lemmas.Bool.{eqb-true, ltb-true}
-use Rattle.kc_tokens.specs.Token.{is_white_byte}
-use Rattle.kc_macros_model.specs.References.{item_bytes, first_item, items, is_unterminated}
-use Rattle.kc_macros_model.specs.LineTokens.{LineToken, gap, run, quoted, other, broken, token_bytes, extent, is_run_byte, quoted_token, first_token, line_tokens}
-use Rattle.kc_macros_model.specs.PlainLines.{has_dollar}
+use Rattle.kc_macros_model.proofs.Common.{◌≡◌, ℕ, zero, suc, ◌<◌, ◌≤◌, Bool, true, false, ◌||◌, cond, List, [], ◌∷◌, ◌++◌, length, take, drop, refl, sym, ap, ◌∙◌, subst, append_assoc, arith, length-append, ◌==◌, pred, not, nat_lt, list_any, take-append-drop, append-nil, eqb-true, ltb-true}
+use Rattle.kc_macros_model.proofs.Common.{is_white_byte, item_bytes, first_item, items, is_unterminated, LineToken, gap, run, quoted, other, broken, token_bytes, extent, is_run_byte, quoted_token, first_token, line_tokens, has_dollar}
 use Rattle.kc_macros_model.proofs.CleanTexts.{neither_first, neither_second}
 use Rattle.kc_macros_model.proofs.QuotedBodies.{byte_first, IsQuotedInside, up_to_quote}
 use Rattle.kc_macros_model.proofs.TokensOfLines.{tokens_passed, extent_ends}

@@ -1,11 +1,7 @@
 -- Laws on the answers to the questions of a tree.
-use Rattle.std.proofs.Common.{◌≡◌, ℕ, false, List, [], ◌∷◌, Ok, Err, refl, sym, ap, ◌∙◌}
-use Rattle.std.specs.Prelude.{is_none, reverse}
-use Rattle.kc_value.specs.declared.limits.TheConstants.{MAX_WORK}
-use Rattle.kc_macros_model.specs.Programs.{Fault}
-use Rattle.kc_macros_model.specs.ReadingStates.{ExpandedFile}
+use Rattle.kc_macros_model.proofs.Common.{◌≡◌, ℕ, false, List, [], ◌∷◌, Ok, Err, refl, sym, ap, ◌∙◌, is_none, reverse, MAX_WORK, Fault, ExpandedFile, Ending, returned, failed, stopped, Outcome, outcome, questions_or_fault, without_answer, questions_once}
 use Rattle.kc_macros_model.specs.TreeExpansion.{tree_read}
-use Rattle.kc_macros_model.specs.Worlds.{Ending, returned, failed, stopped, Outcome, outcome, expansion, questions_or_fault, without_answer, questions_once, wanted}
+use Rattle.kc_macros_model.specs.Worlds.{expansion, wanted}
 use Rattle.kc_macros_model.specs.TreeLaws.{AnswersNotAskedChangeNothing, NothingWantedIsExpanded, NothingWantedReturnsFiles}
 use Rattle.kc_macros_model.proofs.Outcomes.{same_if_answered, same_if_none_open}
 use Rattle.kc_macros_model.proofs.KnownTrees.{expansion_never_stops}

@@ -78,37 +78,37 @@ token_of_value None = record { sort = Unknown; bytes = []; meaning = None }
 token_of_value (Some text) = token_of_text text
 
 -- written bytes between the quotes of a token, and the text that they mean
-pub record WrittenBody : Type 0 where
+pub record WrittenQuotedText : Type 0 where
   pub bytes : List ℕ
   pub meaning : Value
 
 -- the body of a quoted token: these bytes between its quotes, and the known text that they mean
-abbrev pub body_of : List ℕ → List ℕ → WrittenBody
+abbrev pub body_of : List ℕ → List ℕ → WrittenQuotedText
 body_of bytes meaning = record { bytes = bytes; meaning = Some meaning }
 
 -- the value of a macro reference as written between quotes, with the backslashes that it needs
-abbrev pub body_of_value : (quote : ℕ) → Value → WrittenBody
+abbrev pub body_of_value : (quote : ℕ) → Value → WrittenQuotedText
 body_of_value quote None = record { bytes = []; meaning = None }
 body_of_value quote (Some text) = body_of (escaped_text quote text) text
 
 -- written bytes between quotes followed by others, with their joined meaning
-abbrev pub joined_bodies : WrittenBody → WrittenBody → WrittenBody
+abbrev pub joined_bodies : WrittenQuotedText → WrittenQuotedText → WrittenQuotedText
 joined_bodies a b = record { bytes = a.bytes ++ b.bytes; meaning = joined_values a.meaning b.meaning }
 
 -- an item between quotes as it is written: a macro reference becomes its value, a `$` that begins no reference is escaped
-abbrev pub written_item : Place → Bindings → (quote : ℕ) → Item → Program WrittenBody
+abbrev pub written_item : Place → Bindings → (quote : ℕ) → Item → Program WrittenQuotedText
 written_item at b quote (byte c) = returns (body_of (if c == 36 then 92 ∷ c ∷ [] else c ∷ []) (c ∷ []))
 written_item at b quote (escaped c) = returns (body_of (92 ∷ c ∷ []) (c ∷ []))
 written_item at b quote (reference inside) = text_value at b (item_bytes (reference inside)) >>= λ v. returns (body_of_value quote v)
 written_item at b quote (unterminated rest) = fault at Unterminated []
 
 -- the items between the quotes of a token as they are written, one after the other
-abbrev pub written_items : Place → Bindings → (quote : ℕ) → List Item → Program WrittenBody
+abbrev pub written_items : Place → Bindings → (quote : ℕ) → List Item → Program WrittenQuotedText
 written_items at b quote [] = returns (body_of [] [])
 written_items at b quote (i ∷ is) = written_item at b quote i >>= λ first. written_items at b quote is >>= λ rest. returns (joined_bodies first rest)
 
 -- written bytes between quotes as a token, with its quotes
-abbrev pub token_of_body : (quote : ℕ) → WrittenBody → WrittenToken
+abbrev pub token_of_body : (quote : ℕ) → WrittenQuotedText → WrittenToken
 token_of_body quote body = record { sort = Quoted; bytes = quote ∷ (body.bytes ++ quote ∷ []); meaning = body.meaning }
 
 -- the value of a run of word bytes, macro references and `$`; a run without `$` is its own value

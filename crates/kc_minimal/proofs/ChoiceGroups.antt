@@ -1,31 +1,27 @@
 -- Lines of members, grouped by the units of their choices.
-use Rattle.std.proofs.Common.{◌≡◌, ◌≢◌, inl, inr, ℕ, zero, suc, ◌+◌, ◌<◌, ◌≤◌, Bool, true, false, ◌==◌, eq-eqb, cond, List, [], ◌∷◌, ◌++◌, length, map, take, drop, get_or, Option, Some, None, Result, IfOk, refl, sym, ◌∙◌, ap, arith}
-use Rattle.std.specs.Global.{Vec}
+use Rattle.std.proofs.Common.{◌≢◌, ◌==◌, Result, IfOk}
+use Rattle.kc_minimal.proofs.Common.{◌≡◌, inl, inr, ℕ, zero, suc, ◌+◌, ◌<◌, ◌≤◌, Bool, true, false, cond, List, [], ◌∷◌, ◌++◌, length, map, take, drop, get_or, Option, Some, None, refl, sym, ◌∙◌, ap, arith, Vec, IfOk-weaker, unwrap_or, slice_get, lines_at, by_group, filter_map, range_with_len}
+use Rattle.kc_minimal.proofs.Common.{cons_option, option_map, append-nil, map-append, filter-append, Tree, UnitValue, ChoiceLine, has_no_version, placed_from, lines_of, last_line, other_places, place_of}
 use Rattle.std.specs.declared.alloc.AllocError.{AllocError}
-use Rattle.std.proofs.lemmas.Result.{IfOk-weaker}
-use Rattle.std.specs.Prelude.{unwrap_or, slice_get}
-use Rattle.std.proofs.lemmas.Bool.{cases_eq, ne_eqb}
-use Rattle.kc_minimal.specs.checker.LineGroups.{group_in, group_more, lines_at, line_from}
-use Rattle.std.specs.List.{filter_map, range_with_len, cons_option, AllByRecursion}
+use Rattle.std.proofs.lemmas.Bool.{cases_eq}
+use Rattle.kc_minimal.specs.checker.LineGroups.{line_from}
+use Rattle.std.specs.List.{AllByRecursion}
 use Rattle.std.specs.List.Sorted.{IsStrictlySortedBy}
 use Rattle.std.specs.Map.{lookup, keys_of}
-use Rattle.std.specs.BTreeMap.{is_at, insert_entry}
+use Rattle.std.specs.BTreeMap.{is_at}
 use Rattle.std.specs.Ordering.{nat_cmp}
 use Rattle.std.specs.declared.cmp.Ordering.TheVariants.{Less}
 use Rattle.std.proofs.lemmas.Cmp.{ranked}
 use Rattle.std.proofs.lemmas.Map.Keys.{sorted_head, sorted_tail}
 use Rattle.std.proofs.lemmas.Option.{slice_get_past}
-use Rattle.std.specs.Option.{option_map, option_or, option_and_then}
-use Rattle.std.proofs.lemmas.List.{append-nil, append_assoc, take_more, map-append, at_drop_more}
-use Rattle.std.proofs.lemmas.List.Elements.{filter-append}
-use Rattle.kc_dotconfig.proofs.GatheredLines.{at_same, at_other, found_same, found_other}
-use Rattle.kc_system.proofs.Lists.{get-some}
-use Rattle.kc_tree_model.specs.Trees.{Tree, Choice}
+use Rattle.std.specs.Option.{option_or, option_and_then}
+use Rattle.std.proofs.lemmas.List.{append_assoc, take_more, at_drop_more}
+use Rattle.kc_dotconfig.proofs.GatheredLines.{at_same, at_other}
+use Rattle.kc_solver.proofs.Lists.{get-some}
+use Rattle.kc_tree_model.specs.Trees.{Choice}
 use Rattle.kc_tree_model.specs.declared.ids.Unit.{Unit as TreeUnit}
 use Rattle.kc_tree_model.specs.declared.ids.Unit.TheVariants.{Symbol as of_symbol, Choice as of_choice}
-use Rattle.kc_rules_model.specs.declared.values.UnitValue.{UnitValue}
-use Rattle.kc_dotconfig_model.specs.declared.choice_line.ChoiceLine.{ChoiceLine}
-use Rattle.kc_dotconfig_model.specs.OtherChoices.{has_no_version, placed_from, lines_of, last_line, noticed_line, other_line, other_line_of_unit, other_places, place_of, other_choices_of}
+use Rattle.kc_dotconfig_model.specs.OtherChoices.{noticed_line, other_line, other_line_of_unit, other_choices_of}
 
 -- files with one more
 pub placed_more : (f : ℕ) (files : List (List ChoiceLine)) (lines : List ChoiceLine)
@@ -94,35 +90,6 @@ module _ (tree : Tree) (values : List UnitValue) where
       ap (map place_of) (nothing_found (λ u. other_line_of_unit tree values u (slice_get tree.units u) [])
       (λ u. none_without_lines u (slice_get tree.units u) [] refl) (range_with_len 0 (length tree.units)))
 
--- the groups after a unit that has none gets one of one line
-pub group_inserted : (old new : List (ℕ × Vec (ℕ × ChoiceLine))) (unit : ℕ) (group : Vec (ℕ × ChoiceLine)) (l : ℕ × ChoiceLine)
-    → new ≡ insert_entry nat_cmp old unit group → group.items ≡ l ∷ [] → lookup (is_at (nat_cmp unit)) old ≡ None
-    → (u : ℕ) → group_in new u ≡ cond (u == unit) (group_more (group_in old u) l) (group_in old u)
-group_inserted old new unit group l is own none u = elim (cases_eq u unit) [
-  | inl same ↦
-      ap (λ k. group_in new k) same ∙ ap (λ es. group_in es unit) is
-      ∙ ap (option_map (λ (v : Vec (ℕ × ChoiceLine)). v.items)) (found_same old unit group) ∙ ap (λ ls. Some ls) own
-      ∙ ap (λ o. group_more (option_map (λ (v : Vec (ℕ × ChoiceLine)). v.items) o) l) (sym none)
-      ∙ ap (λ k. group_more (group_in old k) l) (sym same)
-      ∙ ap (λ b. cond b (group_more (group_in old u) l) (group_in old u)) (sym (eq-eqb u unit same))
-  | inr other ↦
-      ap (λ es. group_in es u) is ∙ ap (option_map (λ (v : Vec (ℕ × ChoiceLine)). v.items)) (found_other old u unit group other)
-      ∙ ap (λ b. cond b (group_more (group_in old u) l) (group_in old u)) (sym (ne_eqb u unit other))
-]
-
--- the lines in the group of a unit after a line is added to the group of its choice's unit
-pub line_grouped : (old new : Option (List (ℕ × ChoiceLine))) (l : ℕ × ChoiceLine) (u : ℕ) → new ≡ cond (u == l.1.unit) (group_more old l) old
-    → unwrap_or new [] ≡ unwrap_or old [] ++ cond (l.1.unit == u) (l ∷ []) []
-line_grouped old new l u is = elim (cases_eq u l.1.unit) [
-  | inl same ↦
-      ap (λ o. unwrap_or o []) (is ∙ ap (λ b. cond b (group_more old l) old) (eq-eqb u l.1.unit same))
-      ∙ ap (λ b. unwrap_or old [] ++ cond b (l ∷ []) []) (sym (eq-eqb l.1.unit u (sym same)))
-  | inr other ↦
-      ap (λ o. unwrap_or o []) (is ∙ ap (λ b. cond b (group_more old l) old) (ne_eqb u l.1.unit other))
-      ∙ sym (append-nil (unwrap_or old []))
-      ∙ ap (λ b. unwrap_or old [] ++ cond b (l ∷ []) []) (sym (ne_eqb l.1.unit u (λ e. other (sym e))))
-]
-
 -- numbers from one on are from each smaller one on
 from_less : (a b : ℕ) (us : List ℕ) → a ≤ b → AllByRecursion (λ u. b ≤ u) us → AllByRecursion (λ u. a ≤ u) us
 from_less a b [] h all = tt
@@ -154,9 +121,6 @@ none_below u (g ∷ groups) all =
     other_group u g groups apart ∙ none_below u groups all.1
 
 module _ (tree : Tree) (values : List UnitValue) (lines : List (ℕ × ChoiceLine)) where
-  abbrev pub by_group : ℕ × Vec (ℕ × ChoiceLine) → Option (ℕ × ChoiceLine)
-  by_group g = line_from tree values g.0 (slice_get tree.units g.0) g.1.items
-
   abbrev by_unit : ℕ → Option (ℕ × ChoiceLine)
   by_unit u = other_line_of_unit tree values u (slice_get tree.units u) lines
 
@@ -169,11 +133,11 @@ module _ (tree : Tree) (values : List UnitValue) (lines : List (ℕ × ChoiceLin
 
   -- groups past the last unit give no line
   past_units : (a : ℕ) (groups : List (ℕ × Vec (ℕ × ChoiceLine))) → length tree.units ≤ a → AllByRecursion (λ u. a ≤ u) (keys_of groups)
-      → filter_map by_group groups ≡ []
+      → filter_map (by_group tree values) groups ≡ []
   past_units a [] h all = refl
   past_units a (g ∷ groups) h all =
       let past : slice_get tree.units g.0 ≡ None = slice_get_past tree.units g.0 (let more = all.0 in omega arith) in
-      ap (λ o. cons_option o (filter_map by_group groups)) (ap (λ unit. line_from tree values g.0 unit g.1.items) past)
+      ap (λ o. cons_option o (filter_map (by_group tree values) groups)) (ap (λ unit. line_from tree values g.0 unit g.1.items) past)
       ∙ past_units a groups h all.1
 
   -- a unit without lines gives no line
@@ -187,14 +151,14 @@ module _ (tree : Tree) (values : List UnitValue) (lines : List (ℕ × ChoiceLin
 
   -- one unit more before those that groups give the lines of
   one_unit : (n a : ℕ) (groups : List (ℕ × Vec (ℕ × ChoiceLine))) → FromUnit a groups
-      → ((others : List (ℕ × Vec (ℕ × ChoiceLine))) → FromUnit (a + 1) others → filter_map by_group others ≡ filter_map by_unit (range_with_len (a + 1) n))
-      → filter_map by_group groups ≡ filter_map by_unit (range_with_len a (suc n))
+      → ((others : List (ℕ × Vec (ℕ × ChoiceLine))) → FromUnit (a + 1) others → filter_map (by_group tree values) others ≡ filter_map by_unit (range_with_len (a + 1) n))
+      → filter_map (by_group tree values) groups ≡ filter_map by_unit (range_with_len a (suc n))
   one_unit n a [] from next = next [] (from.0, tt, λ u h. from.2 u (omega arith)) ∙ sym (skipped n a (sym (from.2 a (omega arith))))
   one_unit n a (g ∷ groups) from next = elim (cases_eq a g.0) [
     | inl here ↦
         let further : AllByRecursion (λ u. suc g.0 ≤ u) (keys_of groups) = above_first g.0 (keys_of groups) from.0 in
         let own_lines : g.1.items ≡ lines_of g.0 lines = sym (first_group g groups) ∙ from.2 g.0 (omega arith) in
-        ap (λ o. cons_option o (filter_map by_group groups)) (same_line g.0 (slice_get tree.units g.0) g.1.items own_lines ∙ ap by_unit (sym here))
+        ap (λ o. cons_option o (filter_map (by_group tree values) groups)) (same_line g.0 (slice_get tree.units g.0) g.1.items own_lines ∙ ap by_unit (sym here))
         ∙ ap (cons_option (by_unit a))
         (next groups (
           sorted_tail nat_cmp g.0 (keys_of groups) from.0,
@@ -211,12 +175,12 @@ module _ (tree : Tree) (values : List UnitValue) (lines : List (ℕ × ChoiceLin
 
   -- groups in order of units give the lines that all units give
   by_groups : (n a : ℕ) (groups : List (ℕ × Vec (ℕ × ChoiceLine))) → FromUnit a groups → a + n ≡ length tree.units
-      → filter_map by_group groups ≡ filter_map by_unit (range_with_len a n)
+      → filter_map (by_group tree values) groups ≡ filter_map by_unit (range_with_len a n)
   by_groups zero a groups from count = past_units a groups (omega arith) from.1
   by_groups (suc n) a groups from count = one_unit n a groups from (λ others further. by_groups n (a + 1) others further (omega arith))
 
   pub places_of_groups : (groups : List (ℕ × Vec (ℕ × ChoiceLine))) (found : List (ℕ × ℕ)) → IsStrictlySortedBy nat_cmp (keys_of groups)
-      → ((u : ℕ) → lines_at groups u ≡ lines_of u lines) → found ≡ map place_of (filter_map by_group groups) → found ≡ other_places tree values lines
+      → ((u : ℕ) → lines_at groups u ≡ lines_of u lines) → found ≡ map place_of (filter_map (by_group tree values) groups) → found ≡ other_places tree values lines
   places_of_groups groups found rising own is =
       is ∙ ap (map place_of) (by_groups (length tree.units) 0 groups (rising, from_zero (keys_of groups), λ u h. own u) (omega arith))
 

@@ -1,22 +1,17 @@
 -- A full file, entry by entry.
-use Rattle.std.proofs.Common.{◌≡◌, inl, inr, ℕ, suc, ◌<◌, ◌+◌, Bool, true, false, not, ◌&&◌, ◌||◌, cond, List, [], ◌∷◌, ◌++◌, length, drop, replicate, Some, refl, sym, ◌∙◌, ap, append_assoc, arith}
-use Rattle.std.specs.Prelude.{nat_eq, slice_get, slice_index_or, slice_set, unwrap_or}
+use Rattle.std.proofs.Common.{◌||◌, append_assoc}
+use Rattle.std.specs.Prelude.{nat_eq, slice_index_or, slice_set}
 use Rattle.std.specs.List.{list_any}
 use Rattle.std.proofs.lemmas.Bool.{cases_Bool, eqb-true, eq-eqb, false≢true}
-use Rattle.std.proofs.lemmas.List.{get_or-set_same, get_or-set_other, get_or-replicate, append-nil}
+use Rattle.std.proofs.lemmas.List.{get_or-set_same, get_or-set_other, get_or-replicate}
 use Rattle.std.proofs.lemmas.Option.{slice_get_within, unwrap_or-slice_get}
 use Rattle.std.proofs.Math.Seq.{drop-cons}
 use Rattle.kc_expr.specs.Expr.{Expr}
-use Rattle.kc_tree_model.specs.Trees.{Tree, Entry, definition, choice_begins, menu_begins, menu_ends, comment}
-use Rattle.kc_rules_model.specs.declared.values.UnitValue.{UnitValue}
-use Rattle.kc_rules_model.specs.Reports.{is_written}
-use Rattle.kc_minimal_model.specs.SymbolLine.{ended_line}
-use Rattle.kc_minimal_model.specs.FullFile.{heading, end_line, applies, full_file}
+use Rattle.kc_tree_model.specs.Trees.{Entry, definition, menu_begins, menu_ends, comment}
+use Rattle.kc_minimal.proofs.Common.{◌≡◌, inl, inr, ℕ, suc, ◌<◌, ◌+◌, Bool, true, false, not, ◌&&◌, cond, List, [], ◌∷◌, ◌++◌, length, drop, replicate, Some, refl, sym, ◌∙◌, ap, arith, slice_get, unwrap_or, append-nil, Tree, UnitValue, is_written, ended_line, full_file, Draft, IsDraft, FileFormat}
+use Rattle.kc_minimal_model.specs.FullFile.{heading, end_line, applies}
 use Rattle.kc_minimal_model.specs.between.EntryTexts.{entry_texts}
 use Rattle.kc_minimal_model.proofs.EntryTexts.{full_file_by_entry}
-use Rattle.kc_minimal.specs.declared.full.Draft.{Draft}
-use Rattle.kc_minimal.specs.checker.Drafts.{IsDraft}
-use Rattle.kc_dotconfig_model.specs.Formats.{FileFormat}
 
 -- a text that an entry adds if it is shown, with the text of the entries after it, is the same whether it is joined before or
 -- after the test
@@ -68,11 +63,6 @@ module _ (format : FileFormat) (tree : Tree) (values : List UnitValue) (left : L
       (entry_texts format tree values seen old.gap left))
       e))
 
--- the beginning of a choice adds nothing to a draft of a full file
-pub choice_passed : (format : FileFormat) (tree : Tree) (values : List UnitValue) (left : List Entry) (draft : Draft) (c : ℕ)
-    → IsDraft format tree values (choice_begins c ∷ left) draft → IsDraft format tree values left draft
-choice_passed format tree values left draft c d = record { seen = d.seen; marked = d.marked; whole = d.whole }
-
 -- marking a symbol makes the marks those of the symbols seen with this one more
 marked_more : (n : ℕ) (xs : List Bool) (seen : List ℕ) (s : ℕ) → s < length xs → ((t : ℕ) → t < n → slice_index_or xs t false ≡ list_any (nat_eq t) seen)
     → (t : ℕ) → t < n → slice_index_or (slice_set xs s true) t false ≡ list_any (nat_eq t) (s ∷ seen)
@@ -104,17 +94,6 @@ module _ (format : FileFormat) (tree : Tree) (values : List UnitValue) (left : L
       false left) (entry_texts format tree values (s ∷ d.seen) old.gap left))
       (ap (λ m. is_written tree values s && not m) (sym (d.marked s there)) ∙ e)
 
-  pub symbol_passed : (is_written tree values s && not (slice_index_or old.defined.items s false)) ≡ false → new.text.items ≡ old.text.items → new.gap ≡ old.gap
-      → IsDraft format tree values (definition s ∷ left) old → IsDraft format tree values left new
-  symbol_passed e text gap d = record {
-    seen = s ∷ d.seen;
-    marked = marked_now d;
-    whole =
-        ap (λ t. t ++ entry_texts format tree values (s ∷ d.seen) new.gap left) text
-        ∙ ap (λ g. old.text.items ++ entry_texts format tree values (s ∷ d.seen) g left) gap
-        ∙ sym (ap (λ p. old.text.items ++ p) (definition_pieces d false e)) ∙ d.whole;
-  }
-
   pub symbol_written : (is_written tree values s && not (slice_index_or old.defined.items s false)) ≡ true
       → new.text.items ≡ old.text.items ++ cond old.gap (10 ∷ ended_line format tree values s) (ended_line format tree values s) → new.gap ≡ false
       → IsDraft format tree values (definition s ∷ left) old → IsDraft format tree values left new
@@ -128,6 +107,11 @@ module _ (format : FileFormat) (tree : Tree) (values : List UnitValue) (left : L
             ∙ ap (λ g. old.text.items ++ (written ++ entry_texts format tree values (s ∷ d.seen) g left)) gap
             ∙ sym (ap (λ p. old.text.items ++ p) (definition_pieces d true e)) ∙ d.whole;
       }
+
+-- a line that comes after an empty one where the last line ends a menu
+pub after_gap : (gap : Bool) (old mid new line : List ℕ) → mid ≡ cond gap (old ++ 10 ∷ []) old → new ≡ mid ++ line → new ≡ old ++ cond gap (10 ∷ line) line
+after_gap true old mid new line m n = n ∙ ap (λ t. t ++ line) m ∙ append_assoc old (10 ∷ []) line
+after_gap false old mid new line m n = n ∙ ap (λ t. t ++ line) m
 
 -- the entries of a tree from place `i` on are the entry at `i` and the entries from the next place on
 pub next_left : (entries : List Entry) (i : ℕ) (entry : Entry) → slice_get entries i ≡ Some entry → drop i entries ≡ entry ∷ drop (i + 1) entries

@@ -1,6 +1,7 @@
 //! Choices of which lines select another member by the rules of Linux from 6.10 on than by those before.
-ghost use Rattle.std.specs.Prelude.{◌≡◌, ◌<◌, ◌==◌, ◌∷◌, ◌++◌, [], ℕ, Some, None, length, map, option_to_list, slice_get, IfOk, OnOk, if◌then◌else◌};
+ghost use Rattle.std.specs.Prelude.{◌≡◌, ◌<◌, ◌++◌, ℕ, Some, length, map, option_to_list, slice_get, IfOk, OnOk};
 ghost use Rattle.std.specs.Global.{Vec};
+ghost use Rattle.std.specs.List.{filter_map};
 ghost use Rattle.std.specs.List.Sorted.{IsStrictlySortedBy};
 ghost use Rattle.std.specs.Map.{keys_of};
 ghost use Rattle.std.specs.Ordering.{nat_cmp};
@@ -10,10 +11,10 @@ ghost use Rattle.kc_rules_model.specs.declared.values.UnitValue.TheVariants.{Mem
 ghost use Rattle.kc_rules_model.specs.Equality.{value_is};
 ghost use Rattle.kc_rules_model.specs.SymbolValues.{member_of};
 ghost use Rattle.kc_rules.specs.between.SettledViews.{tree_of_settled};
-ghost use Rattle.kc_dotconfig_model.specs.OtherChoices.{has_no_version, placed_from, lines_of, given_by, last_line, last_n_line, noticed_line, other_member, other_line, other_line_of_unit, place_of, other_places, other_choices_of};
-ghost use Rattle.kc_minimal.specs.checker.LineGroups.{group_in, group_more, lines_at, line_from};
+ghost use Rattle.kc_dotconfig_model.specs.OtherChoices.{has_no_version, placed_from, lines_of, given_by, last_line, last_n_line, noticed_line, other_line, place_of, other_choices_of};
+ghost use Rattle.kc_minimal.specs.checker.LineGroups.{lines_at, line_from, by_group};
 
-use kc_dotconfig::{ChoiceLine, last_lines};
+use kc_dotconfig::{ChoiceLine, add_item, last_lines};
 use kc_rules::{MemberLine, Settled, UnitValue};
 use kc_tokens::{Language, LinuxVersion};
 use kc_tree::{Sym, Unit};
@@ -58,41 +59,6 @@ fn has_no_version(language: Language) -> bool
     }
 }
 
-/// One line.
-fn one_line(
-    alloc: Global,
-    line: (usize, ChoiceLine),
-) -> Result<Vec<(usize, ChoiceLine)>, AllocError>
-    ensures { IfOk result (λ lines. lines.items ≡ line ∷ []) }
-{
-    let mut lines = Vec::with_capacity(alloc, 1)?;
-    lines.push(line)?;
-    Ok(lines)
-}
-
-/// Adds a line to the group of a unit.
-fn group_line(
-    alloc: Global,
-    groups: &mut BTreeMap<u32, Vec<(usize, ChoiceLine)>>,
-    unit: u32,
-    line: (usize, ChoiceLine),
-) -> Result<(), AllocError>
-    ensures { OnOk result ((u : ℕ) → group_in groups.new.entries u ≡ (if u == unit then group_more (group_in groups.old.entries u) line else group_in groups.old.entries u)) }
-{
-    if let Some(group) = groups.get_mut(&unit) {
-        group.push(line)?;
-        return Ok(());
-    }
-    let group = one_line(alloc, line)?;
-    match groups.insert(unit, group) {
-        Ok(before) => {
-            drop(before);
-            Ok(())
-        }
-        Err(_) => Err(AllocError),
-    }
-}
-
 /// The lines of each choice that has lines, by its unit.
 fn grouped(
     alloc: Global,
@@ -102,7 +68,7 @@ fn grouped(
 {
     let mut groups = BTreeMap::new(alloc);
     for line in lines {
-        group_line(alloc, &mut groups, line.1.unit, *line)?;
+        add_item(alloc, &mut groups, line.1.unit, *line)?;
     }
     Ok(groups)
 }
@@ -172,22 +138,6 @@ fn given_by(alloc: Global, lines: &[(usize, ChoiceLine)]) -> Result<Vec<MemberLi
     Ok(given)
 }
 
-/// The member of a choice that its lines select by the rules from Linux 6.10 on.
-fn other_member(
-    alloc: Global,
-    settled: &Settled,
-    values: &[UnitValue],
-    c: u32,
-    lines: &[(usize, ChoiceLine)],
-) -> Result<Option<Sym>, AllocError>
-    requires there { c < length (tree_of_settled settled.now).choices }
-    ensures value { (choice : TheChoice) → slice_get (tree_of_settled settled.now).choices c ≡ Some choice → IfOk result (λ m. m ≡ other_member (tree_of_settled settled.now) values.now choice lines.now) }
-{
-    let given = given_by(alloc, lines)?;
-    let kept = last_lines(alloc, &given)?;
-    settled.selected_by_lines(alloc, c, &kept, values)
-}
-
 /// The member that the choice whose unit is `u` selects.
 fn member_of(values: &[UnitValue], u: u32) -> Option<Sym>
     ensures { result ≡ member_of (slice_get values.now u) }
@@ -224,28 +174,13 @@ fn other_line(
     if !settled.is_choice_shown(c, values) {
         return Ok(None);
     }
-    let other = other_member(alloc, settled, values, c, lines)?;
+    let given = given_by(alloc, lines)?;
+    let kept = last_lines(alloc, &given)?;
+    let other = settled.selected_by_lines(alloc, c, &kept, values)?;
     if is_selection(values, u, &other) {
         return Ok(None);
     }
     Ok(noticed_line(member_of(values, u), other, lines))
-}
-
-/// The line with the notice on a unit of the tree, if it is a choice with a notice, from the lines of the choice.
-fn line_of_unit(
-    alloc: Global,
-    settled: &Settled,
-    values: &[UnitValue],
-    u: u32,
-    lines: &[(usize, ChoiceLine)],
-) -> Result<Option<(usize, ChoiceLine)>, AllocError>
-    requires there { u < length (tree_of_settled settled.now).units }
-    ensures value { let tree = tree_of_settled settled.now in IfOk result (λ line. line ≡ line_from tree values.now u (slice_get tree.units u) lines.now) }
-{
-    match settled.tree().unit(u) {
-        Unit::Symbol(_) => Ok(None),
-        Unit::Choice(c) => other_line(alloc, settled, values, c, u, lines),
-    }
 }
 
 /// The line with the notice on a unit, if the tree has it and it is a choice with a notice, from the lines of the choice.
@@ -261,7 +196,10 @@ fn line_of_group(
     if u >= settled.tree().len() {
         return Ok(None);
     }
-    line_of_unit(alloc, settled, values, u, lines)
+    match settled.tree().unit(u) {
+        Unit::Symbol(_) => Ok(None),
+        Unit::Choice(c) => other_line(alloc, settled, values, c, u, lines),
+    }
 }
 
 /// Appends the place of a line, if there is one.
@@ -275,6 +213,23 @@ fn push_place(
         found.push((file, line.line))?;
     }
     Ok(())
+}
+
+/// The places of the notices on choices, in order of the choices, from the lines of each choice that has lines.
+fn group_places(
+    alloc: Global,
+    settled: &Settled,
+    values: &[UnitValue],
+    groups: Vec<(u32, Vec<(usize, ChoiceLine)>)>,
+) -> Result<Vec<(usize, u32)>, AllocError>
+    ensures { IfOk result (λ found. found.items ≡ map place_of (filter_map (by_group (tree_of_settled settled.now) values.now) groups.items)) }
+{
+    let mut found = Vec::new(alloc);
+    for (u, group) in groups {
+        let line = line_of_group(alloc, settled, values, u, &group)?;
+        push_place(&mut found, line)?;
+    }
+    Ok(found)
 }
 
 /// The places of the notices on choices of which the lines of members select another member by the rules of Linux from 6.10 on, with
@@ -294,23 +249,6 @@ pub fn other_choices(
     if !has_no_version(settled.tree().language()) {
         return Ok(Vec::new(alloc));
     }
-    other_places(alloc, settled, values, lines)
-}
-
-/// The places of those notices, where the tree's language doesn't say its version.
-fn other_places(
-    alloc: Global,
-    settled: &Settled,
-    values: &[UnitValue],
-    lines: &[(usize, ChoiceLine)],
-) -> Result<Vec<(usize, u32)>, AllocError>
-    ensures { IfOk result (λ found. found.items ≡ other_places (tree_of_settled settled.now) values.now lines.now) }
-{
     let groups = groups_of(alloc, lines)?;
-    let mut found = Vec::new(alloc);
-    for (u, group) in groups {
-        let line = line_of_group(alloc, settled, values, u, &group)?;
-        push_place(&mut found, line)?;
-    }
-    Ok(found)
+    group_places(alloc, settled, values, groups)
 }

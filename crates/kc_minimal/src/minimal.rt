@@ -6,54 +6,52 @@ ghost use Rattle.kc_minimal_model.specs.SymbolLine.{ended_line};
 ghost use Rattle.kc_minimal_model.specs.MinimalFile.{is_kept, has_line, minimal_file};
 ghost use Rattle.kc_minimal.specs.checker.Values.{FitValues, AreGivenBy};
 
-use crate::symbol_line::{is_n, push_symbol};
+use crate::symbol_line::{Written, is_n, push_symbol};
 use kc_dotconfig_model::Format;
 use kc_rules::{Settled, Steps, UnitValue, UserValue};
-use kc_system::System;
+use kc_solver::System;
 use kc_tree::Sym;
 use std::alloc::{AllocError, Global};
 
+/// A settled tree, user values, and the values that they give its units.
+#[derive(Clone, Copy)]
+struct Solved<'a> {
+    settled: &'a Settled,
+    users: &'a [Option<UserValue>],
+    values: &'a [UnitValue],
+}
+
 /// Whether a unit's value isn't what its rule gives without a user value. Where it has none there is nothing to
 /// evaluate.
-fn is_kept(
-    alloc: Global,
-    settled: &Settled,
-    users: &[Option<UserValue>],
-    values: &[UnitValue],
-    u: u32,
-) -> Result<bool, AllocError>
-    requires unit { u < length (tree_of_settled settled.now).units }
-    requires values { FitValues (tree_of_settled settled.now) values.now }
-    requires given { AreGivenBy (profile_of settled.now) (tree_of_settled settled.now) users.now values.now }
-    ensures ok { IfOk result (λ kept. kept ≡ is_kept (profile_of settled.now) (tree_of_settled settled.now) values.now u) }
+fn is_kept(alloc: Global, solved: &Solved<'_>, u: u32) -> Result<bool, AllocError>
+    requires unit { u < length (tree_of_settled solved.now.settled.now).units }
+    requires values { FitValues (tree_of_settled solved.now.settled.now) solved.now.values.now }
+    requires given { AreGivenBy (profile_of solved.now.settled.now) (tree_of_settled solved.now.settled.now) solved.now.users.now solved.now.values.now }
+    ensures ok { IfOk result (λ kept. kept ≡ is_kept (profile_of solved.now.settled.now) (tree_of_settled solved.now.settled.now) solved.now.values.now u) }
 {
-    if users[u as usize].is_none() {
+    if solved.users[u as usize].is_none() {
         return Ok(false);
     }
     let mut steps = Steps::new();
-    let value = settled.eval(alloc, u, None, values, &mut steps)?;
-    Ok(!Settled::same(&values[u as usize], &value))
+    let value = solved
+        .settled
+        .eval(alloc, u, None, solved.values, &mut steps)?;
+    Ok(!Settled::same(&solved.values[u as usize], &value))
 }
 
 /// Whether a symbol has a line: of a choice the selected member alone may have one, so that each unit's rule is
 /// evaluated at most once.
-fn has_line(
-    alloc: Global,
-    settled: &Settled,
-    users: &[Option<UserValue>],
-    values: &[UnitValue],
-    s: Sym,
-) -> Result<bool, AllocError>
-    requires symbol { s < length (tree_of_settled settled.now).symbols }
-    requires values { FitValues (tree_of_settled settled.now) values.now }
-    requires given { AreGivenBy (profile_of settled.now) (tree_of_settled settled.now) users.now values.now }
-    ensures ok { IfOk result (λ line. line ≡ has_line (profile_of settled.now) (tree_of_settled settled.now) values.now s) }
+fn has_line(alloc: Global, solved: &Solved<'_>, s: Sym) -> Result<bool, AllocError>
+    requires symbol { s < length (tree_of_settled solved.now.settled.now).symbols }
+    requires values { FitValues (tree_of_settled solved.now.settled.now) solved.now.values.now }
+    requires given { AreGivenBy (profile_of solved.now.settled.now) (tree_of_settled solved.now.settled.now) solved.now.users.now solved.now.values.now }
+    ensures ok { IfOk result (λ line. line ≡ has_line (profile_of solved.now.settled.now) (tree_of_settled solved.now.settled.now) solved.now.values.now s) }
 {
-    let symbol = settled.tree().symbol(s);
-    if symbol.choice.is_some() && is_n(settled.value_of_symbol(s, values).tri) {
+    let symbol = solved.settled.tree().symbol(s);
+    if symbol.choice.is_some() && is_n(solved.settled.value_of_symbol(s, solved.values).tri) {
         Ok(false)
     } else {
-        is_kept(alloc, settled, users, values, symbol.unit)
+        is_kept(alloc, solved, symbol.unit)
     }
 }
 
@@ -61,20 +59,23 @@ fn has_line(
 fn push_if_kept(
     out: &mut Vec<u8>,
     alloc: Global,
-    settled: &Settled,
+    solved: &Solved<'_>,
     format: &Format,
-    users: &[Option<UserValue>],
-    values: &[UnitValue],
     s: Sym,
 ) -> Result<(), AllocError>
-    requires symbol { s < length (tree_of_settled settled.now).symbols }
-    requires values { FitValues (tree_of_settled settled.now) values.now }
-    requires given { AreGivenBy (profile_of settled.now) (tree_of_settled settled.now) users.now values.now }
-    ensures ok { OnOk result (out.new.items ≡ out.old.items ++ (if has_line (profile_of settled.now) (tree_of_settled settled.now) values.now s then ended_line (file_format format.now) (tree_of_settled settled.now) values.now s else [])) }
+    requires symbol { s < length (tree_of_settled solved.now.settled.now).symbols }
+    requires values { FitValues (tree_of_settled solved.now.settled.now) solved.now.values.now }
+    requires given { AreGivenBy (profile_of solved.now.settled.now) (tree_of_settled solved.now.settled.now) solved.now.users.now solved.now.values.now }
+    ensures ok { let settled = solved.now.settled.now in let values = solved.now.values.now in OnOk result (out.new.items ≡ out.old.items ++ (if has_line (profile_of settled) (tree_of_settled settled) values s then ended_line (file_format format.now) (tree_of_settled settled) values s else [])) }
 {
-    let line = has_line(alloc, settled, users, values, s)?;
+    let line = has_line(alloc, solved, s)?;
     if line {
-        push_symbol(out, settled, format, values, s)
+        let written = Written {
+            settled: solved.settled,
+            format,
+            values: solved.values,
+        };
+        push_symbol(out, &written, s)
     } else {
         Ok(())
     }
@@ -93,10 +94,15 @@ pub(crate) fn minimal_lines(
     requires given { AreGivenBy (profile_of settled.now) (tree_of_settled settled.now) users.now values.now }
     ensures ok { IfOk result (λ text. text.items ≡ minimal_file (file_format format.now) (profile_of settled.now) (tree_of_settled settled.now) values.now) }
 {
+    let solved = Solved {
+        settled,
+        users,
+        values,
+    };
     let mut text = Vec::new(alloc);
     for number in 0..settled.tree().symbol_count() {
         let s = Sym::at(number);
-        push_if_kept(&mut text, alloc, settled, format, users, values, s)?;
+        push_if_kept(&mut text, alloc, &solved, format, s)?;
     }
     Ok(text)
 }

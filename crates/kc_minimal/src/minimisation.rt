@@ -1,6 +1,6 @@
 //! Minimising a configuration file.
 ghost use Rattle.std.specs.Prelude.{◌≡◌, ◌≤◌, ◌+◌, List, length, IfOk, IfErr, OnOk};
-ghost use Rattle.kc_system.specs.Solutions.{UniquelySolves};
+ghost use Rattle.kc_solver.specs.Solutions.{UniquelySolves};
 ghost use Rattle.kc_rules_model.specs.declared.values.UnitValue.{UnitValue as Held};
 ghost use Rattle.kc_rules_model.specs.Rule.{rule};
 ghost use Rattle.kc_rules.specs.between.SettledViews.{tree_of_settled, profile_of};

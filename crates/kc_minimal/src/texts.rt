@@ -1,6 +1,6 @@
 //! The minimal and the full file of a configuration.
 ghost use Rattle.std.specs.Prelude.{◌≡◌, ◌≤◌, true, length, IfOk};
-ghost use Rattle.kc_system.specs.Solutions.{UniquelySolves};
+ghost use Rattle.kc_solver.specs.Solutions.{UniquelySolves};
 ghost use Rattle.kc_rules_model.specs.Rule.{rule};
 ghost use Rattle.kc_rules.specs.between.SettledViews.{profile_of};
 ghost use Rattle.kc_dotconfig_model.specs.between.Formats.{file_format};

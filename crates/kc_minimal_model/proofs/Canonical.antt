@@ -1,41 +1,17 @@
 -- Minimal files are canonical: what the law of the least assignment gives over all files.
-use Rattle.std.proofs.Common.{◌≡◌, ◌≢◌, ◌⊎◌, ◌↔◌, inl, inr, ℕ, ◌<◌, Bool, true, false, ◌||◌, ◌==◌, cond, IsTrue, List, [], ◌∷◌, Option, None, length, map, filter, refl, sym, ◌∙◌, ap, subst, arith}
-use Rattle.std.specs.Prelude.{slice_get}
-use Rattle.std.specs.List.{list_any, list_all, flat_map}
-use Rattle.std.proofs.lemmas.Bool.{cases_Bool, false≢true, and_from, and_parts, eqb-true, or_cases, or_left, or_right}
-use Rattle.kc_tree_model.specs.Trees.{Tree}
-use Rattle.kc_tree_model.specs.TreeLookup.{unit_of}
-use Rattle.kc_system.specs.Solutions.{user_of, Solves, FitsUsers}
-use Rattle.kc_system.specs.LeastAssignments.{IsKept, IsCutTo}
-use Rattle.kc_system.proofs.Least.{least_gives}
-use Rattle.kc_system.proofs.OneSolution as solving
-use Rattle.kc_rules_model.specs.declared.profile.Profile.{Profile}
-use Rattle.kc_rules_model.specs.declared.values.UnitValue.{UnitValue}
-use Rattle.kc_rules_model.specs.declared.values.UserValue.{UserValue}
-use Rattle.kc_rules_model.specs.Equality.{same_value}
-use Rattle.kc_rules_model.specs.checker.EqualityLaws.{values_decided}
-use Rattle.kc_rules_model.specs.Rule.{rule, as_user}
+use Rattle.kc_minimal_model.proofs.Common.{◌≡◌, ◌≢◌, ◌⊎◌, ◌↔◌, inl, inr, ℕ, ◌<◌, Bool, true, false, ◌||◌, ◌==◌, cond, IsTrue, List, [], ◌∷◌, Option, None, length, map, filter, refl, sym, ◌∙◌, ap, subst, arith, slice_get, list_any, list_all, flat_map, cases_Bool, false≢true, and_from, and_parts}
+use Rattle.kc_minimal_model.proofs.Common.{eqb-true, or_cases, or_left, or_right, Tree, unit_of, user_of, Solves, FitsUsers, IsKept, IsCutTo, Profile, UnitValue, UserValue, same_value, values_decided, as_user, rules_frame, rules_restore, FileFormat, is_name_prefix, LineMeaning, value_of_symbol}
+use Rattle.kc_minimal_model.proofs.Common.{symbol_numbers, FileMeans, file_assignment, empty_assignment, has_utf8_lines, file_fits, file_read, ended_line, is_kept, has_line, may_have_line, minimal_symbols, minimal_file, IsOrderedTree, ReadsTo, none_held, none_length, file_length}
+use Rattle.kc_solver.proofs.Least.{least_gives}
+use Rattle.kc_solver.proofs.OneSolution as solving
+use Rattle.kc_rules_model.specs.Rule.{rule}
 use Rattle.kc_rules_model.specs.Dependencies.{dependencies}
 use Rattle.kc_rules_model.specs.Shapes.{user_fits}
-use Rattle.kc_rules_model.specs.checker.FrameLaw.{rules_frame}
-use Rattle.kc_rules_model.specs.checker.RestoreLaw.{rules_restore}
-use Rattle.kc_dotconfig_model.specs.Formats.{FileFormat}
-use Rattle.kc_dotconfig_model.specs.PrefixGrammar.{is_name_prefix}
-use Rattle.kc_dotconfig_model.specs.ConfigLines.{LineMeaning}
-use Rattle.kc_rules_model.specs.SymbolValues.{value_of_symbol}
-use Rattle.kc_rules_model.specs.Reports.{symbol_numbers}
-use Rattle.kc_dotconfig_model.specs.ConfigFiles.{FileMeans, file_assignment, empty_assignment, has_utf8_lines}
-use Rattle.kc_dotconfig_model.proofs.FittingFiles.{file_fits}
-use Rattle.kc_dotconfig_model.proofs.LineLaws.{file_read}
-use Rattle.kc_minimal_model.specs.SymbolLine.{ended_line}
-use Rattle.kc_minimal_model.specs.MinimalFile.{is_kept, has_line, may_have_line, minimal_symbols, minimal_file}
-use Rattle.kc_rules_model.proofs.OrderedTrees.{IsOrderedTree}
-use Rattle.kc_minimal_model.specs.FileValues.{ReadsTo}
 use Rattle.kc_minimal_model.proofs.MinimalLineList.{lines_are_utf8}
 use Rattle.kc_minimal_model.proofs.KeptUnits.{others_fail}
 use Rattle.kc_minimal_model.proofs.KeptLines.{meant, user_meant, unit_inside}
 use Rattle.kc_minimal_model.proofs.LineUnits.{different_units}
-use Rattle.kc_minimal_model.proofs.LeastFile.{passes_filter, none_held, none_length, after_lines, length_after, lines_mean, least_of_lines, reads_as_least}
+use Rattle.kc_minimal_model.proofs.LeastFile.{passes_filter, after_lines, lines_mean, least_of_lines, reads_as_least}
 
 -- the text of the minimal file with only the lines of the symbols that pass a test
 abbrev pub symbol_lines : (ℕ → Bool) → FileFormat → Profile → Tree → List UnitValue → List ℕ
@@ -173,7 +149,8 @@ module _ (format : FileFormat) (valid : is_name_prefix format.prefix ≡ true) (
       (file_assignment tree (map (λ s. meant tree.language values (unit_of tree s)) (minimal_symbols profile tree values)))
       (file_assignment tree (map (λ s. meant tree.language values (unit_of tree s)) (filter keeps (minimal_symbols profile tree values))))
   cut = record {
-    one_each = length_after tree values (filter keeps (minimal_symbols profile tree values)) (empty_assignment tree) ∙ none_length (length tree.units);
+    one_each = file_length (map (λ s. meant tree.language values (unit_of tree s)) (filter keeps (minimal_symbols profile tree values))) (empty_assignment tree)
+        ∙ none_length (length tree.units);
     cut =
         λ u h. user_after (filter keeps (minimal_symbols profile tree values)) u h
         ∙ elim (cases_Bool (list_any (λ s. unit_of tree s == u) (filter keeps (minimal_symbols profile tree values)))) [

@@ -1,11 +1,7 @@
 -- The differences of two small valuations.
-use Rattle.std.proofs.Common.{◌≡◌, [], ◌∷◌, Some, refl}
-use Rattle.std.specs.Prelude.{codes}
-use Rattle.kc_value.specs.declared.tri.Tri.TheVariants.{N, Y}
+use Rattle.kc_minimal_model.proofs.Common.{◌≡◌, [], ◌∷◌, Some, refl, codes, N, Y, n, tree_pick, differences}
 use Rattle.kc_value.specs.declared.value.Kind.TheVariants.{Bool as Boolean}
 use Rattle.kc_rules_model.specs.declared.values.UnitValue.TheVariants.{Member as MemberValue}
-use Rattle.kc_rules_model.proofs.RowTrees.{n, tree_pick}
-use Rattle.kc_minimal_model.specs.Differences.{differences}
 
 of_members : differences tree_pick (MemberValue (Some 1) ∷ n ∷ []) (MemberValue (Some 0) ∷ n ∷ [])
     ≡ record { symbol = 0; left = record { kind = Boolean; tri = N; text = codes "n" }; right = record { kind = Boolean; tri = Y; text = codes "y" } }

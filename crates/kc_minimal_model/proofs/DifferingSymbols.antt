@@ -1,15 +1,6 @@
 -- Values that aren't the same differ at a symbol.
-use Rattle.std.proofs.Common.{◌≡◌, ◌≢◌, ℕ, IsTrue, List, [], ◌∷◌, Option, Some, None, length, refl, sym, ap, ◌∙◌}
-use Rattle.std.specs.List.{filter_map, cons_option}
-use Rattle.kc_tree_model.specs.Trees.{Tree}
-use Rattle.kc_tree_model.specs.TreeLookup.{IsConsistent}
-use Rattle.kc_system.specs.Solutions.{FitsValues}
-use Rattle.kc_rules_model.specs.declared.values.UnitValue.{UnitValue}
-use Rattle.kc_rules_model.specs.SymbolValues.{value_of_symbol}
+use Rattle.kc_minimal_model.proofs.Common.{◌≡◌, ◌≢◌, ℕ, IsTrue, List, [], ◌∷◌, Option, Some, None, length, refl, sym, ap, ◌∙◌, filter_map, cons_option, Tree, IsConsistent, FitsValues, UnitValue, value_of_symbol, symbol_numbers, Difference, difference_at, differences, HaveSameValues, DifferAtASymbol}
 use Rattle.kc_rules_model.specs.Shapes.{value_fits}
-use Rattle.kc_rules_model.specs.Reports.{symbol_numbers}
-use Rattle.kc_minimal_model.specs.Differences.{Difference, difference_at, differences}
-use Rattle.kc_minimal_model.specs.FileValues.{HaveSameValues, DifferAtASymbol}
 use Rattle.kc_minimal_model.proofs.DifferenceLaws.{differences_are_exact, none_left, same_as_itself}
 
 -- a list of what some elements give, that isn't empty, has one of them

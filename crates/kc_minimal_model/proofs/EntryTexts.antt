@@ -1,14 +1,7 @@
 -- The full file is what is written entry by entry.
-use Rattle.std.proofs.Common.{◌≡◌, ℕ, Bool, true, false, not, ◌&&◌, ◌||◌, cond, List, [], ◌∷◌, ◌++◌, refl, sym, ◌∙◌, ap}
-use Rattle.std.specs.Prelude.{nat_eq}
-use Rattle.std.specs.List.{list_any}
-use Rattle.kc_tree_model.specs.Trees.{Tree, Entry, definition, choice_begins, menu_begins, menu_ends, comment}
-use Rattle.kc_rules_model.specs.declared.values.UnitValue.{UnitValue}
-use Rattle.kc_rules_model.specs.Reports.{is_written}
-use Rattle.kc_minimal_model.specs.SymbolLine.{ended_line}
-use Rattle.kc_minimal_model.specs.FullFile.{heading, end_line, defines, is_entry_written, is_menu_end, ends_with_menu, empty_line_before, texts_added, full_file}
-use Rattle.kc_minimal_model.specs.between.EntryTexts.{entry_texts}
-use Rattle.kc_dotconfig_model.specs.Formats.{FileFormat}
+use Rattle.kc_minimal_model.proofs.Common.{◌≡◌, ℕ, Bool, true, false, not, ◌&&◌, ◌||◌, cond, List, [], ◌∷◌, ◌++◌, refl, sym, ◌∙◌, ap, nat_eq, list_any, Tree, Entry, definition, choice_begins, menu_begins, menu_ends, comment, UnitValue, is_written, ended_line, heading, end_line, defines, full_file}
+use Rattle.kc_minimal_model.proofs.Common.{entry_texts, FileFormat}
+use Rattle.kc_minimal_model.specs.FullFile.{is_entry_written, is_menu_end, ends_with_menu, empty_line_before, texts_added}
 
 -- a symbol's line after an empty line, or without one
 spaced : (gap : Bool) (line : List ℕ) → cond gap (10 ∷ []) [] ++ line ≡ cond gap (10 ∷ line) line

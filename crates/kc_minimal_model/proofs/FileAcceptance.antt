@@ -1,30 +1,12 @@
 -- A file that can be read is accepted within the limits.
-use Rattle.std.proofs.Common.{◌≡◌, ℕ, zero, suc, ◌≤◌, Bool, true, false, ◌&&◌, IsTrue, cond, List, [], ◌∷◌, ◌++◌, Option, Some, length, map, filter, refl, sym, ap, ◌∙◌, subst, arith, length-append}
-use Rattle.std.specs.Prelude.{slice_get, nat_le}
+use Rattle.kc_minimal_model.proofs.Common.{◌≡◌, ℕ, zero, suc, ◌≤◌, Bool, true, false, ◌&&◌, IsTrue, cond, List, [], ◌∷◌, ◌++◌, Option, Some, length, map, filter, refl, sym, ap, ◌∙◌, subst, arith, length-append, slice_get, nat_le, AllZip, list_all, flat_map, and_parts, leb-true, length-map}
+use Rattle.kc_minimal_model.proofs.Common.{IsUtf8-from_is_utf8, Tree, IsConsistent, unit_of, Solves, FitsUsers, Profile, UnitValue, UserValue, FileFormat, is_name_prefix, LineMeaning, Means, without_white_end, FileMeans, file_lines, has_utf8_lines, MAX_CONFIG_BYTES, MAX_CONFIG_LINES, MAX_LINE_BYTES}
+use Rattle.kc_minimal_model.proofs.Common.{IsAccepted, ended_line, has_line, has_short_lines}
 use Rattle.std.specs.Str.{is_utf8}
-use Rattle.std.specs.List.{AllZip, list_all, flat_map}
-use Rattle.std.proofs.lemmas.Bool.{and_parts, leb-true}
-use Rattle.std.proofs.lemmas.List.{length-map}
-use Rattle.std.proofs.lemmas.Str.{IsUtf8-from_is_utf8}
-use Rattle.kc_tree_model.specs.Trees.{Tree}
-use Rattle.kc_tree_model.specs.TreeLookup.{IsConsistent, unit_of}
-use Rattle.kc_system.specs.Solutions.{Solves, FitsUsers}
-use Rattle.kc_rules_model.specs.declared.profile.Profile.{Profile}
-use Rattle.kc_rules_model.specs.declared.values.UnitValue.{UnitValue}
-use Rattle.kc_rules_model.specs.declared.values.UserValue.{UserValue}
 use Rattle.kc_rules_model.specs.Rule.{rule}
 use Rattle.kc_rules_model.specs.Shapes.{user_fits}
-use Rattle.kc_dotconfig_model.specs.Formats.{FileFormat}
-use Rattle.kc_dotconfig_model.specs.PrefixGrammar.{is_name_prefix}
-use Rattle.kc_dotconfig_model.specs.ConfigLines.{LineMeaning, Means}
-use Rattle.kc_tree_model.specs.LogicalLines.{without_white_end}
-use Rattle.kc_dotconfig_model.specs.ConfigFiles.{FileMeans, file_lines, has_utf8_lines}
-use Rattle.kc_value.specs.declared.limits.TheConstants.{MAX_CONFIG_BYTES, MAX_CONFIG_LINES, MAX_LINE_BYTES}
-use Rattle.kc_dotconfig_model.specs.LoadFaults.{IsAccepted}
 use Rattle.kc_dotconfig_model.proofs.AcceptedLines.{accepted_of_lines}
-use Rattle.kc_minimal_model.specs.SymbolLine.{symbol_line, ended_line}
-use Rattle.kc_minimal_model.specs.MinimalFile.{has_line}
-use Rattle.kc_minimal_model.specs.FileValues.{has_short_lines}
+use Rattle.kc_minimal_model.specs.SymbolLine.{symbol_line}
 use Rattle.kc_minimal_model.specs.FileLimits.{ReadFilesAreAccepted}
 use Rattle.kc_minimal_model.proofs.MinimalLineList.{lines_of_symbols, lines_are_utf8}
 use Rattle.kc_minimal_model.proofs.LeastFile.{lines_mean}

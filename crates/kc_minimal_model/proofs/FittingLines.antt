@@ -1,24 +1,8 @@
 -- A written line is UTF-8 and short, if its value is.
-use Rattle.std.proofs.Common.{◌≡◌, ℕ, ◌+◌, ◌≤◌, Bool, true, false, ◌&&◌, cond, List, ◌∷◌, ◌++◌, length, IsUtf8, refl, arith, length-append}
-use Rattle.std.specs.Prelude.{codes, nat_lt, nat_le}
-use Rattle.std.specs.List.{list_all}
-use Rattle.std.proofs.lemmas.Bool.{and_parts, false≢true, leb-true}
-use Rattle.std.proofs.lemmas.Str.{IsUtf8-append}
-use Rattle.kc_value.specs.declared.tri.Tri.{Tri}
-use Rattle.kc_value.specs.declared.tri.Tri.TheVariants.{N, M, Y}
-use Rattle.kc_value.specs.declared.value.Kind.{Kind}
-use Rattle.kc_value.specs.declared.value.Kind.TheVariants.{Bool as Boolean, Tristate, Text, Int, Hex}
-use Rattle.kc_expr.specs.Expr.{letter}
-use Rattle.kc_tree_model.specs.TreeLookup.{is_name_byte}
-use Rattle.kc_rules_model.specs.Kinds.{is_n}
-use Rattle.kc_value.specs.Kinds.{is_tri_kind}
-use Rattle.kc_rules_model.specs.SymbolValues.{tri_symbol_value}
-use Rattle.kc_dotconfig_model.specs.Formats.{FileFormat}
-use Rattle.kc_dotconfig_model.specs.PrefixGrammar.{is_name_prefix}
-use Rattle.kc_value.specs.declared.limits.TheConstants.{MAX_PREFIX_BYTES, MAX_LINE_BYTES}
-use Rattle.kc_minimal_model.specs.SymbolLine.{spelled, value_line, unset_line, line_with}
-use Rattle.kc_value.proofs.UnquotedUtf8.{ascii_then, ascii_alone}
-use Rattle.kc_dotconfig_model.proofs.TrimmedLines.{low_utf8, name_utf8}
+use Rattle.std.proofs.Common.{IsUtf8}
+use Rattle.kc_minimal_model.proofs.Common.{◌≡◌, ℕ, ◌+◌, ◌≤◌, Bool, true, false, ◌&&◌, cond, List, ◌∷◌, ◌++◌, length, refl, arith, length-append, codes, nat_le, list_all, and_parts, false≢true, leb-true, IsUtf8-append, Tri, N, M, Y, Kind, Text, Int, Hex, letter, is_name_byte, is_n, is_tri_kind}
+use Rattle.kc_minimal_model.proofs.Common.{tri_symbol_value, FileFormat, is_name_prefix, MAX_LINE_BYTES, spelled, value_line, unset_line, line_with, ascii_then, ascii_alone, low_utf8, name_utf8}
+use Rattle.kc_value.specs.declared.limits.TheConstants.{MAX_PREFIX_BYTES}
 
 -- the line has at most `MAX_LINE_BYTES` bytes and is UTF-8
 abbrev pub IsFitLine : List ℕ → Type 0
@@ -72,15 +56,12 @@ module _ (format : FileFormat) (valid : is_name_prefix format.prefix ≡ true) (
 
   -- the line of a bool's or tristate's value is UTF-8 and short enough
   pub tri_fits_line : (kind : Kind) (t : Tri) → is_tri_kind kind ≡ true → IsFitLine (line_with format name (tri_symbol_value kind t))
-  tri_fits_line Boolean t small =
-      let p = (prefix_fits format.prefix valid).0 in let l = letter_fits t in let one = l.0 in
-      either_fits (is_n t) (letter t) (omega (arith, p, one, short)) l.1
-  tri_fits_line Tristate t small =
-      let p = (prefix_fits format.prefix valid).0 in let l = letter_fits t in let one = l.0 in
-      either_fits (is_n t) (letter t) (omega (arith, p, one, short)) l.1
   tri_fits_line Text t small = absurd (false≢true small)
   tri_fits_line Int t small = absurd (false≢true small)
   tri_fits_line Hex t small = absurd (false≢true small)
+  tri_fits_line _ t small =
+      let p = (prefix_fits format.prefix valid).0 in let l = letter_fits t in let one = l.0 in
+      either_fits (is_n t) (letter t) (omega (arith, p, one, short)) l.1
 
   -- the line of a value without a tristate is UTF-8 and short enough, if the spelling of its text is UTF-8 and the
   -- line's parts together are within the limit

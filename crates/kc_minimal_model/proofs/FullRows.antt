@@ -1,15 +1,9 @@
 -- Full files of small trees, byte for byte.
-use Rattle.std.proofs.Common.{◌≡◌, ℕ, [], ◌∷◌, Some, None, refl}
-use Rattle.std.specs.Prelude.{codes}
+use Rattle.kc_minimal_model.proofs.Common.{◌≡◌, ℕ, [], ◌∷◌, Some, None, refl, codes, Tree, UnitValue, n, m, y, tree_a, tree_lifted, tree_pick, Escaped, FileFormat, heading, full_file}
 use Rattle.kc_value.specs.declared.value.Kind.TheVariants.{Bool as Boolean}
-use Rattle.kc_tree_model.specs.Trees.{Tree}
-use Rattle.kc_rules_model.specs.declared.values.UnitValue.{UnitValue}
 use Rattle.kc_rules_model.specs.declared.values.UnitValue.TheVariants.{Member as MemberValue}
-use Rattle.kc_rules_model.proofs.RowTrees.{n, m, y, always, name, otherwise, plain, three_symbols, tree_a, tree_lifted, tree_pick, tree_shown_if, tree_menu}
-use Rattle.kc_dotconfig_model.specs.declared.format.Strings.TheVariants.{Escaped}
-use Rattle.kc_dotconfig_model.specs.Formats.{FileFormat}
+use Rattle.kc_rules_model.proofs.RowTrees.{always, name, otherwise, plain, three_symbols, tree_shown_if, tree_menu}
 use Rattle.kc_minimal_model.specs.SymbolLine.{symbol_line}
-use Rattle.kc_minimal_model.specs.FullFile.{heading, full_file}
 
 abbrev config : FileFormat
 config = record { prefix = codes "CONFIG_"; strings = Escaped }

@@ -1,24 +1,11 @@
 -- The headline, over the bytes of two files.
-use Rattle.std.proofs.Common.{◌≡◌, ℕ, true, List, length, subst, sym}
-use Rattle.kc_tree_model.specs.Trees.{Tree}
-use Rattle.kc_tree_model.specs.TreeFiles.{Files}
-use Rattle.kc_tree_model.specs.TreeLookup.{IsConsistent}
-use Rattle.kc_tree_model.specs.TreesOfFiles.{IsTreeOfFiles}
+use Rattle.kc_minimal_model.proofs.Common.{◌≡◌, ℕ, true, List, length, subst, sym, Tree, Files, IsConsistent, IsTreeOfFiles, tree_related, HasNoCycle, Profile, ordered_tree, solutions_fit, FileFormat, is_name_prefix, file_assignment, IsAccepted, AreComparedByMinimalFiles}
 use Rattle.kc_tree_model.proofs.Consistency.Consistent.{tree_is_consistent}
-use Rattle.kc_tree_model.proofs.ReadingLaws.TreesOfRelation.{tree_related}
-use Rattle.kc_system.specs.Dependencies.{HasNoCycle}
-use Rattle.kc_rules_model.specs.declared.profile.Profile.{Profile}
 use Rattle.kc_rules_model.specs.Dependencies.{dependencies}
 use Rattle.kc_rules_model.specs.SettledTrees.{IsSettledTree}
-use Rattle.kc_rules_model.proofs.OrderedTrees.{ordered_tree}
-use Rattle.kc_rules_model.proofs.SolutionsFit.{solutions_fit}
-use Rattle.kc_dotconfig_model.specs.Formats.{FileFormat}
-use Rattle.kc_dotconfig_model.specs.PrefixGrammar.{is_name_prefix}
-use Rattle.kc_dotconfig_model.specs.ConfigFiles.{file_assignment}
-use Rattle.kc_dotconfig_model.specs.LoadFaults.{IsAccepted}
 use Rattle.kc_dotconfig_model.proofs.AcceptedFiles.{accepted_read}
 use Rattle.kc_dotconfig_model.proofs.AcceptedLines.{accepted_utf8}
-use Rattle.kc_minimal_model.specs.Headline.{MinimalFilesAreCanonical, AreComparedByMinimalFiles, DifferencesDecideMinimalFiles, Headline}
+use Rattle.kc_minimal_model.specs.Headline.{MinimalFilesAreCanonical, DifferencesDecideMinimalFiles, Headline}
 use Rattle.kc_minimal_model.proofs.DifferenceLaws.{differences_are_exact}
 use Rattle.kc_minimal_model.proofs.Canonical.{fits_of, each, same_files}
 use Rattle.kc_minimal_model.proofs.MinimalTexts.{canonical_text}

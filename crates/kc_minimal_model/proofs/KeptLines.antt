@@ -1,36 +1,16 @@
 -- Each line of a minimal file is read as the assignment of its symbol's unit.
-use Rattle.std.proofs.Common.{◌≡◌, inl, inr, ℕ, ◌<◌, Bool, true, false, not, ◌==◌, cond, IsTrue, List, [], ◌∷◌, Option, Some, None, length, refl, sym, ◌∙◌, ap, subst}
-use Rattle.std.specs.Prelude.{slice_get}
-use Rattle.std.specs.Option.{option_map, option_and_then}
-use Rattle.std.proofs.lemmas.Bool.{cases_Bool, false≢true, and_parts, eqb-true}
-use Rattle.kc_value.specs.declared.tri.Tri.{Tri}
-use Rattle.kc_value.specs.declared.tri.Tri.TheVariants.{N, Y}
-use Rattle.kc_value.specs.declared.value.Kind.{Kind}
-use Rattle.kc_value.specs.declared.value.Kind.TheVariants.{Bool as Boolean, Tristate, Text, Int, Hex}
-use Rattle.kc_expr.specs.Expr.{SymbolValue}
-use Rattle.kc_tree_model.specs.Trees.{Tree, Symbol}
+use Rattle.kc_minimal_model.proofs.Common.{◌≡◌, inl, inr, ℕ, ◌<◌, Bool, true, false, not, ◌==◌, cond, IsTrue, List, [], ◌∷◌, Option, Some, None, length, refl, sym, ◌∙◌, ap, subst, slice_get, option_map, option_and_then, cases_Bool, false≢true, and_parts, eqb-true, Tri, N, Y, Kind, Tristate}
+use Rattle.kc_minimal_model.proofs.Common.{SymbolValue, Tree, Symbol, IsConsistent, unit_of, index_of_unit, Solves, FitsUsers, Profile, UnitValue, UserValue, Language, is_linux_6_12, is_n, is_tri_kind, value_of_symbol, value_in_unit, tri_symbol_value, tri_of, text_of, member_of, tri_if_selected}
+use Rattle.kc_minimal_model.proofs.Common.{as_user, member_user, unit_user_fits, symbol_user_fits, choice_user_fits, tri_fits, user_text_fits, FileFormat, is_name_prefix, LineMeaning, assigns, silent, Means, line_of_value, line_with, is_kept, has_line, may_have_line, is_line_of_its_unit, inside}
+use Rattle.kc_minimal_model.proofs.Common.{place_is, unit_is}
+use Rattle.kc_value.specs.declared.value.Kind.TheVariants.{Bool as Boolean}
 use Rattle.kc_tree_model.specs.declared.ids.Unit.TheVariants.{Symbol as of_symbol, Choice as of_choice}
-use Rattle.kc_tree_model.specs.TreeLookup.{IsConsistent, unit_of, index_of_unit}
-use Rattle.kc_system.specs.Solutions.{Solves, FitsUsers}
-use Rattle.kc_rules_model.specs.declared.profile.Profile.{Profile}
-use Rattle.kc_rules_model.specs.declared.values.UnitValue.{UnitValue}
 use Rattle.kc_rules_model.specs.declared.values.UnitValue.TheVariants.{Tri as TriValue, Text as TextValue, Member as MemberValue}
-use Rattle.kc_rules_model.specs.declared.values.UserValue.{UserValue}
 use Rattle.kc_rules_model.specs.declared.values.UserValue.TheVariants.{Tri as TriUser, Text as TextUser, Member as MemberUser, Lines as LinesUser}
-use Rattle.kc_tokens.specs.declared.language.Language.{Language}
-use Rattle.kc_tokens.specs.Languages.{is_linux_6_12}
-use Rattle.kc_rules_model.specs.Kinds.{is_n}
-use Rattle.kc_value.specs.Kinds.{is_tri_kind}
-use Rattle.kc_rules_model.specs.SymbolValues.{value_of_symbol, value_in_unit, tri_symbol_value, tri_of, text_of, member_of, tri_if_selected}
-use Rattle.kc_rules_model.specs.Rule.{rule, as_user, member_user}
-use Rattle.kc_rules_model.specs.Shapes.{user_fits, unit_user_fits, symbol_user_fits, choice_user_fits, tri_fits, user_text_fits}
-use Rattle.kc_dotconfig_model.specs.Formats.{FileFormat}
-use Rattle.kc_dotconfig_model.specs.PrefixGrammar.{is_name_prefix}
-use Rattle.kc_dotconfig_model.specs.ConfigLines.{LineMeaning, assigns, silent, Means}
-use Rattle.kc_minimal_model.specs.SymbolLine.{symbol_line, line_of_value, line_with}
-use Rattle.kc_minimal_model.specs.MinimalFile.{is_kept, has_line, may_have_line, is_line_of_its_unit}
+use Rattle.kc_rules_model.specs.Rule.{rule}
+use Rattle.kc_rules_model.specs.Shapes.{user_fits}
+use Rattle.kc_minimal_model.specs.SymbolLine.{symbol_line}
 use Rattle.kc_minimal_model.specs.MinimalFileLaws.{IsReadAsItsAssignment}
-use Rattle.kc_tree_model.proofs.Lookups.{inside, place_is, unit_is}
 use Rattle.kc_minimal_model.proofs.LineReads.{IsLine, tri_line, text_line, member_line}
 use Rattle.kc_minimal_model.proofs.KeptUnits.{KeptUnit, kept_unit}
 use Rattle.kc_minimal_model.proofs.MemberUsers.{chosen_member}
@@ -68,16 +48,12 @@ value_of_text language (MemberValue (Some a)) t e = go (is_linux_6_12 language) 
 pub tri_kind : (kind : Kind) (t : Tri) → tri_fits kind t ≡ true → is_tri_kind kind ≡ true
 tri_kind Boolean t e = refl
 tri_kind Tristate t e = refl
-tri_kind Text t e = absurd (false≢true e)
-tri_kind Int t e = absurd (false≢true e)
-tri_kind Hex t e = absurd (false≢true e)
+tri_kind _ t e = absurd (false≢true e)
 
 text_kind : (kind : Kind) (text : List ℕ) → user_text_fits kind text ≡ true → is_tri_kind kind ≡ false
 text_kind Boolean t e = absurd (false≢true e)
 text_kind Tristate t e = absurd (false≢true e)
-text_kind Text t e = refl
-text_kind Int t e = refl
-text_kind Hex t e = refl
+text_kind _ t e = refl
 
 module _ (format : FileFormat) (valid : is_name_prefix format.prefix ≡ true) (profile : Profile) (tree : Tree) (sound : IsConsistent tree)
     (users : List (Option UserValue)) (values : List UnitValue)
@@ -103,8 +79,7 @@ module _ (format : FileFormat) (valid : is_name_prefix format.prefix ≡ true) (
       ∙ ap (F (Some (TextValue text))) (text_kind symbol.kind text fits) in
       subst (λ e. IsLine format tree (line_with format symbol.name e) (assigns (unit_of tree s) (TextUser text))) (sym seen)
       (text_line format valid tree sound s symbol at symbol.kind text refl fits)
-  line_by_user s symbol at out held has (MemberUser m) assigned fits = absurd (false≢true fits)
-  line_by_user s symbol at out held has (LinesUser l) assigned fits = absurd (false≢true fits)
+  line_by_user s symbol at out held has _ assigned fits = absurd (false≢true fits)
 
   meaning : (u : ℕ) (k : KeptUnit tree values u) → assigns u k.again ≡ meant tree.language values u
   meaning u k = sym (ap (λ o. meaning_of_user u (option_and_then (as_user tree.language) o)) k.has ∙ ap (meaning_of_user u) k.assigned)

@@ -1,19 +1,9 @@
 -- Units whose value their rule doesn't give without a user value.
-use Rattle.std.proofs.Common.{◌≡◌, ◌≢◌, inl, inr, ℕ, ◌<◌, true, false, not, IsTrue, List, Option, Some, None, length, refl, sym, ◌∙◌, ap}
-use Rattle.std.specs.Prelude.{slice_get}
-use Rattle.std.proofs.lemmas.Bool.{cases_Bool, false≢true}
-use Rattle.kc_tree_model.specs.Trees.{Tree}
-use Rattle.kc_system.specs.Solutions.{user_of, Solves, FitsUsers}
-use Rattle.kc_system.specs.LeastAssignments.{IsKept}
-use Rattle.kc_rules_model.specs.declared.profile.Profile.{Profile}
-use Rattle.kc_rules_model.specs.declared.values.UnitValue.{UnitValue}
-use Rattle.kc_rules_model.specs.declared.values.UserValue.{UserValue}
-use Rattle.kc_rules_model.specs.Rule.{rule, as_user}
+use Rattle.kc_minimal_model.proofs.Common.{◌≡◌, ◌≢◌, inl, inr, ℕ, ◌<◌, true, false, not, IsTrue, List, Option, Some, None, length, refl, sym, ◌∙◌, ap, slice_get, cases_Bool, false≢true, Tree, user_of, Solves, FitsUsers, IsKept, Profile, UnitValue, UserValue, as_user, same_value, values_decided}
+use Rattle.kc_minimal_model.proofs.Common.{rules_restore, is_kept}
+use Rattle.kc_rules_model.specs.Rule.{rule}
 use Rattle.kc_rules_model.specs.Shapes.{user_fits}
-use Rattle.kc_rules_model.specs.Equality.{same_value, value_is}
-use Rattle.kc_rules_model.specs.checker.EqualityLaws.{values_decided}
-use Rattle.kc_rules_model.specs.checker.RestoreLaw.{rules_restore}
-use Rattle.kc_minimal_model.specs.MinimalFile.{is_kept}
+use Rattle.kc_rules_model.specs.Equality.{value_is}
 
 -- the unit has a value, which a user value represents that fits the unit
 pub record KeptUnit (tree : Tree) (values : List UnitValue) (u : ℕ) : Type 0 where

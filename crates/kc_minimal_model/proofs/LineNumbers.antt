@@ -1,25 +1,10 @@
 -- Some lines of a minimal file, by their numbers, are the lines of some symbols.
-use Rattle.std.proofs.Common.{◌≡◌, inl, inr, ℕ, zero, suc, ◌+◌, ◌<◌, ◌≤◌, Bool, true, false, ◌==◌, cond, IsTrue, List, [], ◌∷◌, ◌++◌, Option, Some, length, map, filter, refl, sym, ap, ◌∙◌, arith}
-use Rattle.std.specs.Prelude.{slice_get}
-use Rattle.std.specs.List.{flat_map, range_with_len}
-use Rattle.std.proofs.lemmas.Bool.{cases_Bool, eqb-true, eq-eqb}
-use Rattle.std.proofs.lemmas.List.{length-map}
-use Rattle.kc_tree_model.specs.Trees.{Tree}
-use Rattle.kc_tree_model.specs.TreeLookup.{IsConsistent}
-use Rattle.kc_system.specs.Solutions.{Solves, FitsUsers}
-use Rattle.kc_system.proofs.Lists.{get-some}
-use Rattle.kc_rules_model.specs.declared.profile.Profile.{Profile}
-use Rattle.kc_rules_model.specs.declared.values.UnitValue.{UnitValue}
-use Rattle.kc_rules_model.specs.declared.values.UserValue.{UserValue}
+use Rattle.kc_minimal_model.proofs.Common.{◌≡◌, inl, inr, ℕ, zero, suc, ◌+◌, ◌<◌, ◌≤◌, Bool, true, false, ◌==◌, cond, IsTrue, List, [], ◌∷◌, ◌++◌, Option, Some, length, map, filter, refl, sym, ap, ◌∙◌, arith, slice_get, flat_map, range_with_len, cases_Bool, eqb-true, eq-eqb, length-map, Tree}
+use Rattle.kc_minimal_model.proofs.Common.{IsConsistent, Solves, FitsUsers, get-some, Profile, UnitValue, UserValue, symbol_numbers, FileFormat, is_name_prefix, file_lines, ended_line, has_line, minimal_symbols, minimal_file, with_lines}
 use Rattle.kc_rules_model.specs.Rule.{rule}
 use Rattle.kc_rules_model.specs.Shapes.{user_fits}
-use Rattle.kc_rules_model.specs.Reports.{symbol_numbers}
-use Rattle.kc_dotconfig_model.specs.Formats.{FileFormat}
-use Rattle.kc_dotconfig_model.specs.PrefixGrammar.{is_name_prefix}
-use Rattle.kc_dotconfig_model.specs.ConfigFiles.{file_lines}
-use Rattle.kc_minimal_model.specs.SymbolLine.{symbol_line, ended_line}
-use Rattle.kc_minimal_model.specs.MinimalFile.{has_line, minimal_symbols, minimal_file}
-use Rattle.kc_minimal_model.specs.CanonicalText.{at_numbers, with_lines}
+use Rattle.kc_minimal_model.specs.SymbolLine.{symbol_line}
+use Rattle.kc_minimal_model.specs.CanonicalText.{at_numbers}
 use Rattle.kc_minimal_model.proofs.FileAcceptance.{passes_at}
 use Rattle.kc_minimal_model.proofs.Canonical.{symbol_lines}
 use Rattle.kc_minimal_model.proofs.LeastFile.{passes_filter}

@@ -1,48 +1,20 @@
 -- A minimal file of an accepted file passes no limit but the size.
-use Rattle.std.proofs.Common.{◌≡◌, ◌⊎◌, inl, inr, ℕ, ◌+◌, ◌<◌, ◌≤◌, Bool, true, false, ◌&&◌, ℤ, unwrap_or, IsTrue, cond, List, [], ◌∷◌, ◌++◌, Option, Some, None, length, IsUtf8, refl, sym, ap, ◌∙◌, subst, arith, length-append}
-use Rattle.std.specs.Prelude.{slice_get, is_some, nat_le}
-use Rattle.std.specs.Option.{option_map}
-use Rattle.std.specs.List.{list_all}
-use Rattle.std.proofs.lemmas.Bool.{and_parts, and_from, cases_Bool, false≢true, le-leb, leb-true}
+use Rattle.std.proofs.Common.{ℤ, IsUtf8}
+use Rattle.kc_minimal_model.proofs.Common.{◌≡◌, ◌⊎◌, inl, inr, ℕ, ◌+◌, ◌<◌, ◌≤◌, Bool, true, false, ◌&&◌, unwrap_or, IsTrue, cond, List, [], ◌∷◌, ◌++◌, Option, Some, None, length, refl, sym, ap, ◌∙◌, subst, arith, length-append, slice_get, is_some, nat_le, option_map, list_all, and_parts, and_from}
+use Rattle.kc_minimal_model.proofs.Common.{cases_Bool, false≢true, leb-true, and-false, N, Kind, Text, Int, Hex, number_of_text, is_number, is_linux_6_12, moves_user_values, number_ink, SymbolValue, Tree, Symbol, IsConsistent, unit_of, index_of_unit, user_of, FitsUsers, Profile, UnitValue}
+use Rattle.kc_minimal_model.proofs.Common.{UserValue, is_tri_kind, value_of_symbol, value_in_unit, tri_symbol_value, tri_of, text_of, member_of, tri_if_selected, as_user, unit_user_fits, symbol_user_fits, user_text_fits, symbol_numbers, inside, unit_is, quoted_utf8, Strings, Escaped, Raw}
+use Rattle.kc_minimal_model.proofs.Common.{FileFormat, string_spelling, IsStringSpelling, is_name_prefix, without_white_end, file_lines, file_assignment, empty_assignment, MAX_CONFIG_LINES, MAX_LINE_BYTES, IsAccepted, file_fits, spelled, line_of_value, line_with, is_kept, has_line, may_have_line}
+use Rattle.kc_minimal_model.proofs.Common.{minimal_symbols, IsOrderedTree, ordered_tree, ReadsTo, low_utf8, name_utf8, ascii_alone, none_held, none_length}
+use Rattle.std.proofs.lemmas.Bool.{le-leb}
 use Rattle.std.proofs.lemmas.List.FromFn.{length-range_with_len}
-use Rattle.kc_value.specs.declared.tri.Tri.TheVariants.{N}
-use Rattle.kc_value.specs.declared.value.Kind.{Kind}
-use Rattle.kc_value.specs.declared.value.Kind.TheVariants.{Bool as Boolean, Tristate, Text, Int, Hex}
-use Rattle.kc_value.specs.Number.{number_of_text, int_text, hex_text}
-use Rattle.kc_value.specs.Kinds.{is_number}
-use Rattle.kc_tokens.specs.Languages.{is_linux_6_12}
-use Rattle.kc_rules_model.specs.RuleLaws.{moves_user_values}
-use Rattle.kc_rules_model.proofs.Numbers.{number_ink}
-use Rattle.kc_expr.specs.Expr.{SymbolValue}
-use Rattle.kc_tree_model.specs.Trees.{Tree, Symbol}
+use Rattle.kc_value.specs.declared.value.Kind.TheVariants.{Bool as Boolean}
+use Rattle.kc_value.specs.Number.{int_text, hex_text}
 use Rattle.kc_tree_model.specs.declared.ids.Unit.TheVariants.{Symbol as of_symbol, Choice as of_choice}
-use Rattle.kc_tree_model.specs.TreeLookup.{IsConsistent, unit_of, index_of_unit}
-use Rattle.kc_system.specs.Solutions.{user_of, FitsUsers}
-use Rattle.kc_rules_model.specs.declared.profile.Profile.{Profile}
-use Rattle.kc_rules_model.specs.declared.values.UnitValue.{UnitValue}
 use Rattle.kc_rules_model.specs.declared.values.UnitValue.TheVariants.{Text as TextValue}
-use Rattle.kc_rules_model.specs.declared.values.UserValue.{UserValue}
-use Rattle.kc_rules_model.specs.declared.values.UserValue.TheVariants.{Tri as TriUser, Text as TextUser, Member as MemberUser, Lines as LinesUser}
-use Rattle.kc_value.specs.Kinds.{is_tri_kind}
-use Rattle.kc_rules_model.specs.SymbolValues.{value_of_symbol, value_in_unit, tri_symbol_value, tri_of, text_of, member_of, tri_if_selected}
-use Rattle.kc_rules_model.specs.Rule.{as_user}
-use Rattle.kc_rules_model.specs.Shapes.{user_fits, unit_user_fits, symbol_user_fits, user_text_fits}
-use Rattle.kc_rules_model.specs.Reports.{symbol_numbers}
-use Rattle.kc_tree_model.proofs.Lookups.{inside, unit_is}
-use Rattle.kc_value.proofs.QuotedUtf8.{quoted_utf8}
-use Rattle.kc_dotconfig_model.specs.declared.format.Strings.{Strings}
-use Rattle.kc_dotconfig_model.specs.declared.format.Strings.TheVariants.{Escaped, Raw}
-use Rattle.kc_dotconfig_model.specs.Formats.{FileFormat, string_spelling, IsStringSpelling}
-use Rattle.kc_dotconfig_model.specs.PrefixGrammar.{is_name_prefix}
-use Rattle.kc_tree_model.specs.LogicalLines.{without_white_end}
-use Rattle.kc_dotconfig_model.specs.ConfigFiles.{file_lines, file_assignment, empty_assignment}
-use Rattle.kc_value.specs.declared.limits.TheConstants.{MAX_CONFIG_LINES, MAX_LINE_BYTES, MAX_NAME_BYTES, MAX_NUMBER_BYTES, MAX_PREFIX_BYTES}
-use Rattle.kc_dotconfig_model.specs.LoadFaults.{IsAccepted}
-use Rattle.kc_dotconfig_model.proofs.FittingFiles.{file_fits}
-use Rattle.kc_minimal_model.specs.SymbolLine.{spelled, symbol_line, line_of_value, line_with}
-use Rattle.kc_minimal_model.specs.MinimalFile.{is_kept, has_line, may_have_line, minimal_symbols}
-use Rattle.kc_rules_model.proofs.OrderedTrees.{IsOrderedTree, ordered_tree}
-use Rattle.kc_minimal_model.specs.FileValues.{ReadsTo}
+use Rattle.kc_rules_model.specs.declared.values.UserValue.TheVariants.{Tri as TriUser, Text as TextUser}
+use Rattle.kc_rules_model.specs.Shapes.{user_fits}
+use Rattle.kc_value.specs.declared.limits.TheConstants.{MAX_NUMBER_BYTES}
+use Rattle.kc_minimal_model.specs.SymbolLine.{symbol_line}
 use Rattle.kc_minimal_model.specs.FileLimits.{MinimalFilesAreAccepted}
 use Rattle.kc_minimal_model.proofs.FileAcceptance.{accepted_symbols, filter_shorter}
 use Rattle.kc_minimal_model.proofs.Canonical.{reads_back}
@@ -51,10 +23,10 @@ use Rattle.kc_dotconfig_model.proofs.AssigningLines.{HasAssigningLine, assigning
 use Rattle.kc_minimal_model.proofs.FittingLines.{IsFitLine, prefix_fits, tri_fits_line, text_fits_line}
 use Rattle.kc_minimal_model.proofs.KeptLines.{value_of_text, tri_kind}
 use Rattle.kc_minimal_model.proofs.KeptUnits.{kept_unit}
-use Rattle.kc_minimal_model.proofs.LeastFile.{none_held, none_length, passes_filter}
+use Rattle.kc_minimal_model.proofs.LeastFile.{passes_filter}
 use Rattle.kc_minimal_model.proofs.NeededUnits.{needs_values}
-use Rattle.kc_dotconfig_model.proofs.TrimmedLines.{low_utf8, name_utf8, trimmed_utf8, trimmed_no_longer}
-use Rattle.kc_value.proofs.UnquotedUtf8.{ascii_alone, utf8_after, unquoted_utf8, quoted_no_longer}
+use Rattle.kc_dotconfig_model.proofs.TrimmedLines.{trimmed_utf8, trimmed_no_longer}
+use Rattle.kc_value.proofs.UnquotedUtf8.{utf8_after, unquoted_utf8, quoted_no_longer}
 
 abbrev TextStands : Strings → Symbol → List ℕ → List ℕ → Type 0
 TextStands strings symbol text means = (IsStringSpelling strings text means × (symbol.kind ≡ Text))
@@ -65,11 +37,8 @@ not_bool strings symbol text means (inl q) e = let is = q.1 in cc
 not_bool strings symbol text means (inr n) e = false≢true (sym (ap (λ k. is_some (number_of_text k text)) e) ∙ n.1)
 
 number_spelled : (strings : Strings) (kind : Kind) (text : List ℕ) → is_some (number_of_text kind text) ≡ true → spelled strings kind text ≡ text
-number_spelled strings Boolean text e = refl
-number_spelled strings Tristate text e = refl
 number_spelled strings Text text e = absurd (false≢true e)
-number_spelled strings Int text e = refl
-number_spelled strings Hex text e = refl
+number_spelled strings _ text e = refl
 
 string_no_longer : (strings : Strings) (text means : List ℕ) → IsStringSpelling strings text means → IsUtf8 text
     → (length (string_spelling strings means) ≤ length text) × IsUtf8 (string_spelling strings means)
@@ -86,10 +55,6 @@ spelled_no_longer strings kind symbol text means is (inr n) u =
     let same : spelled strings kind means ≡ text = ap (spelled strings kind) (sym n.0) ∙ number_spelled strings kind text
     (ap (λ k. is_some (number_of_text k text)) (sym is) ∙ n.1) in
     subst (λ l. (length l ≤ length text) × IsUtf8 l) (sym same) (omega arith, u)
-
-and_nothing : (b : Bool) → (b && false) ≡ false
-and_nothing true = refl
-and_nothing false = refl
 
 if_short : (n : ℕ) (o : Option ℤ) → is_some (cond (nat_le n MAX_NUMBER_BYTES) o None) ≡ true → n ≤ MAX_NUMBER_BYTES
 if_short n o some = go (nat_le n MAX_NUMBER_BYTES) refl some where
@@ -109,15 +74,11 @@ text_held : (tree : Tree) (symbol : Symbol) (held : UnitValue) (again : UserValu
     → symbol_user_fits (Some symbol) again ≡ true → (text : List ℕ) × (held ≡ TextValue text)
 text_held tree symbol held (TriUser t) large e fits = absurd (false≢true (sym large ∙ tri_kind symbol.kind t fits))
 text_held tree symbol held (TextUser text) large e fits = (text, value_of_text tree.language held text e)
-text_held tree symbol held (MemberUser m) large e fits = absurd (false≢true fits)
-text_held tree symbol held (LinesUser l) large e fits = absurd (false≢true fits)
+text_held tree symbol held _ large e fits = absurd (false≢true fits)
 
 module _ (format : FileFormat) (profile : Profile) (tree : Tree) (bytes : List ℕ) (values : List UnitValue) (valid : is_name_prefix format.prefix ≡ true)
     (settled : IsOrderedTree tree)
     (accepted : IsAccepted format tree bytes) (reads : ReadsTo format profile tree bytes values) where
-  abbrev held_users : List (Option UserValue)
-  held_users = file_assignment tree reads.meanings
-
   fitting : FitsUsers (length tree.units) (λ u x. IsTrue (user_fits tree u x)) (file_assignment tree reads.meanings)
   fitting = file_fits format tree bytes reads.meanings settled.consistent reads.utf8 reads.has_meaning
 
@@ -199,16 +160,15 @@ module _ (format : FileFormat) (profile : Profile) (tree : Tree) (bytes : List �
     by_kind : (kind : Kind) → symbol.kind ≡ kind → user_text_fits kind text ≡ true
         → (length format.prefix + length symbol.name + 1 + length (spelled format.strings symbol.kind text) ≤ MAX_LINE_BYTES)
         × IsUtf8 (spelled format.strings symbol.kind text)
-    by_kind Boolean is fits = absurd (false≢true fits)
-    by_kind Tristate is fits = absurd (false≢true fits)
     by_kind Int is fits = a_number Int is fits (int_short text fits) refl
     by_kind Hex is fits = a_number Hex is fits (hex_short text fits) refl
     by_kind Text is fits =
         let stays : moves_user_values tree (slice_get tree.units (unit_of tree s)) ≡ false =
         ap (moves_user_values tree) here ∙ ap (λ o. is_linux_6_12 tree.language && unwrap_or (option_map (λ (x : Symbol). is_number x.kind) o) false) at
-        ∙ ap (λ k. is_linux_6_12 tree.language && is_number k) is ∙ and_nothing (is_linux_6_12 tree.language) in
+        ∙ ap (λ k. is_linux_6_12 tree.language && is_number k) is ∙ and-false (is_linux_6_12 tree.language) in
         text_is_short s symbol text at out below
         ((needs_values profile tree (file_assignment tree reads.meanings) values settled fitting reads.gives.solves s (TextValue text) has holds refl).0 stays)
+    by_kind _ is fits = absurd (false≢true fits)
 
   outside_line : (s : ℕ) (symbol : Symbol) → slice_get tree.symbols s ≡ Some symbol → symbol.choice ≡ None → has_line profile tree values s ≡ true
       → is_kept profile tree values (unit_of tree s) ≡ true

@@ -1,25 +1,11 @@
 -- The lines of a minimal file are the lines of its symbols.
-use Rattle.std.proofs.Common.{◌≡◌, ℕ, true, IsTrue, List, [], ◌∷◌, Option, length, map, refl, ◌∙◌, ap, append_assoc}
-use Rattle.std.specs.List.{list_all, flat_map}
-use Rattle.std.proofs.lemmas.Bool.{and_parts, and_from}
+use Rattle.kc_minimal_model.proofs.Common.{◌≡◌, ℕ, true, IsTrue, List, [], ◌∷◌, Option, length, map, refl, ◌∙◌, ap, append_assoc, list_all, flat_map, and_parts, and_from, is_utf8-from_IsUtf8, Tree, IsConsistent, Solves, FitsUsers, Profile, UnitValue, UserValue, symbol_numbers, FileFormat}
+use Rattle.kc_minimal_model.proofs.Common.{is_name_prefix, file_lines, has_utf8_lines, ended_line, has_line, minimal_symbols, minimal_file, first_of_lines}
 use Rattle.std.specs.Str.{is_utf8}
-use Rattle.std.proofs.lemmas.Str.{is_utf8-from_IsUtf8}
-use Rattle.kc_tree_model.specs.Trees.{Tree}
-use Rattle.kc_tree_model.specs.TreeLookup.{IsConsistent}
-use Rattle.kc_system.specs.Solutions.{Solves, FitsUsers}
-use Rattle.kc_rules_model.specs.declared.profile.Profile.{Profile}
-use Rattle.kc_rules_model.specs.declared.values.UnitValue.{UnitValue}
-use Rattle.kc_rules_model.specs.declared.values.UserValue.{UserValue}
 use Rattle.kc_rules_model.specs.Rule.{rule}
 use Rattle.kc_rules_model.specs.Shapes.{user_fits}
-use Rattle.kc_rules_model.specs.Reports.{symbol_numbers}
-use Rattle.kc_dotconfig_model.specs.Formats.{FileFormat}
-use Rattle.kc_dotconfig_model.specs.PrefixGrammar.{is_name_prefix}
-use Rattle.kc_dotconfig_model.specs.ConfigFiles.{file_lines, has_utf8_lines}
-use Rattle.kc_minimal_model.specs.SymbolLine.{symbol_line, ended_line}
-use Rattle.kc_minimal_model.specs.MinimalFile.{has_line, minimal_symbols, minimal_file}
+use Rattle.kc_minimal_model.specs.SymbolLine.{symbol_line}
 use Rattle.kc_minimal_model.specs.FileLimits.{MinimalFileLines}
-use Rattle.kc_minimal_model.proofs.Bytes.{first_line}
 use Rattle.kc_minimal_model.proofs.KeptLines.{line_reads}
 use Rattle.kc_minimal_model.proofs.LeastFile.{passes_filter}
 
@@ -35,7 +21,7 @@ module _ (format : FileFormat) (valid : is_name_prefix format.prefix ≡ true) (
       let rest = flat_map (ended_line format tree values) xs in
       let parts = and_parts (has_line profile tree values s) (list_all (has_line profile tree values) xs) all in
       let line = line_reads format valid profile tree sound users values fitting solved s parts.0 in
-      ap file_lines (append_assoc (symbol_line format tree values s) (10 ∷ []) rest) ∙ first_line (symbol_line format tree values s) rest line.one
+      ap file_lines (append_assoc (symbol_line format tree values s) (10 ∷ []) rest) ∙ first_of_lines (symbol_line format tree values s) rest line.one
       ∙ ap (λ ls. symbol_line format tree values s ∷ ls) (lines_of_symbols xs parts.1)
 
   -- and are UTF-8

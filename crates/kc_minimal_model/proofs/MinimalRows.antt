@@ -1,15 +1,9 @@
 -- Minimal files of small trees.
-use Rattle.std.proofs.Common.{◌≡◌, ℕ, [], ◌∷◌, Some, refl}
-use Rattle.std.specs.Prelude.{codes}
-use Rattle.kc_rules_model.specs.declared.profile.Profile.TheVariants.{Present}
-use Rattle.kc_rules_model.specs.declared.values.UnitValue.{UnitValue}
+use Rattle.kc_minimal_model.proofs.Common.{◌≡◌, ℕ, [], ◌∷◌, Some, refl, codes, Present, UnitValue, n, m, y, tree_a, tree_lifted, tree_pick, Escaped, FileFormat, minimal_file}
 use Rattle.kc_rules_model.specs.declared.values.UnitValue.TheVariants.{Member as MemberValue}
 use Rattle.kc_rules_model.specs.Rule.{rule}
-use Rattle.kc_rules_model.proofs.RowTrees.{n, m, y, text, tree_a, tree_default_y, tree_default_n, tree_lifted, tree_string, tree_pick, tree_chain, tree_hidden}
-use Rattle.kc_dotconfig_model.specs.declared.format.Strings.TheVariants.{Escaped}
-use Rattle.kc_dotconfig_model.specs.Formats.{FileFormat}
+use Rattle.kc_rules_model.proofs.RowTrees.{text, tree_default_y, tree_default_n, tree_string, tree_chain, tree_hidden}
 use Rattle.kc_minimal_model.specs.SymbolLine.{symbol_line}
-use Rattle.kc_minimal_model.specs.MinimalFile.{minimal_file}
 
 abbrev config : FileFormat
 config = record { prefix = codes "CONFIG_"; strings = Escaped }

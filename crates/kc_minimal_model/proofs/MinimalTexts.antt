@@ -1,28 +1,12 @@
 -- The minimal file of the values of any fitting assignment is canonical.
-use Rattle.std.proofs.Common.{◌≡◌, ◌↔◌, ℕ, ◌<◌, ◌≤◌, Bool, true, false, IsTrue, List, Option, length, filter, refl, sym, ap, subst, arith}
-use Rattle.std.specs.List.{list_all}
-use Rattle.kc_tree_model.specs.Trees.{Tree}
-use Rattle.kc_system.specs.Solutions.{FitsUsers, Solves}
-use Rattle.kc_rules_model.specs.declared.profile.Profile.{Profile}
-use Rattle.kc_rules_model.specs.declared.values.UnitValue.{UnitValue}
-use Rattle.kc_rules_model.specs.declared.values.UserValue.{UserValue}
+use Rattle.kc_minimal_model.proofs.Common.{◌≡◌, ◌↔◌, ℕ, ◌<◌, ◌≤◌, Bool, true, false, IsTrue, List, Option, length, filter, refl, sym, ap, subst, arith, list_all, Tree, FitsUsers, Solves, Profile, UnitValue, UserValue, value_of_symbol, symbol_numbers, FileFormat, is_name_prefix, MAX_CONFIG_BYTES}
+use Rattle.kc_minimal_model.proofs.Common.{IsAccepted, ended_line, has_line, minimal_symbols, minimal_file, ReadsTo, HaveSameValues, DifferAtASymbol, has_short_lines, with_lines, IsOrderedTree, ordered_tree, file_lines, file_assignment, solutions_fit}
 use Rattle.kc_rules_model.specs.Rule.{rule}
-use Rattle.kc_rules_model.specs.SymbolValues.{value_of_symbol}
 use Rattle.kc_rules_model.specs.Shapes.{user_fits}
-use Rattle.kc_rules_model.specs.Reports.{symbol_numbers}
-use Rattle.kc_dotconfig_model.specs.Formats.{FileFormat}
-use Rattle.kc_dotconfig_model.specs.PrefixGrammar.{is_name_prefix}
-use Rattle.kc_value.specs.declared.limits.TheConstants.{MAX_CONFIG_BYTES}
-use Rattle.kc_dotconfig_model.specs.LoadFaults.{IsAccepted}
-use Rattle.kc_minimal_model.specs.SymbolLine.{ended_line}
-use Rattle.kc_minimal_model.specs.MinimalFile.{has_line, minimal_symbols, minimal_file}
-use Rattle.kc_minimal_model.specs.FileValues.{ReadsTo, Loads, HaveSameValues, DifferAtASymbol, has_short_lines}
-use Rattle.kc_minimal_model.specs.CanonicalText.{with_lines, IsCanonicalText, MinimalTextsAreCanonical}
-use Rattle.kc_rules_model.proofs.OrderedTrees.{IsOrderedTree, ordered_tree}
+use Rattle.kc_minimal_model.specs.FileValues.{Loads}
+use Rattle.kc_minimal_model.specs.CanonicalText.{IsCanonicalText, MinimalTextsAreCanonical}
 use Rattle.kc_minimal_model.proofs.LeastFile.{passes_filter}
 use Rattle.kc_minimal_model.proofs.Canonical.{symbol_lines, all_of_filter, some_have_lines, fits_of, one, reads_back, same_files, needed}
-use Rattle.kc_dotconfig_model.specs.ConfigFiles.{file_lines, file_assignment}
-use Rattle.kc_rules_model.proofs.SolutionsFit.{solutions_fit}
 use Rattle.kc_minimal_model.proofs.DifferingSymbols.{same_values, differ_somewhere}
 use Rattle.kc_minimal_model.proofs.NeededUnits.{needs_units, needs_values}
 use Rattle.kc_minimal_model.proofs.FilesAssign.{assigns_lines}

@@ -1,30 +1,13 @@
 -- Of an assignment just the units that have a line in the minimal file are needed.
-use Rattle.std.proofs.Common.{◌≡◌, ◌↔◌, inl, inr, ℕ, ◌<◌, Bool, true, false, ◌==◌, cond, IsTrue, List, [], ◌∷◌, Option, Some, length, filter, refl, sym, ◌∙◌, ap}
-use Rattle.std.specs.Prelude.{slice_get}
-use Rattle.std.specs.List.{list_any}
-use Rattle.std.proofs.lemmas.Bool.{false≢true, and_parts, or_cases, eqb-true}
-use Rattle.kc_tree_model.specs.Trees.{Tree}
-use Rattle.kc_tree_model.specs.TreeLookup.{unit_of}
-use Rattle.kc_system.specs.Solutions.{user_of, Solves, UniquelySolves, FitsUsers}
-use Rattle.kc_system.specs.LeastAssignments.{IsKept, IsCutTo}
-use Rattle.kc_system.proofs.Least.{cut_gives}
-use Rattle.kc_rules_model.specs.declared.profile.Profile.{Profile}
-use Rattle.kc_rules_model.specs.declared.values.UnitValue.{UnitValue}
-use Rattle.kc_rules_model.specs.declared.values.UserValue.{UserValue}
-use Rattle.kc_rules_model.specs.SymbolValues.{value_of_symbol}
-use Rattle.kc_rules_model.specs.Rule.{rule, as_user}
+use Rattle.kc_minimal_model.proofs.Common.{◌≡◌, ◌↔◌, inl, inr, ℕ, ◌<◌, Bool, true, false, ◌==◌, cond, IsTrue, List, [], ◌∷◌, Option, Some, length, filter, refl, sym, ◌∙◌, ap, slice_get, list_any, false≢true, and_parts, or_cases, eqb-true, Tree, unit_of, user_of, Solves, FitsUsers, IsKept, IsCutTo}
+use Rattle.kc_minimal_model.proofs.Common.{Profile, UnitValue, UserValue, value_of_symbol, as_user, symbol_numbers, rules_frame, Escaped, FileFormat, is_name_prefix, is_kept, has_line, may_have_line, IsOrderedTree, HasUnitsOfLines, HasValuesOfLines}
+use Rattle.kc_solver.specs.Solutions.{UniquelySolves}
+use Rattle.kc_solver.proofs.Least.{cut_gives}
+use Rattle.kc_rules_model.specs.Rule.{rule}
 use Rattle.kc_rules_model.specs.Dependencies.{dependencies}
 use Rattle.kc_rules_model.specs.Shapes.{user_fits}
-use Rattle.kc_rules_model.specs.Reports.{symbol_numbers}
 use Rattle.kc_rules_model.specs.RuleLaws.{is_tri_value}
-use Rattle.kc_rules_model.specs.checker.FrameLaw.{rules_frame}
 use Rattle.kc_rules_model.proofs.AssignedTexts.{texts_assigned}
-use Rattle.kc_dotconfig_model.specs.declared.format.Strings.TheVariants.{Escaped}
-use Rattle.kc_dotconfig_model.specs.Formats.{FileFormat}
-use Rattle.kc_dotconfig_model.specs.PrefixGrammar.{is_name_prefix}
-use Rattle.kc_minimal_model.specs.MinimalFile.{is_kept, has_line, may_have_line}
-use Rattle.kc_rules_model.proofs.OrderedTrees.{IsOrderedTree}
-use Rattle.kc_minimal_model.specs.CanonicalText.{HasUnitsOfLines, HasValuesOfLines}
 use Rattle.kc_minimal_model.proofs.KeptUnits.{kept_unit, kept_passes, others_fail}
 use Rattle.kc_minimal_model.proofs.KeptLines.{unit_inside}
 use Rattle.kc_minimal_model.proofs.LeastFile.{speaks_at, unit_there}

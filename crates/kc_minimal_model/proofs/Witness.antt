@@ -1,7 +1,8 @@
 -- The headline's premises hold of a tree and files read from bytes.
-use Rattle.std.proofs.Common.{◌≡◌, true, ℕ, List, [], ◌∷◌, Some, None, refl, sym, ◌-◌, length, Contains, arith, ap, subst, ◌∙◌}
-use Rattle.kc_system.proofs.Lists.{get-some, get_from_Contains}
-use Rattle.std.specs.Prelude.{codes}
+use Rattle.std.proofs.Common.{Contains}
+use Rattle.kc_solver.proofs.Lists.{get_from_Contains}
+use Rattle.kc_minimal_model.proofs.Common.{◌≡◌, true, ℕ, List, [], ◌∷◌, Some, None, refl, sym, ◌-◌, length, arith, ap, subst, ◌∙◌, get-some, codes, Files, Tree, IsTreeOfFiles, tree_related, HasNoCycle, Present, Y, Escaped, FileFormat, assigns, file_lines, has_utf8_lines, IsAccepted, file_read}
+use Rattle.kc_minimal_model.proofs.Common.{AreComparedByMinimalFiles}
 use Rattle.std.specs.Str.{is_utf8, chars}
 use Rattle.kc_tokens.specs.Token.{next_token}
 use Rattle.kc_expr.specs.Grammar.{read_expr}
@@ -11,23 +12,10 @@ use Rattle.kc_tree_model.specs.Limits.{source_fault}
 use Rattle.kc_tree_model.specs.TreeReading.{statement_on_line, reading}
 use Rattle.kc_tree_model.specs.Contents.{tree_of_groups, tree_of_files}
 use Rattle.kc_tree_model.specs.TreeFaults.{tree_faults, first_tree_fault}
-use Rattle.kc_tree_model.specs.TreeFiles.{Files, strict_files}
-use Rattle.kc_tree_model.specs.Trees.{Tree}
-use Rattle.kc_tree_model.specs.TreesOfFiles.{IsTreeOfFiles}
-use Rattle.kc_tree_model.proofs.ReadingLaws.TreesOfRelation.{tree_related}
-use Rattle.kc_system.specs.Dependencies.{HasNoCycle}
+use Rattle.kc_tree_model.specs.TreeFiles.{strict_files}
 use Rattle.kc_rules_model.specs.Dependencies.{dependencies}
-use Rattle.kc_rules_model.specs.declared.profile.Profile.TheVariants.{Present}
 use Rattle.kc_rules_model.specs.declared.values.UserValue.TheVariants.{Tri as TriUser}
-use Rattle.kc_value.specs.declared.tri.Tri.TheVariants.{Y}
-use Rattle.kc_dotconfig_model.specs.declared.format.Strings.TheVariants.{Escaped}
-use Rattle.kc_dotconfig_model.specs.Formats.{FileFormat}
-use Rattle.kc_dotconfig_model.specs.ConfigLines.{assigns}
-use Rattle.kc_dotconfig_model.specs.ConfigFiles.{file_lines, has_utf8_lines}
-use Rattle.kc_dotconfig_model.specs.LoadFaults.{IsAccepted}
 use Rattle.kc_dotconfig_model.specs.between.LineMeanings.{line_meaning, file_meanings}
-use Rattle.kc_dotconfig_model.proofs.LineLaws.{file_read}
-use Rattle.kc_minimal_model.specs.Headline.{AreComparedByMinimalFiles}
 use Rattle.kc_minimal_model.proofs.FileAcceptance.{accepted_within}
 use Rattle.kc_minimal_model.proofs.Headlines.{headline}
 

@@ -3,8 +3,8 @@ use Rattle.std.specs.Prelude.{◌≡◌, ◌≢◌, ◌↔◌, ℕ, ◌+◌, ◌
 use Rattle.std.specs.List.{list_any, flat_map}
 use Rattle.kc_tree_model.specs.Trees.{Tree}
 use Rattle.kc_tree_model.specs.TreeLookup.{unit_of}
-use Rattle.kc_system.specs.Solutions.{user_of, Solves, UniquelySolves, FitsUsers}
-use Rattle.kc_system.specs.LeastAssignments.{IsCutTo}
+use Rattle.kc_solver.specs.Solutions.{user_of, Solves, UniquelySolves, FitsUsers}
+use Rattle.kc_solver.specs.LeastAssignments.{IsCutTo}
 use Rattle.kc_rules_model.specs.declared.profile.Profile.{Profile}
 use Rattle.kc_rules_model.specs.declared.values.UnitValue.{UnitValue}
 use Rattle.kc_rules_model.specs.declared.values.UserValue.{UserValue}

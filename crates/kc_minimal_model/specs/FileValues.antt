@@ -2,7 +2,7 @@
 use Rattle.std.specs.Prelude.{◌≡◌, ◌≢◌, ℕ, Bool, true, nat_le, List, length}
 use Rattle.std.specs.List.{list_all}
 use Rattle.kc_tree_model.specs.Trees.{Tree}
-use Rattle.kc_system.specs.Solutions.{UniquelySolves}
+use Rattle.kc_solver.specs.Solutions.{UniquelySolves}
 use Rattle.kc_rules_model.specs.declared.profile.Profile.{Profile}
 use Rattle.kc_rules_model.specs.declared.values.UnitValue.{UnitValue}
 use Rattle.kc_rules_model.specs.SymbolValues.{value_of_symbol}

@@ -1,7 +1,7 @@
 -- Reading a full file gives its values back.
 use Rattle.std.specs.Prelude.{◌≡◌, ℕ, true, List, Option, length, IsTrue}
 use Rattle.kc_tree_model.specs.Trees.{Tree}
-use Rattle.kc_system.specs.Solutions.{UniquelySolves, FitsUsers}
+use Rattle.kc_solver.specs.Solutions.{UniquelySolves, FitsUsers}
 use Rattle.kc_rules_model.specs.declared.profile.Profile.{Profile}
 use Rattle.kc_rules_model.specs.declared.values.UnitValue.{UnitValue}
 use Rattle.kc_rules_model.specs.declared.values.UserValue.{UserValue}

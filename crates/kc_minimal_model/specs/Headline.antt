@@ -5,8 +5,8 @@ use Rattle.kc_tree_model.specs.Trees.{Tree}
 use Rattle.kc_tree_model.specs.TreesOfFiles.{IsTreeOfFiles}
 use Rattle.kc_rules_model.specs.declared.profile.Profile.{Profile}
 use Rattle.kc_rules_model.specs.declared.values.UnitValue.{UnitValue}
-use Rattle.kc_system.specs.Solutions.{UniquelySolves, FitsUsers}
-use Rattle.kc_system.specs.Dependencies.{HasNoCycle}
+use Rattle.kc_solver.specs.Solutions.{UniquelySolves, FitsUsers}
+use Rattle.kc_solver.specs.Dependencies.{HasNoCycle}
 use Rattle.kc_rules_model.specs.declared.values.UserValue.{UserValue}
 use Rattle.kc_rules_model.specs.Rule.{rule}
 use Rattle.kc_rules_model.specs.Shapes.{user_fits}

@@ -4,7 +4,7 @@ use Rattle.kc_value.specs.declared.value.Kind.TheVariants.{Text}
 use Rattle.kc_tree_model.specs.Trees.{Tree, Symbol}
 use Rattle.kc_value.specs.Lines.{has_newline}
 use Rattle.kc_tree_model.specs.TreeLookup.{IsConsistent, unit_of}
-use Rattle.kc_system.specs.Solutions.{Solves, FitsUsers, FitsValues}
+use Rattle.kc_solver.specs.Solutions.{Solves, FitsUsers, FitsValues}
 use Rattle.kc_rules_model.specs.declared.profile.Profile.{Profile}
 use Rattle.kc_rules_model.specs.declared.values.UnitValue.{UnitValue}
 use Rattle.kc_rules_model.specs.declared.values.UserValue.{UserValue}

@@ -1,21 +1,14 @@
 -- The walk over the parts of a condition.
-use Rattle.kc_reasons_model.specs.Reasons.{is_empty, unless_one_lacks_nothing}
-use Rattle.std.specs.Global.{Vec}
-use Rattle.std.specs.Prelude.{◌||◌}
-use Rattle.std.specs.List.{list_any}
-use Rattle.kc_reasons.specs.checker.EmptyLists.{is_empty_vec}
-use Rattle.std.proofs.Common.{◌≡◌, ℕ, Bool, true, false, cond, List, [], ◌∷◌, ◌++◌, map, filter, reverse, refl, ap, sym, ◌∙◌, append_assoc, append-nil, subst}
+use Rattle.std.proofs.Common.{filter, reverse, append-nil, subst}
 use Rattle.std.proofs.lemmas.List.{map-append, reverse-append}
 use Rattle.std.proofs.lemmas.List.Elements.{filter-append}
-use Rattle.kc_value.specs.declared.tri.Tri.{Tri}
+use Rattle.kc_reasons.proofs.Common.{◌≡◌, ℕ, Bool, true, false, cond, List, [], ◌∷◌, ◌++◌, map, refl, ap, sym, ◌∙◌, append_assoc, Tri, node_expr, Part, lacking, LowPart, part_view, parts_view, lacking_in_reverse}
 use Rattle.kc_value.specs.declared.tri.Tri.TheVariants.{M}
 use Rattle.kc_expr.specs.Expr.{Expr, alone, related, negated, both, either, shown, Environment, value}
-use Rattle.kc_expr.specs.between.Arena.{Exprs, node_expr}
+use Rattle.kc_expr.specs.between.Arena.{Exprs}
 use Rattle.kc_rules_model.specs.Kinds.{is_n}
-use Rattle.kc_reasons_model.specs.Conjuncts.{Part, below, conjuncts, lacks, lacking}
-use Rattle.kc_reasons.specs.declared.low_parts.LowPart.{LowPart}
-use Rattle.kc_reasons.specs.between.Parts.{part_view, parts_view, alternatives_view}
-use Rattle.kc_reasons.specs.checker.LackingWalk.{if_low, lacking_in_reverse}
+use Rattle.kc_reasons_model.specs.Conjuncts.{below, conjuncts, lacks}
+use Rattle.kc_reasons.specs.checker.LackingWalk.{if_low}
 
 -- appending a part that is too low
 pub one_more : (exprs : Exprs) (names : Environment) (id : ℕ) (t : Tri) (old new : List LowPart)
@@ -55,18 +48,6 @@ pub at_part : (names : Environment) (t : Tri) (e : Expr) (before found all : Lis
     → found ≡ all
 at_part names t e before found all is f h = f ∙ ap (λ ps. before ++ ps) (sym is) ∙ h
 
-pub low_alone : (names : Environment) (t : Tri) (e : Expr) (a : _) → e ≡ alone a → lacking_in_reverse names t e ≡ if_low names t e
-low_alone names t e a is = subst (λ x. lacking_in_reverse names t x ≡ if_low names t x) (sym is) refl
-
-pub low_related : (names : Environment) (t : Tri) (e : Expr) (op a b : _) → e ≡ related op a b → lacking_in_reverse names t e ≡ if_low names t e
-low_related names t e op a b is = subst (λ x. lacking_in_reverse names t x ≡ if_low names t x) (sym is) refl
-
-pub low_negated : (names : Environment) (t : Tri) (e : Expr) (a : Expr) → e ≡ negated a → lacking_in_reverse names t e ≡ if_low names t e
-low_negated names t e a is = subst (λ x. lacking_in_reverse names t x ≡ if_low names t x) (sym is) refl
-
-pub low_either : (names : Environment) (t : Tri) (e : Expr) (a b : Expr) → e ≡ either a b → lacking_in_reverse names t e ≡ if_low names t e
-low_either names t e a b is = subst (λ x. lacking_in_reverse names t x ≡ if_low names t x) (sym is) refl
-
 map-reverse : {X Y : Type 0} (f : X → Y) (xs : List X) → map f (reverse xs) ≡ reverse (map f xs)
 map-reverse f [] = refl
 map-reverse f (x ∷ xs) =
@@ -101,26 +82,3 @@ module _ (names : Environment) where
   found_turned exprs t e none found last empty f h =
       ap (parts_view exprs) h ∙ map-reverse (part_view exprs) found
       ∙ ap reverse (f ∙ ap (λ ps. parts_view exprs ps ++ lacking_in_reverse names t e) empty) ∙ turned t e
-
--- whether one of some lists is empty, as the code and the definitions ask it
-any_empty : (exprs : Exprs) (vs : List (Vec LowPart)) → list_any is_empty (alternatives_view exprs vs) ≡ list_any is_empty_vec vs
-any_empty exprs [] = refl
-any_empty exprs (v ∷ vs) = ap (λ b. b || list_any is_empty (alternatives_view exprs vs)) (same v.items) ∙ ap (λ b. is_empty_vec v || b) (any_empty exprs vs)
-  where
-    same : (ps : List LowPart) → is_empty (parts_view exprs ps) ≡ is_empty ps
-    same [] = refl
-    same (p ∷ ps) = refl
-
-module _ (exprs : Exprs) (env : Bool) (found : List (Vec LowPart)) (parts : List (List Part)) (without : env ≡ false)
-    (are : alternatives_view exprs found ≡ parts) where
-  by_test : (b : Bool) → list_any is_empty_vec found ≡ b → cond env [] (unless_one_lacks_nothing parts) ≡ cond b [] parts
-  by_test b e =
-      ap (λ c. cond c [] (unless_one_lacks_nothing parts)) without
-      ∙ ap (λ c. cond c [] parts) (ap (list_any is_empty) (sym are) ∙ any_empty exprs found ∙ e)
-
-  pub where_one_is_empty : (last : List (Vec LowPart)) → list_any is_empty_vec found ≡ true → last ≡ []
-      → alternatives_view exprs last ≡ cond env [] (unless_one_lacks_nothing parts)
-  where_one_is_empty last e none = ap (alternatives_view exprs) none ∙ sym (by_test true e)
-
-  pub where_none_is_empty : list_any is_empty_vec found ≡ false → alternatives_view exprs found ≡ cond env [] (unless_one_lacks_nothing parts)
-  where_none_is_empty e = are ∙ sym (by_test false e)

@@ -1,9 +1,7 @@
 -- Cases by the mark of a default.
-use Rattle.std.proofs.Common.{◌≡◌, Bool, true, false, cond, Option, Some, None, refl}
+use Rattle.kc_reasons.proofs.Common.{◌≡◌, Bool, true, false, cond, Option, Some, None, refl, Tri, Profile}
 use Rattle.std.specs.Prelude.{is_some}
-use Rattle.kc_value.specs.declared.tri.Tri.{Tri}
 use Rattle.kc_tree_model.specs.Trees.{Default}
-use Rattle.kc_rules_model.specs.declared.profile.Profile.{Profile}
 use Rattle.kc_rules_model.specs.declared.profile.Profile.TheVariants.{Present, Classic}
 use Rattle.kc_reasons_model.specs.declared.cases.TriCase.{TriCase}
 use Rattle.kc_reasons_model.specs.declared.cases.TriCase.TheVariants as tri

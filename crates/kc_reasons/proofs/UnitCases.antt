@@ -1,11 +1,6 @@
 -- The cases of units, by whether a unit is a symbol or a choice.
-use Rattle.std.proofs.Common.{◌≡◌, ℕ, List, Option, Some, sym, ap, ◌∙◌}
-use Rattle.std.specs.Prelude.{slice_get}
-use Rattle.kc_tree_model.specs.Trees.{Tree, Symbol, Choice}
+use Rattle.kc_reasons.proofs.Common.{◌≡◌, ℕ, List, Option, Some, sym, ap, ◌∙◌, slice_get, Tree, Symbol, Choice, Profile, UnitValue, UserValue}
 use Rattle.kc_tree_model.specs.declared.ids.Unit.TheVariants.{Symbol as of_symbol, Choice as of_choice}
-use Rattle.kc_rules_model.specs.declared.profile.Profile.{Profile}
-use Rattle.kc_rules_model.specs.declared.values.UnitValue.{UnitValue}
-use Rattle.kc_rules_model.specs.declared.values.UserValue.{UserValue}
 use Rattle.kc_reasons_model.specs.declared.cases.Case.TheVariants.{Choice as ChoiceGiven}
 use Rattle.kc_reasons_model.specs.Cases.{case_of, case_of_unit, case_of_symbol, case_of_choice, symbol_case, choice_case}
 

@@ -1,12 +1,6 @@
 -- Hindrances of units, by whether a unit is a symbol or a choice.
-use Rattle.std.proofs.Common.{◌≡◌, ℕ, List, Some, sym, ap, ◌∙◌}
-use Rattle.std.specs.Prelude.{slice_get}
-use Rattle.kc_tree_model.specs.Trees.{Tree, Symbol, Choice}
+use Rattle.kc_reasons.proofs.Common.{◌≡◌, ℕ, List, Some, sym, ap, ◌∙◌, slice_get, Tree, Symbol, Choice, Profile, UnitValue, UserValue, Hindrance}
 use Rattle.kc_tree_model.specs.declared.ids.Unit.TheVariants.{Symbol as of_symbol, Choice as of_choice}
-use Rattle.kc_rules_model.specs.declared.profile.Profile.{Profile}
-use Rattle.kc_rules_model.specs.declared.values.UnitValue.{UnitValue}
-use Rattle.kc_rules_model.specs.declared.values.UserValue.{UserValue}
-use Rattle.kc_reasons_model.specs.declared.cases.Hindrance.{Hindrance}
 use Rattle.kc_reasons_model.specs.Hindrances.{hinders, hinders_unit, hinders_symbol, hinders_choice}
 
 pub at_symbol : (h : Hindrance) (profile : Profile) (tree : Tree) (u s k : ℕ) (symbol : Symbol) (user : UserValue) (values : List UnitValue)

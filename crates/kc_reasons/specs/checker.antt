@@ -1,4 +1,3 @@
 pub mod CaseParts
 pub mod LackingWalk
 pub mod LargestLimits
-pub mod EmptyLists

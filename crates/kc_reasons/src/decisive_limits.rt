@@ -1,5 +1,5 @@
 //! The selects and implies that decide what is selected and implied.
-ghost use Rattle.std.specs.Prelude.{◌≡◌, ◌<◌, ◌++◌, ◌∷◌, [], length, map, IfOk, OnOk, if◌then◌else◌};
+ghost use Rattle.std.specs.Prelude.{◌≡◌, ◌<◌, length, map, IfOk};
 ghost use Rattle.kc_tree.specs.between.Views.{reverse_dependency_view};
 ghost use Rattle.kc_dependencies.specs.checker.StoredRules.{AreReverseDependencies};
 ghost use Rattle.kc_evaluation.specs.checker.ValuationView.{valuation_tree, valuation_exprs, valuation_values};
@@ -23,18 +23,6 @@ fn is_largest(under: &Valuation<'_>, force: ReverseDependency, most: Tri) -> boo
     !is_n(value) && value == most
 }
 
-/// Appends a number if it `counts`.
-fn push_if(found: &mut Vec<usize>, number: usize, counts: bool) -> Result<(), AllocError>
-    ensures { OnOk result (found.new.items ≡ found.old.items ++ (if counts then number ∷ [] else [])) }
-{
-    if counts {
-        found.push(number)?;
-        Ok(())
-    } else {
-        Ok(())
-    }
-}
-
 /// The numbers, from 0, of those selects or implies that demand as much as all of them together, if that isn't `n`. An `Err`
 /// means out of memory.
 pub fn decisive(
@@ -48,8 +36,9 @@ pub fn decisive(
     let most = reverse_limit(under, all);
     let mut found = Vec::new(alloc);
     for (number, force) in all.iter().enumerate() {
-        let counts = is_largest(under, *force, most);
-        push_if(&mut found, number, counts)?;
+        if is_largest(under, *force, most) {
+            found.push(number)?;
+        }
     }
     Ok(found)
 }

@@ -1,5 +1,5 @@
 //! What a symbol's prompts and dependencies lack.
-ghost use Rattle.std.specs.Prelude.{◌≡◌, ◌<◌, [], length, unwrap_or, IfOk};
+ghost use Rattle.std.specs.Prelude.{◌≡◌, ◌<◌, [], length, unwrap_or, IfOk, if◌then◌else◌};
 ghost use Rattle.std.specs.List.{list_any};
 ghost use Rattle.std.specs.Option.{option_copied};
 ghost use Rattle.kc_tree.specs.between.Views.{symbol_view, SymbolFits};
@@ -8,7 +8,7 @@ ghost use Rattle.kc_rules_model.specs.SymbolValues.{environment};
 ghost use Rattle.kc_reasons_model.specs.Hindrances.{wanted_for};
 ghost use Rattle.kc_reasons_model.specs.PlainReasons.{wanted_by, prompts_lack, dependencies_lack};
 ghost use Rattle.kc_reasons.specs.between.Parts.{alternatives_view, AreThere};
-ghost use Rattle.kc_reasons.specs.checker.EmptyLists.{is_empty_vec};
+ghost use Rattle.kc_reasons_model.specs.Reasons.{is_empty};
 
 use super::low_parts::{LowPart, lacking_of_each};
 use super::tristates::is_without_m;
@@ -40,15 +40,15 @@ pub fn wanted_by(under: &Valuation<'_>, symbol: &Symbol<'_>, user: Option<&UserV
 }
 
 /// Whether a list is empty.
-fn is_empty(list: &Vec<LowPart>) -> bool
-    ensures { result ≡ is_empty_vec list.now }
+fn is_empty<T>(list: &Vec<T>) -> bool
+    ensures { result ≡ is_empty list.now.items }
 {
     list.len() == 0
 }
 
 /// Whether one of some lists is empty.
-fn has_empty(lists: &[Vec<LowPart>]) -> bool
-    ensures { result ≡ list_any is_empty_vec lists.now }
+fn has_empty<T>(lists: &[Vec<T>]) -> bool
+    ensures { result ≡ list_any (λ v. is_empty v.items) lists.now }
 {
     for list in lists {
         if is_empty(list) {
@@ -56,6 +56,17 @@ fn has_empty(lists: &[Vec<LowPart>]) -> bool
         }
     }
     false
+}
+
+/// Lists; none where one of them is empty.
+pub fn unless_one_is_empty<T: Drop>(alloc: Global, lists: Vec<Vec<T>>) -> Vec<Vec<T>>
+    ensures { result.items ≡ (if list_any (λ v. is_empty v.items) lists.items then [] else lists.items) }
+{
+    if has_empty(&lists) {
+        Vec::new(alloc)
+    } else {
+        lists
+    }
 }
 
 /// What each prompt of a symbol lacks of what is wanted; nothing where one lacks nothing, and of a symbol with an `option env`. An
@@ -74,11 +85,7 @@ pub fn prompts_lack(
         return Ok(Vec::new(alloc));
     }
     let found = lacking_of_each(alloc, under, symbol.prompts, wanted)?;
-    if has_empty(&found) {
-        Ok(Vec::new(alloc))
-    } else {
-        Ok(found)
-    }
+    Ok(unless_one_is_empty(alloc, found))
 }
 
 /// What the dependency of each definition of a symbol lacks of what is selected, if that is more. An `Err` means out of memory.

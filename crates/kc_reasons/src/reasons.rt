@@ -1,8 +1,9 @@
 //! The reasons of a symbol.
-ghost use Rattle.std.specs.Prelude.{◌≡◌, ◌<◌, ◌||◌, [], length, slice_get, Some, IfOk, IfSome, IsTrue, if◌then◌else◌};
+ghost use Rattle.std.specs.Prelude.{◌≡◌, ◌<◌, ◌||◌, [], length, map, slice_get, Some, IfOk, IfSome, IsTrue, if◌then◌else◌};
 ghost use Rattle.std.specs.Option.{option_copied};
 ghost use Rattle.kc_tree_model.specs.TreeLookup.{unit_of};
-ghost use Rattle.kc_tree.specs.between.Views.{symbol_view, SymbolFits};
+ghost use Rattle.kc_tree.specs.between.Views.{symbol_view, reverse_dependency_view, SymbolFits};
+ghost use Rattle.kc_dependencies.specs.checker.StoredRules.{AreReverseDependencies};
 ghost use Rattle.kc_evaluation.specs.checker.ValuationView.{valuation_tree, valuation_exprs, valuation_values};
 ghost use Rattle.kc_rules_model.specs.Shapes.{user_fits};
 ghost use Rattle.kc_rules_model.specs.Reports.{is_unmet_symbol};
@@ -21,7 +22,7 @@ use super::search::hindrance_to;
 use kc_evaluation::{Rules, Valuation, is_symbol_unmet};
 use kc_reasons_model::{Case, Hindrance, TriCase};
 use kc_rules_model::{UnitValue, UserValue};
-use kc_tree::{Sym, Symbol};
+use kc_tree::{ReverseDependency, Sym, Symbol};
 use std::alloc::{AllocError, Global};
 
 /// The reasons of a symbol. An attribute goes by its number among the symbol's attributes of its kind, as do prompts and definitions
@@ -80,36 +81,31 @@ fn is_by_imply(case: Case) -> bool
     matches!(case, Case::Tri(TriCase::Imply | TriCase::Dependency, _))
 }
 
-/// The selects that decide, where they are given.
-fn selects_given(
-    alloc: Global,
+/// Whether the selects are told: where they are given, and where the symbol is selected above its direct dependency.
+fn are_selects_told(
     under: &Valuation<'_>,
     symbol: &Symbol<'_>,
     case: Case,
     hindrance: Option<Hindrance>,
-) -> Result<Vec<usize>, AllocError>
+) -> bool
     requires fits { SymbolFits (valuation_exprs under.now) (length (valuation_tree under.now).symbols) symbol.now }
-    ensures ok { IfOk result (λ found. let tree = valuation_tree under.now in let seen = symbol_view (valuation_exprs under.now) symbol.now in found.items ≡ (if is_by_select case hindrance || is_unmet_symbol tree (valuation_values under.now) seen then decisive_numbers tree (valuation_values under.now) seen.selectors else [])) }
+    ensures value { result ≡ (is_by_select case hindrance || is_unmet_symbol (valuation_tree under.now) (valuation_values under.now) (symbol_view (valuation_exprs under.now) symbol.now)) }
 {
-    if is_by_select(case, hindrance) || is_symbol_unmet(under, symbol) {
-        decisive(alloc, under, symbol.selectors)
-    } else {
-        Ok(Vec::new(alloc))
-    }
+    is_by_select(case, hindrance) || is_symbol_unmet(under, symbol)
 }
 
-/// The implies that decide, where they are given.
-fn implies_given(
+/// The selects or implies that decide, if they are told.
+fn decisive_if(
     alloc: Global,
     under: &Valuation<'_>,
-    symbol: &Symbol<'_>,
-    case: Case,
+    told: bool,
+    all: &[ReverseDependency],
 ) -> Result<Vec<usize>, AllocError>
-    requires fits { SymbolFits (valuation_exprs under.now) (length (valuation_tree under.now).symbols) symbol.now }
-    ensures ok { IfOk result (λ found. found.items ≡ (if is_by_imply case then decisive_numbers (valuation_tree under.now) (valuation_values under.now) (symbol_view (valuation_exprs under.now) symbol.now).impliers else [])) }
+    requires fits { AreReverseDependencies (valuation_exprs under.now) (valuation_tree under.now) all.now }
+    ensures ok { IfOk result (λ found. found.items ≡ (if told then decisive_numbers (valuation_tree under.now) (valuation_values under.now) (map (reverse_dependency_view (valuation_exprs under.now)) all.now) else [])) }
 {
-    if is_by_imply(case) {
-        decisive(alloc, under, symbol.impliers)
+    if told {
+        decisive(alloc, under, all)
     } else {
         Ok(Vec::new(alloc))
     }
@@ -118,20 +114,19 @@ fn implies_given(
 /// What hinders that symbol `s` of unit `u` has what the user value of the unit asks, if it has one.
 fn hindrance_of(
     alloc: Global,
-    rules: &Rules,
+    under: &Valuation<'_>,
     u: u32,
     s: Sym,
     user: Option<&UserValue>,
-    values: &[UnitValue],
 ) -> Result<Option<Hindrance>, AllocError>
-    requires unit { u < length rules.now.tree.tree.units }
-    requires there { s < length rules.now.tree.tree.symbols }
-    requires user { IfSome (option_copied user) (λ x. IsTrue (user_fits rules.now.tree.tree u x)) }
-    ensures ok { IfOk result (λ o. o ≡ hindrance_to rules.now.profile rules.now.tree.tree u s (option_copied user.entry) values.now) }
+    requires unit { u < length (valuation_tree under.now).units }
+    requires there { s < length (valuation_tree under.now).symbols }
+    requires user { IfSome (option_copied user) (λ x. IsTrue (user_fits (valuation_tree under.now) u x)) }
+    ensures ok { IfOk result (λ o. o ≡ hindrance_to under.now.rules.now.profile (valuation_tree under.now) u s (option_copied user.entry) (valuation_values under.now)) }
 {
     match user {
         None => Ok(None),
-        Some(x) => hindrance_to(alloc, rules, u, s, x, values),
+        Some(x) => hindrance_to(alloc, under.rules, u, s, x, under.values),
     }
 }
 
@@ -152,12 +147,13 @@ pub fn reasons_of(
     let under = &Valuation { rules, values };
     let symbol = &rules.tree.symbol(s);
     let case = case_of(alloc, rules, symbol.unit, user, values)?;
-    let hindrance = hindrance_of(alloc, rules, symbol.unit, s, user, values)?;
+    let hindrance = hindrance_of(alloc, under, symbol.unit, s, user)?;
     let chosen = chosen_in(symbol.choice, s, values.get(symbol.unit as usize));
     let needs = prompts_lack(alloc, under, symbol, wanted_by(under, symbol, user))?;
     let unmet = dependencies_lack(alloc, under, symbol)?;
-    let selected_by = selects_given(alloc, under, symbol, case, hindrance)?;
-    let implied_by = implies_given(alloc, under, symbol, case)?;
+    let are_selects_told = are_selects_told(under, symbol, case, hindrance);
+    let selected_by = decisive_if(alloc, under, are_selects_told, symbol.selectors)?;
+    let implied_by = decisive_if(alloc, under, is_by_imply(case), symbol.impliers)?;
     Ok(SymbolReasons {
         case,
         chosen,

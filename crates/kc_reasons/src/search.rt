@@ -132,29 +132,6 @@ fn hindrances() -> &'static [Hindrance]
     ]
 }
 
-/// The first of some hindrances that holds.
-fn first_of(
-    alloc: Global,
-    rules: &Rules,
-    order: &[Hindrance],
-    u: u32,
-    s: Sym,
-    user: &UserValue,
-    values: &[UnitValue],
-) -> Result<Option<Hindrance>, AllocError>
-    requires unit { u < length rules.now.tree.tree.units }
-    requires there { s < length rules.now.tree.tree.symbols }
-    requires user { IsTrue (user_fits rules.now.tree.tree u user.now) }
-    ensures ok { IfOk result (λ o. o ≡ find (λ h. hinders h rules.now.profile rules.now.tree.tree u s user.now values.now) order.now) }
-{
-    for hindrance in order {
-        if hinders(alloc, rules, *hindrance, u, s, user, values)? {
-            return Ok(Some(*hindrance));
-        }
-    }
-    Ok(None)
-}
-
 /// What hinders that unit `u` has what its user value asks of symbol `s`, under values of the units: the first hindrance that holds;
 /// `None` where it has it. An `Err` means out of memory.
 pub fn hindrance_to(
@@ -174,5 +151,11 @@ pub fn hindrance_to(
     if is_as_asked(s, user, &value) {
         return Ok(None);
     }
-    first_of(alloc, rules, hindrances(), u, s, user, values)
+    let order = hindrances();
+    for hindrance in order {
+        if hinders(alloc, rules, *hindrance, u, s, user, values)? {
+            return Ok(Some(*hindrance));
+        }
+    }
+    Ok(None)
 }

@@ -1,11 +1,13 @@
 //! What gives a bool or tristate its value.
-ghost use Rattle.std.specs.Prelude.{◌≡◌, ◌<◌, length, map, is_some, option_map};
+ghost use Rattle.std.specs.Prelude.{◌≡◌, ◌<◌, length, map, is_some, option_map, if◌then◌else◌};
 ghost use Rattle.std.specs.Option.{option_copied};
 ghost use Rattle.kc_tree.specs.between.Views.{symbol_view, default_view, SymbolFits};
 ghost use Rattle.kc_dependencies.specs.checker.StoredRules.{AreDefaults};
 ghost use Rattle.kc_evaluation.specs.checker.RuleParts.{active_default_of};
 ghost use Rattle.kc_evaluation.specs.checker.ValuationView.{valuation_tree, valuation_exprs, valuation_values};
-ghost use Rattle.kc_rules_model.specs.Rule.{active_default, leaves_no_m};
+ghost use Rattle.kc_rules_model.specs.Rule.{active_default, leaves_no_m, base, selected};
+ghost use Rattle.kc_reasons_model.specs.Conjuncts.{below};
+ghost use Rattle.kc_reasons_model.specs.declared.cases.TriCase.TheVariants.{Select as SelectTri};
 ghost use Rattle.kc_reasons_model.specs.Cases.{is_environment, by_default, asked_tri, base_case, tri_case, is_without_m, given_tri, lift_of};
 ghost use Rattle.kc_reasons.specs.checker.CaseParts.{mark_of, unasked_of};
 
@@ -83,16 +85,11 @@ fn asked_by(visibility: Tri, asked: Tri) -> TriCase
 
 /// Without regard to selects.
 #[tactic(auto, using(crate::proofs::Marks::unasked_is))]
-fn base_case(
-    under: &Valuation<'_>,
-    profile: Profile,
-    symbol: &Symbol<'_>,
-    user: Option<Tri>,
-) -> TriCase
+fn base_case(under: &Valuation<'_>, symbol: &Symbol<'_>, asked: Option<Tri>) -> TriCase
     requires fits { SymbolFits (valuation_exprs under.now) (length (valuation_tree under.now).symbols) symbol.now }
-    ensures value { result ≡ base_case profile (valuation_tree under.now) (symbol_view (valuation_exprs under.now) symbol.now) user (valuation_values under.now) }
+    ensures value { result ≡ base_case under.now.rules.now.profile (valuation_tree under.now) (symbol_view (valuation_exprs under.now) symbol.now) asked (valuation_values under.now) }
 {
-    if let Some(asked) = user {
+    if let Some(asked) = asked {
         let visibility = visibility(under, symbol);
         if !is_n(visibility) {
             return asked_by(visibility, asked);
@@ -102,7 +99,7 @@ fn base_case(
     let default = default_value(under, symbol.defaults);
     let implied = reverse_limit(under, symbol.impliers);
     unasked_by(
-        profile,
+        under.rules.profile,
         other,
         default,
         implied,
@@ -110,21 +107,16 @@ fn base_case(
     )
 }
 
-/// What gives a bool or tristate its value, before an `m` may become `y`.
-pub(crate) fn tri_case(
-    under: &Valuation<'_>,
-    profile: Profile,
-    symbol: &Symbol<'_>,
-    user: Option<&UserValue>,
-) -> TriCase
+/// What gives a bool or tristate its value where this is assigned, before an `m` may become `y`.
+pub(crate) fn tri_case(under: &Valuation<'_>, symbol: &Symbol<'_>, asked: Option<Tri>) -> TriCase
     requires fits { SymbolFits (valuation_exprs under.now) (length (valuation_tree under.now).symbols) symbol.now }
-    ensures value { result ≡ tri_case profile (valuation_tree under.now) (symbol_view (valuation_exprs under.now) symbol.now) (option_copied user.entry) (valuation_values under.now) }
+    ensures value { let tree = valuation_tree under.now in let values = valuation_values under.now in let seen = symbol_view (valuation_exprs under.now) symbol.now in let profile = under.now.rules.now.profile in result ≡ (if below (base profile tree values seen asked) (selected tree values seen) then SelectTri else base_case profile tree seen asked values) }
 {
-    let base = base(under, profile, symbol, assigned_tri(user));
+    let base = base(under, under.rules.profile, symbol, asked);
     if is_below(base, reverse_limit(under, symbol.selectors)) {
         TriCase::Select
     } else {
-        base_case(under, profile, symbol, assigned_tri(user))
+        base_case(under, symbol, asked)
     }
 }
 
@@ -155,9 +147,9 @@ pub(crate) fn leaves_no_m(under: &Valuation<'_>, profile: Profile, symbol: &Symb
 }
 
 /// Why a given value is lifted, if it is.
-fn lift_by(under: &Valuation<'_>, profile: Profile, symbol: &Symbol<'_>, value: Tri) -> Lift
+fn lift_by(under: &Valuation<'_>, symbol: &Symbol<'_>, value: Tri) -> Lift
     requires fits { SymbolFits (valuation_exprs under.now) (length (valuation_tree under.now).symbols) symbol.now }
-    ensures value { result ≡ lift_of profile (valuation_tree under.now) (symbol_view (valuation_exprs under.now) symbol.now) (valuation_values under.now) value }
+    ensures value { result ≡ lift_of under.now.rules.now.profile (valuation_tree under.now) (symbol_view (valuation_exprs under.now) symbol.now) (valuation_values under.now) value }
 {
     match value {
         Tri::N => Lift::AsGiven,
@@ -166,7 +158,7 @@ fn lift_by(under: &Valuation<'_>, profile: Profile, symbol: &Symbol<'_>, value: 
             if is_without_m(under, symbol.kind) {
                 return Lift::WithoutM;
             }
-            if leaves_no_m(under, profile, symbol) {
+            if leaves_no_m(under, under.rules.profile, symbol) {
                 return Lift::ImpliedY;
             }
             Lift::AsGiven
@@ -175,16 +167,11 @@ fn lift_by(under: &Valuation<'_>, profile: Profile, symbol: &Symbol<'_>, value: 
 }
 
 /// Why the value that its case gives is lifted, if it is.
-pub(crate) fn lift(
-    under: &Valuation<'_>,
-    profile: Profile,
-    symbol: &Symbol<'_>,
-    user: Option<&UserValue>,
-) -> Lift
+pub(crate) fn lift(under: &Valuation<'_>, symbol: &Symbol<'_>, user: Option<&UserValue>) -> Lift
     requires fits { SymbolFits (valuation_exprs under.now) (length (valuation_tree under.now).symbols) symbol.now }
-    ensures value { let tree = valuation_tree under.now in let values = valuation_values under.now in let seen = symbol_view (valuation_exprs under.now) symbol.now in let held = option_copied user.entry in result ≡ lift_of profile tree seen values (given_tri (tri_case profile tree seen held values) tree seen held values) }
+    ensures value { let tree = valuation_tree under.now in let values = valuation_values under.now in let seen = symbol_view (valuation_exprs under.now) symbol.now in let held = option_copied user.entry in let profile = under.now.rules.now.profile in result ≡ lift_of profile tree seen values (given_tri (tri_case profile tree seen held values) tree seen held values) }
 {
-    let base = base(under, profile, symbol, assigned_tri(user));
+    let base = base(under, under.rules.profile, symbol, assigned_tri(user));
     let given = base.or(reverse_limit(under, symbol.selectors));
-    lift_by(under, profile, symbol, given)
+    lift_by(under, symbol, given)
 }

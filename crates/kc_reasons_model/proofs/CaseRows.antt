@@ -1,26 +1,16 @@
 -- What gives a value, on small trees.
-use Rattle.std.proofs.Common.{◌≡◌, true, false, [], ◌∷◌, List, ℕ, Option, Some, None, refl}
-use Rattle.std.specs.Prelude.{codes}
+use Rattle.kc_reasons_model.proofs.Common.{◌≡◌, true, false, [], ◌∷◌, List, ℕ, Option, Some, None, refl, codes, N, M, Y, Int, Linux, named, Tree, Default, Profile, Present, Classic, UnitValue, UserValue, MemberLine, n, m, y, text, sets, writes, tree_a, tree_int, tree_from_environment, tree_pick}
+use Rattle.kc_reasons_model.proofs.Common.{tree_shown_if, tree_select, tree_imply, AsGiven, WithoutM, ImpliedY}
 use Rattle.std.specs.Fmt.{digits}
-use Rattle.kc_value.specs.declared.tri.Tri.TheVariants.{N, M, Y}
-use Rattle.kc_value.specs.declared.value.Kind.TheVariants.{Int}
 use Rattle.kc_value.specs.Number.{int_text}
-use Rattle.kc_tokens.specs.declared.language.Language.TheVariants.{Linux}
 use Rattle.kc_tokens.specs.declared.language.LinuxVersion.TheVariants.{V6_12}
-use Rattle.kc_expr.specs.Expr.{named}
-use Rattle.kc_tree_model.specs.Trees.{Tree, Default, in_language}
-use Rattle.kc_rules_model.specs.declared.profile.Profile.{Profile}
-use Rattle.kc_rules_model.specs.declared.profile.Profile.TheVariants.{Present, Classic}
-use Rattle.kc_rules_model.specs.declared.values.UnitValue.{UnitValue}
+use Rattle.kc_tree_model.specs.Trees.{in_language}
 use Rattle.kc_rules_model.specs.declared.values.UnitValue.TheVariants.{Member as MemberValue}
-use Rattle.kc_rules_model.specs.declared.values.UserValue.{UserValue}
 use Rattle.kc_rules_model.specs.declared.values.UserValue.TheVariants.{Member as MemberUser, Lines as LinesUser}
-use Rattle.kc_rules_model.specs.declared.values.MemberLine.{MemberLine}
-use Rattle.kc_rules_model.proofs.RowTrees.{n, m, y, text, sets, writes, always, name, otherwise, plain, one_symbol, tree_a, tree_int, tree_from_environment, tree_pick, tree_optional_pick, tree_shown_if, tree_select, tree_imply, tree_lifted}
+use Rattle.kc_rules_model.proofs.RowTrees.{always, name, otherwise, plain, one_symbol, tree_optional_pick, tree_lifted}
 use Rattle.kc_reasons_model.specs.declared.cases.Case.{Case}
 use Rattle.kc_reasons_model.specs.declared.cases.Case.TheVariants.{Tri as TriGiven, Text as TextGiven, Choice as ChoiceGiven}
 use Rattle.kc_reasons_model.specs.declared.cases.TriCase.TheVariants as tri
-use Rattle.kc_reasons_model.specs.declared.cases.Lift.TheVariants.{AsGiven, WithoutM, ImpliedY}
 use Rattle.kc_reasons_model.specs.declared.cases.TextCase.TheVariants as text_case
 use Rattle.kc_reasons_model.specs.declared.cases.ChoiceCase.TheVariants as choice_case
 use Rattle.kc_reasons_model.specs.Cases.{case_of}

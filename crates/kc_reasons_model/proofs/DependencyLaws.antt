@@ -1,20 +1,14 @@
 -- The blamed names of a symbol's or a choice's conditions are of units on which it depends.
-use Rattle.std.proofs.Common.{◌≡◌, inl, inr, ℕ, zero, suc, ◌+◌, ◌<◌, ◌≤◌, Bool, true, false, cond, List, [], ◌∷◌, ◌++◌, filter, Option, Some, None, length, slice_get, refl, sym, ◌∙◌, ap, subst, arith, Contains}
-use Rattle.std.specs.Prelude.{◌==◌, flat_map, option_map, option_to_list}
-use Rattle.std.specs.List.{list_any, cons_option, range_with_len, All, AllByRecursion}
-use Rattle.std.proofs.lemmas.Bool.{cases_eq, or_left, or_right, eq-eqb}
-use Rattle.std.proofs.lemmas.List.Elements.{All-weaker, All-contains, All-from_recursion, All-append}
-use Rattle.kc_value.specs.declared.tri.Tri.{Tri}
-use Rattle.kc_expr.specs.Expr.{Expr, Environment, modules}
-use Rattle.kc_expr.specs.ExpressionNames.{names_in, operand_names}
-use Rattle.kc_tree_model.specs.Trees.{Tree, Symbol, Choice, Default, Range, MemberDefault}
-use Rattle.kc_tree_model.specs.TreeLookup.{unit_of, symbol_named}
+use Rattle.std.proofs.Common.{Contains}
+use Rattle.kc_reasons_model.proofs.Common.{◌≡◌, inl, inr, ℕ, zero, suc, ◌+◌, ◌<◌, ◌≤◌, Bool, true, false, cond, List, [], ◌∷◌, ◌++◌, filter, Option, Some, None, length, slice_get, refl, sym, ◌∙◌, ap, subst, arith, ◌==◌, flat_map, option_map, option_to_list, list_any, cons_option, All}
+use Rattle.kc_reasons_model.proofs.Common.{AllByRecursion, cases_eq, or_left, or_right, eq-eqb, All-weaker, All-contains, All-from_recursion, All-append, Tri, Expr, Environment, names_in, operand_names, Tree, Symbol, Choice, Default, Range, MemberDefault, unit_of, parts, blamed, IsDependency}
+use Rattle.kc_reasons_model.proofs.Common.{counted_conditions, is_linux_6_12}
+use Rattle.std.specs.List.{range_with_len}
+use Rattle.kc_expr.specs.Expr.{modules}
+use Rattle.kc_tree_model.specs.TreeLookup.{symbol_named}
 use Rattle.kc_value.specs.Kinds.{is_tristate}
 use Rattle.kc_rules_model.specs.Dependencies.{dependencies, needed_by, needed_by_symbol_at, needed_by_symbol, needed_by_choice_at, needed_by_choice, names_in_prompt, names_in_shown, names_in_prompts, names_in_member_prompts, units_named, units_of_reverse_dependencies}
-use Rattle.kc_rules_model.specs.checker.Agreement.{parts}
-use Rattle.kc_reasons_model.specs.Blame.{blamed}
-use Rattle.kc_reasons_model.specs.Laws.{IsDependency, counted_conditions, BlamedAreDependencies, ChoiceBlamedAreDependencies}
-use Rattle.kc_tokens.specs.Languages.{is_linux_6_12}
+use Rattle.kc_reasons_model.specs.Laws.{BlamedAreDependencies, ChoiceBlamedAreDependencies}
 use Rattle.kc_reasons_model.proofs.BlameLaws.{are_named}
 
 in_filter : (p : ℕ → Bool) (n a d : ℕ) → a ≤ d → d < a + n → p d ≡ true → Contains (filter p (range_with_len a n)) d

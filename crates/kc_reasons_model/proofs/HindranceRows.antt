@@ -1,21 +1,14 @@
 -- What hinders a user value, on small trees.
-use Rattle.std.proofs.Common.{◌≡◌, [], ◌∷◌, ℕ, Option, Some, None, refl}
-use Rattle.std.specs.Prelude.{codes}
+use Rattle.kc_reasons_model.proofs.Common.{◌≡◌, [], ◌∷◌, ℕ, Option, Some, None, refl, codes, N, M, Y, Tree, Profile, Present, Classic, UnitValue, UserValue, n, m, y, text, sets, writes, tree_a, tree_int, tree_from_environment, tree_pick, tree_shown_if, tree_select, tree_imply, Hindrance}
+use Rattle.kc_reasons_model.proofs.Common.{BelowSelected, FromEnvironment, Hidden, AboveVisibility, Promoted, UpsideDown, OutOfRange, ChoiceNotShown, MemberHidden, LaterY, FirstOfAll, hindrance_to}
 use Rattle.std.specs.Fmt.{digits}
-use Rattle.kc_value.specs.declared.tri.Tri.TheVariants.{N, M, Y}
 use Rattle.kc_value.specs.Number.{int_text}
-use Rattle.kc_tree_model.specs.Trees.{Tree}
-use Rattle.kc_rules_model.specs.declared.profile.Profile.{Profile}
-use Rattle.kc_rules_model.specs.declared.profile.Profile.TheVariants.{Present, Classic}
-use Rattle.kc_rules_model.specs.declared.values.UnitValue.{UnitValue}
 use Rattle.kc_rules_model.specs.declared.values.UnitValue.TheVariants.{Member as MemberValue}
-use Rattle.kc_rules_model.specs.declared.values.UserValue.{UserValue}
 use Rattle.kc_rules_model.specs.declared.values.UserValue.TheVariants.{Member as MemberUser}
 use Rattle.kc_rules_model.specs.Rule.{rule}
-use Rattle.kc_rules_model.proofs.RowTrees.{n, m, y, text, sets, writes, tree_a, tree_hidden, tree_int, tree_from_environment, tree_pick, tree_shown_if, tree_select, tree_imply}
-use Rattle.kc_reasons_model.specs.declared.cases.Hindrance.{Hindrance}
-use Rattle.kc_reasons_model.specs.declared.cases.Hindrance.TheVariants.{BelowSelected, FromEnvironment, Hidden, AboveVisibility, Promoted, ImpliedY, UpsideDown, OutOfRange, ChoiceNotShown, MemberHidden, LaterY, FirstOfAll}
-use Rattle.kc_reasons_model.specs.Hindrances.{hindrance_to, hinders}
+use Rattle.kc_rules_model.proofs.RowTrees.{tree_hidden}
+use Rattle.kc_reasons_model.specs.declared.cases.Hindrance.TheVariants.{ImpliedY}
+use Rattle.kc_reasons_model.specs.Hindrances.{hinders}
 use Rattle.kc_reasons_model.proofs.CaseRows.{newer, int_within, with_y, with_n, lists}
 
 -- of BAZ, with FOO `y` and BAR `m`

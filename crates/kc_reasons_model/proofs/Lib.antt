@@ -1,4 +1,4 @@
-pub mod Tables
+pub mod Common
 pub mod CaseLaws
 pub mod ConjunctLaws
 pub mod BlameLaws

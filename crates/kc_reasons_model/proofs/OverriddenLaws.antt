@@ -1,15 +1,10 @@
 -- The overridden lines are those after which a file asks for another value.
-use Rattle.std.proofs.Common.{◌≡◌, ◌≢◌, ℕ, zero, suc, ◌+◌, ◌<◌, Bool, true, false, not, cond, List, [], ◌∷◌, ◌++◌, map, Option, Some, None, refl, sym, ◌∙◌, ap, subst, arith}
-use Rattle.std.specs.Prelude.{slice_get, option_map, option_to_list, find, is_some, Contains}
-use Rattle.std.specs.List.{AllByRecursion}
-use Rattle.std.proofs.lemmas.Bool.{true≢false, false≢true}
-use Rattle.std.proofs.lemmas.List.{map-append}
-use Rattle.std.proofs.lemmas.List.Elements.{All-from_recursion, Contains-push, Contains-append_left, Contains-append_right}
-use Rattle.kc_rules_model.specs.declared.values.UserValue.{UserValue}
+use Rattle.kc_reasons_model.proofs.Common.{◌≡◌, ◌≢◌, ℕ, zero, suc, ◌+◌, ◌<◌, Bool, true, false, not, cond, List, [], ◌∷◌, ◌++◌, map, Option, Some, None, refl, sym, ◌∙◌, ap, subst, arith, option_map, option_to_list, find, is_some, AllByRecursion, true≢false, false≢true, map-append}
+use Rattle.kc_reasons_model.proofs.Common.{All-from_recursion, Contains-append_left, Contains-append_right, UserValue, LineMeaning, AssigningLine, AssigningPlace, place_giving, assigning_line}
+use Rattle.std.specs.Prelude.{Contains}
+use Rattle.std.proofs.lemmas.List.Elements.{Contains-push}
 use Rattle.kc_rules_model.specs.Equality.{same_user}
 use Rattle.kc_rules_model.specs.checker.EqualityLaws.{users_decided}
-use Rattle.kc_dotconfig_model.specs.ConfigLines.{LineMeaning}
-use Rattle.kc_reasons_model.specs.AssigningLines.{AssigningLine, AssigningPlace, place_giving, assigning_line}
 use Rattle.kc_reasons_model.specs.OverriddenLines.{places_of, asks_otherwise, OverriddenPlace, overriding, overridden, IsPlaceIn, IsOverridden, ListedAreOverridden, OverriddenAreListed}
 
 apart : (x y : UserValue) → same_user x y ≡ false → y ≢ x

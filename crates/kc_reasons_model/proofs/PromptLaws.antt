@@ -1,24 +1,11 @@
 -- A user value counts in full exactly if a prompt's condition is as high as is wanted.
-use Rattle.std.proofs.Common.{◌≡◌, ◌≢◌, Bool, true, false, not, ◌&&◌, ◌||◌, cond, List, [], ◌∷◌, refl, sym, ◌∙◌, ap}
-use Rattle.std.proofs.Math.Bool.{beq}
-use Rattle.std.specs.List.{list_any, AllByRecursion}
-use Rattle.std.proofs.lemmas.Bool.{not-true, not-false, or_parts, true≢false}
-use Rattle.std.proofs.lemmas.List.Elements.{All-from_recursion}
-use Rattle.kc_value.specs.declared.tri.Tri.{Tri}
-use Rattle.kc_value.specs.declared.tri.Tri.TheVariants.{N, M}
-use Rattle.kc_value.specs.Tri.{tri_or, y_for_m}
-use Rattle.kc_expr.specs.Expr.{Expr}
-use Rattle.kc_tree_model.specs.Trees.{Tree}
-use Rattle.kc_rules_model.specs.declared.values.UnitValue.{UnitValue}
-use Rattle.kc_rules_model.specs.Kinds.{is_n, largest}
-use Rattle.kc_rules_model.specs.SymbolValues.{condition, environment}
-use Rattle.kc_rules_model.specs.Rule.{conditions, counted_prompts}
-use Rattle.kc_reasons_model.specs.Conjuncts.{below, lacking}
+use Rattle.kc_reasons_model.proofs.Common.{◌≡◌, ◌≢◌, Bool, true, false, not, ◌&&◌, ◌||◌, cond, List, [], ◌∷◌, refl, sym, ◌∙◌, ap, beq, list_any, AllByRecursion, not-true, not-false, or_parts, true≢false, All-from_recursion, Tri, N, M, tri_or, y_for_m, Expr, Tree, UnitValue, is_n, largest, condition}
+use Rattle.kc_reasons_model.proofs.Common.{counted_prompts, below, lacking, is_without_m, at, at2, at3, after, same_bool}
+use Rattle.kc_rules_model.specs.SymbolValues.{environment}
+use Rattle.kc_rules_model.specs.Rule.{conditions}
 use Rattle.kc_reasons_model.proofs.ConjunctLaws.{nothing_lacks}
-use Rattle.kc_reasons_model.specs.Cases.{is_without_m}
 use Rattle.kc_reasons_model.specs.Hindrances.{wanted_for}
 use Rattle.kc_reasons_model.specs.Laws.{PromptsLetInWhatIsWanted, HiddenPromptsLack, UnmetDependenciesLack}
-use Rattle.kc_reasons_model.proofs.Tables.{at, at2, at3, after, same_bool}
 
 abbrev high : Tri → Tri → Bool
 high t x = not (below x t)
@@ -38,7 +25,7 @@ full_is : (without_m : Bool) (a x : Tri) → full without_m a x ≡ high (cond w
 full_is true a x = same_bool _ _ (at2 (λ a x. beq (full true a x) (high M x)) refl a x)
 full_is false a x = same_bool _ _ (at2 (λ a x. beq (full false a x) (high (tri_or M a) x)) refl a x)
 
-wanted_some : (without_m : Bool) (a : Tri) → is_n (cond without_m M (tri_or M a)) ≡ false
+pub wanted_some : (without_m : Bool) (a : Tri) → is_n (cond without_m M (tri_or M a)) ≡ false
 wanted_some true a = refl
 wanted_some false a = not-true _ (at (λ a. not (is_n (tri_or M a))) refl a)
 
@@ -60,7 +47,7 @@ pub hidden_lack : HiddenPromptsLack
 hidden_lack tree symbol a values low = All-from_recursion _ _ (each_lacks tree values (wanted_for tree symbol a values) (counted_prompts symbol) (sym (let_in tree symbol a values) ∙ low))
 
 -- what is below something isn't wanted to be `n`
-above_some : (x t : Tri) → below x t ≡ true → is_n t ≡ false
+pub above_some : (x t : Tri) → below x t ≡ true → is_n t ≡ false
 above_some x t e = not-true _ (after _ _ (at2 (λ x t. not (below x t) || not (is_n t)) refl x t) (ap not e))
 
 pub unmet_lack : UnmetDependenciesLack

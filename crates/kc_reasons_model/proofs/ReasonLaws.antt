@@ -1,33 +1,19 @@
 -- The reasons that `explain` gives answer what was assigned.
-use Rattle.std.proofs.Common.{◌≡◌, ◌≢◌, ℕ, ◌++◌, suc, ◌+◌, Bool, true, false, not, ◌||◌, cond, List, [], ◌∷◌, map, length, refl, sym, ◌∙◌, ap, length-append, subst, flat_map, Some, reverse, ◌&&◌}
-use Rattle.std.specs.List.{list_any, All, AllByRecursion}
-use Rattle.std.proofs.lemmas.Bool.{and_parts, false≢true, or_parts, not-false}
-use Rattle.std.proofs.lemmas.List.Elements.{All-from_recursion, recursion_from_All}
+use Rattle.std.proofs.Common.{flat_map, reverse}
+use Rattle.kc_reasons_model.proofs.Common.{◌≡◌, ◌≢◌, ℕ, ◌++◌, suc, ◌+◌, Bool, true, false, not, ◌||◌, cond, List, [], ◌∷◌, map, length, refl, sym, ◌∙◌, ap, length-append, subst, Some, ◌&&◌, list_any, All, AllByRecursion, and_parts, false≢true, or_parts, not-false, All-from_recursion}
+use Rattle.kc_reasons_model.proofs.Common.{recursion_from_All, Tri, Expr, Environment, value, selected, direct_dependency, is_from_environment, counted_prompts, allowed, y_for_m, below, lacking, LocatedExpr, wanted_of, lacking_located, SymbolLines, IsDependency, counted_conditions, Symbol}
+use Rattle.kc_reasons_model.proofs.Common.{ExplainedRun, names_of, low_part, low_parts, is_empty, unless_one_lacks_nothing, needs_of, unmet_parts, wanted_of_prompts, is_none, bytes_eq-Decides, bytes_eq, blamed, at2, after}
 use Rattle.std.proofs.lemmas.List.{reverse-append}
-use Rattle.kc_value.specs.declared.tri.Tri.{Tri}
-use Rattle.kc_expr.specs.Expr.{Expr, Environment, value}
-use Rattle.kc_rules_model.specs.Rule.{selected, direct_dependency, is_from_environment, counted_prompts}
-use Rattle.kc_rules_model.specs.Reports.{allowed, is_linux}
+use Rattle.kc_rules_model.specs.Reports.{is_linux}
 use Rattle.kc_value.specs.Kinds.{is_bool}
-use Rattle.kc_value.specs.Tri.{y_for_m}
-use Rattle.kc_reasons_model.specs.Conjuncts.{below, lacking}
-use Rattle.kc_reasons_model.specs.Places.{LocatedExpr, wanted_of, lacking_located}
-use Rattle.kc_reasons_model.specs.SymbolLines.{SymbolLines}
-use Rattle.kc_reasons_model.specs.Laws.{IsDependency, counted_conditions}
-use Rattle.kc_tree_model.specs.Trees.{Symbol}
-use Rattle.kc_reasons_model.specs.Reasons.{ExplainedRun, LowPart, names_of, low_part, low_parts, is_empty, unless_one_lacks_nothing, needs_of, unmet_parts, names_below, wanted_of_prompts, reasons_of}
+use Rattle.kc_reasons_model.specs.Reasons.{LowPart, names_below, reasons_of}
 use Rattle.kc_reasons_model.specs.ReasonLaws.{wanted_visibility, HiddenNeedsAreGiven, NothingIsNeededIfVisible, UnmetPartsAreGiven, NextAreDependencies, MemberNextAreDependencies, NextNamesHide}
 use Rattle.kc_reasons_model.proofs.DependencyLaws.{are_dependencies, choice_dependencies}
 use Rattle.kc_tree_model.specs.Limits.{without_repeats, is_in_list}
-use Rattle.std.specs.Prelude.{is_none}
-use Rattle.std.proofs.lemmas.Slice.Eq.{bytes_eq-Decides}
-use Rattle.std.specs.Prelude.{bytes_eq}
-use Rattle.kc_reasons_model.specs.Blame.{blamed}
 use Rattle.kc_reasons_model.proofs.BlameLaws.{blame_keeps}
 use Rattle.kc_reasons_model.proofs.ConjunctLaws.{nothing_lacks}
 use Rattle.kc_reasons_model.proofs.PromptLaws.{let_in, hidden_lack, unmet_lack}
 use Rattle.kc_reasons_model.proofs.SymbolLineLaws.{length_mapped}
-use Rattle.kc_reasons_model.proofs.Tables.{at2, after}
 
 not_empty : {X : Type 0} (xs : List X) → xs ≢ [] → is_empty xs ≡ false
 not_empty [] other = absurd (other refl)
@@ -59,8 +45,6 @@ module _ (run : ExplainedRun) (t : Tri) where
 
   all_given : (es : List Expr) (pss : List (List LocatedExpr)) → map (lacking names t) es ≡ map (lacking_located names t) pss → AllByRecursion Lacks es → AllByRecursion Gives pss × (length pss ≡ length es)
   all_given [] [] same all = (tt, refl)
-  all_given [] (ps ∷ pss) same all = absurd (cc)
-  all_given (e ∷ es) [] same all = absurd (cc)
   all_given (e ∷ es) (ps ∷ pss) same all =
       let first : lacking names t e ≡ lacking_located names t ps = cc in
       let others : map (lacking names t) es ≡ map (lacking_located names t) pss = cc in
@@ -68,6 +52,7 @@ module _ (run : ExplainedRun) (t : Tri) where
         (same_emptiness (lacking names t e) (low_parts run t ps) (ap (λ xs. length xs) first ∙ as_many_parts ps) all.0, rest.0),
         ap suc rest.1,
       )
+  all_given _ _ same all = absurd (cc)
 
   none_is_empty : (pss : List (List LocatedExpr)) → AllByRecursion Gives pss → list_any is_empty (map (low_parts run t) pss) ≡ false
   none_is_empty [] all = refl

@@ -1,19 +1,15 @@
 -- The plain spelling is read as the same tree.
-use Rattle.std.proofs.Common.{◌≡◌, ℕ, zero, suc, ◌≤◌, Bool, true, false, cond, List, [], ◌∷◌, ◌++◌, Some, refl, ◌∙◌, ap, arith, length}
-use Rattle.std.specs.Prelude.{codes, nat_lt, nat_le, ◌-◌, ◌||◌, ◌==◌, ◌+◌}
+use Rattle.kc_reasons_model.proofs.Common.{◌≡◌, ℕ, zero, suc, ◌≤◌, Bool, true, false, cond, List, [], ◌∷◌, ◌++◌, Some, refl, ◌∙◌, ap, arith, length, codes, ◌==◌, Relation, Not, And, Or, Open, Close, Lexeme, Expr, named, quoted, alone, related, negated, both, either, shown, take-append_seam, get_or}
+use Rattle.kc_reasons_model.proofs.Common.{escaped_byte, Level, ors, ands, factor, IsExpr, one_and, more_ors, one_factor, more_ands, operand, relation, negation, parentheses, relation_text, token, operand_token, in_parentheses, under_not, spelling}
+use Rattle.std.specs.Prelude.{nat_lt, nat_le, ◌-◌, ◌||◌, ◌+◌}
 use Rattle.std.proofs.lemmas.Bool.{ltb-true, ltb-false, cond_both, le-leb}
-use Rattle.kc_tokens.specs.declared.token.TokenKind.TheVariants.{Relation, Not, And, Or, Open, Close}
-use Rattle.kc_tokens.specs.Token.{Lexeme}
-use Rattle.kc_expr.specs.Expr.{Expr, named, quoted, alone, related, negated, both, either, shown}
 use Rattle.std.specs.List.{flat_map}
 use Rattle.std.proofs.lemmas.List.{length-append}
-use Rattle.std.proofs.Math.Seq.{take-append_seam, get_or-append_seam}
-use Rattle.std.proofs.Math.ListN.{get_or}
-use Rattle.kc_value.specs.QuotedTexts.{escaped_byte, unescaped, quoted as quoted_spelling}
+use Rattle.std.proofs.Math.Seq.{get_or-append_seam}
+use Rattle.kc_value.specs.QuotedTexts.{unescaped, quoted as quoted_spelling}
 use Rattle.kc_tokens.specs.QuotedTexts.{quoted_text, between_quotes}
-use Rattle.kc_expr.specs.Grammar.{constant_else, constant_or, Level, ors, ands, factor, IsExpr, one_and, more_ors, one_factor, more_ands, operand, relation, negation, parentheses}
-use Rattle.kc_tokens.specs.TokenGrammar.{relation_text}
-use Rattle.kc_reasons_model.specs.Spelling.{token, operand_token, in_parentheses, under_not, spelling, depth_under_not, depth, IsPlain, deeper}
+use Rattle.kc_expr.specs.Grammar.{constant_else, constant_or}
+use Rattle.kc_reasons_model.specs.Spelling.{depth_under_not, depth, IsPlain, deeper}
 use Rattle.kc_reasons_model.specs.Laws.{SpelledIsReadBack, OperandsAreReadBack}
 
 at_level : (l : Level) (d : ℕ) (ts : List Lexeme) (e : Expr) → IsExpr factor d ts e → IsExpr l d ts e
@@ -37,27 +33,20 @@ in_both d ts e h = parentheses (token Open (codes "(")) (token Close (codes ")")
 negated_operand : (d : ℕ) (e : Expr) → ((k : ℕ) → depth factor e ≤ k → IsExpr factor k (spelling factor e) e) → depth_under_not e (depth factor e) ≤ d → IsExpr factor d (under_not e (spelling factor e)) e
 negated_operand zero (related op a b) read fits = absurd (omega arith)
 negated_operand (suc d) (related op a b) read fits = in_both d _ (related op a b) (one_and (one_factor (read d (omega arith))))
-negated_operand d (alone a) read fits = read d fits
-negated_operand d (negated e) read fits = read d fits
-negated_operand d (both a b) read fits = read d fits
-negated_operand d (either a b) read fits = read d fits
-negated_operand d (shown e) read fits = read d fits
+negated_operand d _ read fits = read d fits
 
 pub read : (l : Level) (d : ℕ) (e : Expr) → IsPlain e → depth l e ≤ d → IsExpr l d (spelling l e) e
 read l d (alone a) plain fits = at_level l d _ (alone a) (operand (operand_token a) plain refl)
 read l d (related op a b) plain fits = at_level l d _ (related op a b) (relation (operand_token a) (token (Relation op) (relation_text op)) (operand_token b) op plain.0 refl plain.1 refl)
-read l zero (negated e) plain fits = absurd (omega arith)
 read l (suc d) (negated e) plain fits = at_level l (suc d) _ (negated e) (negation (token Not (codes "!")) refl (negated_operand d e (λ k f. read factor k e plain f) (under _ d fits)) refl)
 read ors d (either a b) plain fits = more_ors (token Or (codes "||")) (read ors d a plain.0 (left_fits _ _ d fits)) refl (read ands d b plain.1 (right_fits _ _ d fits)) refl
 read ors d (both a b) plain fits = one_and (more_ands (token And (codes "&&")) (read ands d a plain.0 (left_fits _ _ d fits)) refl (read factor d b plain.1 (right_fits _ _ d fits)) refl)
 read ands d (both a b) plain fits = more_ands (token And (codes "&&")) (read ands d a plain.0 (left_fits _ _ d fits)) refl (read factor d b plain.1 (right_fits _ _ d fits)) refl
-read ands zero (either a b) plain fits = absurd (omega arith)
-read factor zero (either a b) plain fits = absurd (omega arith)
-read factor zero (both a b) plain fits = absurd (omega arith)
 read ands (suc d) (either a b) plain fits = one_factor (in_both d _ (either a b) (more_ors (token Or (codes "||")) (read ors d a plain.0 (left_fits _ _ d (under _ d fits))) refl (read ands d b plain.1 (right_fits _ _ d (under _ d fits))) refl))
 read factor (suc d) (either a b) plain fits = in_both d _ (either a b) (more_ors (token Or (codes "||")) (read ors d a plain.0 (left_fits _ _ d (under _ d fits))) refl (read ands d b plain.1 (right_fits _ _ d (under _ d fits))) refl)
 read factor (suc d) (both a b) plain fits = in_both d _ (both a b) (one_and (more_ands (token And (codes "&&")) (read ands d a plain.0 (left_fits _ _ d (under _ d fits))) refl (read factor d b plain.1 (right_fits _ _ d (under _ d fits))) refl))
 read l d (shown e) plain fits = absurd plain
+read _ zero _ plain fits = absurd (omega arith)
 
 pub read_back : SpelledIsReadBack
 read_back e plain = read ors (depth ors e) e plain (omega arith)

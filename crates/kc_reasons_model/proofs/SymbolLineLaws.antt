@@ -1,27 +1,16 @@
 -- The lines of a symbol are those of its conditions, defaults, ranges, selects and implies.
-use Rattle.std.proofs.Common.{◌≡◌, ℕ, Bool, true, false, cond, List, [], ◌∷◌, ◌++◌, map, filter, take, Option, Some, None, length, zero, suc, refl, sym, ◌∙◌, ap, length-append}
-use Rattle.std.specs.Prelude.{filter_map, flat_map, option_map, ◌+◌, bytes_eq}
-use Rattle.std.specs.List.{cons_option}
-use Rattle.kc_value.specs.declared.tri.Tri.{Tri}
-use Rattle.kc_expr.specs.Expr.{Expr, Environment}
-use Rattle.kc_tokens.specs.declared.language.Language.{Language}
-use Rattle.kc_tokens.specs.Languages.{is_linux_6_12}
+use Rattle.kc_reasons_model.proofs.Common.{◌≡◌, ℕ, Bool, true, false, cond, List, [], ◌∷◌, ◌++◌, map, filter, take, Option, Some, None, length, zero, suc, refl, sym, ◌∙◌, ap, length-append, filter_map, flat_map, option_map, bytes_eq, cons_option, map-append, Tri, Expr, Environment, Language}
+use Rattle.kc_reasons_model.proofs.Common.{is_linux_6_12, is_n, ReverseDependency, Attribute, prompt_of, Group, Line, Position, Context, context, prompt_condition, attribute_values, attribute_condition, lacking, LocatedContext, located_context, located_prompt, located_dependencies, lacking_located}
+use Rattle.std.specs.Prelude.{◌+◌}
 use Rattle.kc_expr.specs.Lookup.{index_of_name}
-use Rattle.kc_rules_model.specs.Kinds.{is_n}
-use Rattle.kc_tree_model.specs.Trees.{ReverseDependency}
-use Rattle.kc_tree_model.specs.Statements.{Attribute, TargetAttribute, prompt_of, default_of, range_of, select_of, imply_of}
-use Rattle.kc_tree_model.specs.Blocks.{Group, Line, Position, defined_name}
-use Rattle.kc_tree_model.specs.Conditions.{Context, context, context_of, prompt_condition, prompts_of, dependency_of, attribute_values, attribute_condition, GroupInContext}
+use Rattle.kc_tree_model.specs.Statements.{TargetAttribute, default_of, range_of, select_of, imply_of}
+use Rattle.kc_tree_model.specs.Blocks.{defined_name}
+use Rattle.kc_tree_model.specs.Conditions.{context_of, prompts_of, dependency_of, GroupInContext}
 use Rattle.kc_tree_model.specs.Contents.{Contents, contents_of, definitions_of, defaults_at, ranges_at, reverse_dependencies_of, reverse_dependencies_by, own_dependencies, choice_of_symbol}
-use Rattle.kc_reasons_model.specs.Conjuncts.{lacking}
-use Rattle.kc_reasons_model.specs.Places.{LocatedContext, located_context, located_context_of, located_prompt, located_prompts, located_dependencies, lacking_located}
+use Rattle.kc_reasons_model.specs.Places.{located_context_of, located_prompts}
 use Rattle.kc_reasons_model.specs.SymbolLines.{attribute_positions, position_of, target_named, target_positions}
 use Rattle.kc_reasons_model.specs.Laws.{LinesAreOfSymbol}
 use Rattle.kc_reasons_model.proofs.PlaceLaws.{prompts_located, dependencies_located}
-
-map_joined : {X Y : Type 0} (f : X → Y) (xs ys : List X) → map f (xs ++ ys) ≡ map f xs ++ map f ys
-map_joined f [] ys = refl
-map_joined f (x ∷ xs) ys = ap (λ zs. f x ∷ zs) (map_joined f xs ys)
 
 map_taken : {X Y : Type 0} (f : X → Y) (n : ℕ) (xs : List X) → map f (take n xs) ≡ take n (map f xs)
 map_taken f zero xs = refl
@@ -54,10 +43,10 @@ module _ (names : Environment) (t : Tri) (some : is_n t ≡ false) (language : L
       ≡ map (lacking_located names t) (flat_map (λ (p : GroupInContext). located_prompts (located_context_of language p) p.group) ps)
   prompts_of_groups [] = refl
   prompts_of_groups (p ∷ ps) =
-      map_joined (lacking names t) (prompts_of (context_of language p) p.group) (flat_map (λ (q : GroupInContext). prompts_of (context_of language q) q.group) ps)
+      map-append (lacking names t) (prompts_of (context_of language p) p.group) (flat_map (λ (q : GroupInContext). prompts_of (context_of language q) q.group) ps)
       ∙ ap (λ xs. xs ++ map (lacking names t) (flat_map (λ (q : GroupInContext). prompts_of (context_of language q) q.group) ps)) (prompts_of_lines p.opened p.group p.group.attributes)
       ∙ ap (λ xs. map (lacking_located names t) (located_prompts (located_context_of language p) p.group) ++ xs) (prompts_of_groups ps)
-      ∙ sym (map_joined (lacking_located names t) (located_prompts (located_context_of language p) p.group) (flat_map (λ (q : GroupInContext). located_prompts (located_context_of language q) q.group) ps))
+      ∙ sym (map-append (lacking_located names t) (located_prompts (located_context_of language p) p.group) (flat_map (λ (q : GroupInContext). located_prompts (located_context_of language q) q.group) ps))
 
   direct_of_groups : (ps : List GroupInContext)
       → map (lacking names t) (map (λ (p : GroupInContext). dependency_of (context_of language p) p.group) ps)

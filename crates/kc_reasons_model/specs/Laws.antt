@@ -9,7 +9,7 @@ use Rattle.kc_expr.specs.Grammar.{read_expr, IsExpr, ors, letter_value}
 use Rattle.kc_expr.specs.ExpressionNames.{names_in}
 use Rattle.kc_tree_model.specs.Trees.{Tree, Symbol, Choice, ReverseDependency}
 use Rattle.kc_tree_model.specs.declared.ids.Unit.TheVariants.{Symbol as of_symbol, Choice as of_choice}
-use Rattle.kc_system.specs.Solutions.{user_of, Solves, FitsUsers}
+use Rattle.kc_solver.specs.Solutions.{user_of, Solves, FitsUsers}
 use Rattle.kc_rules_model.specs.SettledTrees.{IsSettledTree}
 use Rattle.kc_rules_model.specs.declared.profile.Profile.{Profile}
 use Rattle.kc_rules_model.specs.declared.values.UnitValue.{UnitValue}

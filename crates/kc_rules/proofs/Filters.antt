@@ -36,3 +36,12 @@ filter_more p n s t old new es et eo en =
 
     zero_plus : 0 + n ≡ n
     zero_plus = omega arith
+
+-- and so for a number that passes, and for one that doesn't
+pub filter_kept : (p : ℕ → Bool) (n s : ℕ) (old new : List ℕ) → s ≡ n → p s ≡ true → old ≡ filter p (range_with_len 0 n)
+    → new ≡ old ++ s ∷ [] → new ≡ filter p (range_with_len 0 (n + 1))
+filter_kept p n s old new es passes eo en = filter_more p n s true old new es (sym passes) eo en
+
+pub filter_skipped : (p : ℕ → Bool) (n s : ℕ) (old : List ℕ) → s ≡ n → p s ≡ false → old ≡ filter p (range_with_len 0 n)
+    → old ≡ filter p (range_with_len 0 (n + 1))
+filter_skipped p n s old es fails eo = filter_more p n s false old old es (sym fails) eo (append_empty old)

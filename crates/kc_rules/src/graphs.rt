@@ -4,7 +4,7 @@ ghost use Rattle.kc_rules_model.specs.Dependencies.{dependencies};
 ghost use Rattle.kc_rules_model.specs.checker.GraphLaw.{rules_graph};
 
 use super::rules::Settled;
-use kc_system::Graph;
+use kc_solver::Graph;
 
 impl Graph for Settled {
     ghost size = { λ s. length s.rules.tree.tree.units };

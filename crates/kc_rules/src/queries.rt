@@ -6,13 +6,13 @@ ghost use Rattle.kc_rules_model.specs.SymbolValues.{value_of_symbol, condition};
 ghost use Rattle.kc_rules_model.specs.Dependencies.{dependencies};
 ghost use Rattle.kc_rules_model.specs.SettledTrees.{IsSettledTree};
 ghost use Rattle.kc_rules.specs.between.SettledViews.{tree_model_of, tree_of_settled, profile_of, value_view, value_of_ref};
-ghost use Rattle.kc_system.specs.Dependencies.{IsOrder};
+ghost use Rattle.kc_solver.specs.Dependencies.{IsOrder};
 
 use super::rules::Settled;
 use kc_evaluation::{Rules, Valuation};
 use kc_expr::{ExprId, Looked};
 use kc_rules_model::{Profile, UnitValue};
-use kc_system::Order;
+use kc_solver::Order;
 use kc_tree::{Sym, Tree};
 use kc_value::{Kind, Tri, ValueRef};
 

@@ -1,5 +1,5 @@
 //! Tests of whether a symbol is written or unmet, given the values of the units.
-ghost use Rattle.std.specs.Prelude.{◌≡◌, ◌<◌, ◌++◌, ◌∷◌, ◌&&◌, ◌||◌, [], not, length, IfOk, OnOk, if◌then◌else◌};
+ghost use Rattle.std.specs.Prelude.{◌≡◌, ◌<◌, ◌&&◌, ◌||◌, not, length, IfOk};
 ghost use Rattle.kc_tree.specs.between.Views.{SymbolFits, symbol_view};
 ghost use Rattle.kc_tokens.specs.Languages.{is_linux_6_12};
 ghost use Rattle.kc_rules_model.specs.Kinds.{is_n};
@@ -79,19 +79,6 @@ fn is_unmet(under: &Valuation<'_>, s: Sym) -> bool
     is_symbol_unmet(under, &under.rules.tree.symbol(s))
 }
 
-/// Appends the symbol if `counts`.
-#[tactic(auto, using(crate::proofs::Filters::append_empty))]
-fn push_if(found: &mut Vec<Sym>, s: Sym, counts: bool) -> Result<(), AllocError>
-    ensures { OnOk result (found.new.items ≡ found.old.items ++ (if counts then s ∷ [] else [])) }
-{
-    if counts {
-        found.push(s)?;
-        Ok(())
-    } else {
-        Ok(())
-    }
-}
-
 impl Settled {
     /// Whether a full file has a line for a symbol: if it is visible, unless its optional choice has no selection; outside
     /// choices also if it has a default, is selected, or is implied, before Linux 6.10 while its direct dependency isn't `n`.
@@ -119,8 +106,9 @@ impl Settled {
         let mut found = Vec::new(alloc);
         for number in 0..self.rules.tree.symbol_count() {
             let s = Sym::at(number);
-            let counts = is_unmet(&under, s);
-            push_if(&mut found, s, counts)?;
+            if is_unmet(&under, s) {
+                found.push(s)?;
+            }
         }
         Ok(found)
     }

@@ -1,7 +1,7 @@
 //! Settling a tree.
 ghost use Rattle.std.specs.Prelude.{◌≡◌, ℕ, List, length, IfOk, IfErr};
-ghost use Rattle.kc_system.specs.Dependencies.{HasNoCycle};
-ghost use Rattle.kc_system.specs.Faults.{ReportsCycle};
+ghost use Rattle.kc_solver.specs.Dependencies.{HasNoCycle};
+ghost use Rattle.kc_solver.specs.Faults.{ReportsCycle};
 ghost use Rattle.kc_rules_model.specs.Dependencies.{dependencies};
 ghost use Rattle.kc_rules_model.specs.SettledTrees.{IsSettledTree};
 ghost use Rattle.kc_rules.specs.between.SettledViews.{tree_model_of, profile_of};
@@ -11,7 +11,7 @@ use super::fault::SettleFault;
 use super::rules::Settled;
 use kc_evaluation::{Links, Rules, links_of, modules_of};
 use kc_rules_model::Profile;
-use kc_system::{Order, OrderFault, order};
+use kc_solver::{Order, OrderFault, order};
 use kc_tree::Tree;
 use std::alloc::{AllocError, Global};
 

@@ -13,7 +13,7 @@ use super::rules::Settled;
 use super::steps::Steps;
 use kc_evaluation::value_of;
 use kc_rules_model::{MemberLine, MemberLines, UnitValue, UserValue};
-use kc_system::System;
+use kc_solver::System;
 use kc_tree::Unit;
 use kc_value::{Kind, Text, Tri};
 use std::alloc::{AllocError, Global};

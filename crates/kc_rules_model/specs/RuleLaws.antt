@@ -7,8 +7,8 @@ use Rattle.kc_tree_model.specs.Trees.{Tree, Symbol}
 use Rattle.kc_tree_model.specs.declared.ids.Unit.{Unit as TreeUnit}
 use Rattle.kc_tree_model.specs.declared.ids.Unit.TheVariants.{Symbol as of_symbol, Choice as of_choice}
 use Rattle.kc_tree_model.specs.TreeLookup.{IsConsistent}
-use Rattle.kc_system.specs.Dependencies.{IsGraph}
-use Rattle.kc_system.specs.Solutions.{Solves, KeepsFrame, Restores, FitsUsers, FitsValues}
+use Rattle.kc_solver.specs.Dependencies.{IsGraph}
+use Rattle.kc_solver.specs.Solutions.{Solves, KeepsFrame, Restores, FitsUsers, FitsValues}
 use Rattle.kc_rules_model.specs.declared.profile.Profile.{Profile}
 use Rattle.kc_rules_model.specs.declared.values.UnitValue.{UnitValue}
 use Rattle.kc_rules_model.specs.declared.values.UnitValue.TheVariants.{Tri as TriValue, Text as TextValue, Member as MemberValue}

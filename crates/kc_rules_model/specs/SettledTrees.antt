@@ -1,6 +1,6 @@
 -- The trees whose values are computed ("Kconfig recursive dependency limitations").
 use Rattle.std.specs.Prelude.{length}
-use Rattle.kc_system.specs.Dependencies.{HasNoCycle}
+use Rattle.kc_solver.specs.Dependencies.{HasNoCycle}
 use Rattle.kc_tree_model.specs.Trees.{Tree}
 use Rattle.kc_tree_model.specs.TreeLookup.{IsConsistent}
 use Rattle.kc_rules_model.specs.Dependencies.{dependencies}

@@ -1,28 +1,18 @@
 -- The forms of lines, step by step: conditions, first tokens and results.
-use Rattle.std.proofs.Common.{◌≡◌, inl, inr, ℕ, suc, zero, ◌+◌, ◌<◌, ◌≤◌, ◌⊎◌, Bool, true, false, List, [], ◌∷◌, length, drop, refl, ap, sym, ◌∙◌, arith, rules, Some, Result, Ok, Err, length-drop, map, ◌==◌}
+use Rattle.std.proofs.Common.{zero, ◌⊎◌, map}
 use Rattle.std.proofs.lemmas.List.{drop-map, drop_more}
-use Rattle.std.specs.Prelude.{codes, slice_index_or, take}
-use Rattle.std.proofs.lemmas.Bool.{false≢true}
-use Rattle.std.proofs.lemmas.Bool.Decides.{nat_tests}
-use Rattle.kc_tokens.specs.Token.{Lexeme, lexeme_of, lexemes_of}
+use Rattle.std.specs.Prelude.{take}
+use Rattle.kc_statements.proofs.Common.{◌≡◌, inl, inr, ℕ, suc, ◌+◌, ◌<◌, ◌≤◌, Bool, true, false, List, [], ◌∷◌, length, drop, refl, ap, sym, ◌∙◌, arith, rules, Some, Result, Ok, Err, length-drop, ◌==◌, codes, slice_index_or, IfOk, false≢true, nat_tests, Lexeme, lexeme_of, lexemes_of, Word, Expr}
+use Rattle.kc_statements.proofs.Common.{extent, ExprKind, TreeKind, Malformed, OutOfMemory, last_condition, optional_if, no_more, kind_of_fault, ParsedExpr, ◌>>=◌, is_the_word, Statement, ReturnsOrFails}
 use Rattle.kc_expr.specs.between.ParseResults.{RefusesExpr, expr_tokens, expr_end}
 use Rattle.kc_tokens.specs.declared.fault.ExprFault.{ExprFault}
 use Rattle.kc_tokens.specs.MemoryFaults.{IsOutOfMemory}
 use Rattle.kc_tokens.specs.declared.token.Token.{Token as CodeToken}
-use Rattle.kc_tokens.specs.declared.token.TokenKind.TheVariants.{Word}
-use Rattle.kc_expr.specs.Expr.{Expr, conditional}
-use Rattle.kc_expr.specs.Grammar.{extent, read_expr, fault_of}
-use Rattle.kc_tokens.specs.declared.fault.ExprKind.{ExprKind}
-use Rattle.kc_tree_model.specs.declared.fault.TreeKind.{TreeKind}
-use Rattle.kc_tree_model.specs.declared.fault.TreeKind.TheVariants.{Malformed, OutOfMemory}
-use Rattle.kc_tree_model.specs.Forms.{last_condition, optional_if, no_more, kind_of_fault, ParsedExpr, ◌>>=◌}
-use Rattle.kc_tree_model.specs.Keywords.{is_the_word}
-use Rattle.kc_expr.specs.between.Arena.{Exprs}
+use Rattle.kc_expr.specs.Expr.{conditional}
+use Rattle.kc_expr.specs.Grammar.{read_expr, fault_of}
 use Rattle.kc_expr.proofs.FirstFaults.{fault_read}
 use Rattle.kc_tree_model.specs.Forms.{statement_of}
 use Rattle.kc_tree_model.specs.declared.keyword.Keyword.{Keyword}
-use Rattle.kc_statements.specs.declared.statement.Statement.{Statement as CodeStatement}
-use Rattle.kc_statements.specs.between.StatementViews.{ReturnsOrFails, statement_in}
 
 more : {A : Type 0} (x : A) (ts : List Lexeme) → 0 < length ts → no_more x ts ≡ Err Malformed
 more x [] h = absurd (omega arith)
@@ -117,9 +107,26 @@ there zero b e f = absurd (false≢true (sym f ∙ e))
 there (suc n) b e f = omega arith
 
 -- the statement of a line under one keyword is that under an equal keyword
-pub by_keyword : (e : Exprs) (r : Result CodeStatement TreeKind) (ps : List Lexeme) {k l : Keyword} → k ≡ l
-    → ReturnsOrFails (statement_in e) r (statement_of l ps) → ReturnsOrFails (statement_in e) r (statement_of k ps)
-by_keyword e r ps {k} {l} q g = along (statement_in e) r (statement_of k ps) (statement_of l ps) (ap (λ w. statement_of w ps) q) g
+pub by_keyword : {A : Type 0} (view : A → Statement) (r : Result A TreeKind) (ps : List Lexeme) {k l : Keyword} → k ≡ l
+    → ReturnsOrFails view r (statement_of l ps) → ReturnsOrFails view r (statement_of k ps)
+by_keyword view r ps {k} {l} q g = along view r (statement_of k ps) (statement_of l ps) (ap (λ w. statement_of w ps) q) g
+
+-- what is given where no tokens may be left
+pub left_given : {A B : Type 0} (view : A → B) (x : A) (ts : List Lexeme) (r : Result A TreeKind) → r ≡ no_more x ts → ReturnsOrFails view r (no_more (view x) ts)
+left_given view x [] r e = rw e refl
+left_given view x (t ∷ ts) r e = rw e (inr refl)
+
+pub left_held : {A : Type 0} (P : A → Type 0) (x : A) (ts : List Lexeme) (r : Result A TreeKind) → r ≡ no_more x ts → P x → IfOk r P
+left_held P x [] r e h = rw e h
+left_held P x (t ∷ ts) r e h = rw e tt
+
+pub none_left : {A B : Type 0} (x u : A) (y : B) (ts : List Lexeme) → no_more x ts ≡ Ok u → no_more y ts ≡ Ok y
+none_left x u y [] e = refl
+none_left x u y (t ∷ ts) e = cc
+
+pub some_left : {A B : Type 0} (x : A) (y : B) (k : TreeKind) (ts : List Lexeme) → no_more x ts ≡ Err k → no_more y ts ≡ Err k
+some_left x y k [] e = cc
+some_left x y k (t ∷ ts) e = ap Err (let q : Malformed ≡ k = cc in q)
 
 -- no tokens where their number is 0
 equal : (m n : ℕ) → (m == n) ≡ true → m ≡ n

@@ -1,4 +1,4 @@
-pub mod WordLemmas
+pub mod Common
 pub mod FormLemmas
 pub mod RangeLemmas
 pub mod TitleLemmas

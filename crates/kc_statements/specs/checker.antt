@@ -1,2 +1,2 @@
-pub mod WordLengths
 pub mod Titles
+pub mod Heads

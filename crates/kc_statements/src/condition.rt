@@ -1,8 +1,8 @@
-//! Conditions at the ends of lines.
-ghost use Rattle.std.specs.Prelude.{◌≤◌, length, drop, IfOk};
+//! The ends of lines: conditions, and nothing.
+ghost use Rattle.std.specs.Prelude.{◌≡◌, ◌≤◌, length, drop, IfOk};
 ghost use Rattle.kc_expr.specs.between.Arena.{Grows, node_expr};
 ghost use Rattle.kc_tokens.specs.Token.{lexemes_of};
-ghost use Rattle.kc_tree_model.specs.Forms.{last_condition, optional_if};
+ghost use Rattle.kc_tree_model.specs.Forms.{no_more, last_condition, optional_if};
 ghost use Rattle.kc_statements.specs.between.StatementViews.{ReturnsOrFails, NodeExists, IfNodeExists, if_in};
 
 use super::fault::tree_kind_of;
@@ -10,6 +10,17 @@ use super::token::is_the_word;
 use kc_expr::{Arena, ExprId};
 use kc_tokens::Token;
 use kc_tree_model::TreeKind;
+
+/// Gives what was read before these last tokens of a line, of which there must be none.
+pub(crate) fn no_more<T: Drop>(read: T, tokens: &[Token<'_>]) -> Result<T, TreeKind>
+    ensures { result ≡ no_more read (lexemes_of tokens.now) }
+{
+    if tokens.is_empty() {
+        Ok(read)
+    } else {
+        Err(TreeKind::Malformed)
+    }
+}
 
 /// Reads a condition from the token at `at` up to the end of the line.
 pub(crate) fn last_condition(
@@ -49,8 +60,5 @@ pub(crate) fn optional_if(
     if !is_the_word("if", &tokens[at]) {
         return Err(TreeKind::Malformed);
     }
-    match last_condition(arena, tokens, at + 1) {
-        Ok(id) => Ok(Some(id)),
-        Err(kind) => Err(kind),
-    }
+    Ok(Some(last_condition(arena, tokens, at + 1)?))
 }

@@ -5,17 +5,10 @@ ghost use Rattle.kc_tokens.specs.Token.{lexemes_of};
 ghost use Rattle.kc_tree_model.specs.Forms.{statement_of as defined_statement};
 ghost use Rattle.kc_statements.specs.between.StatementViews.{ReturnsOrFails, StatementNodesExist, statement_in};
 
-use super::attributes::{
-    default_line, depends_line, help_line, imply_line, modules_line, optional_line, prompt_line,
-    select_line, type_line, typed_default_line, visible_line,
-};
-use super::heads::{
-    choice_line, comment_line, config_line, end_line, if_line, mainmenu_line, menu_line,
-    source_line,
-};
-use super::options::option_line;
-use super::range::range_line;
-use super::statement::Statement;
+use super::attributes::attribute_of;
+use super::condition::{last_condition, no_more};
+use super::heads::{config_line, mainmenu_line, source_line, title};
+use super::statement::{Head, Statement};
 use kc_expr::Arena;
 use kc_tokens::Token;
 use kc_tree_model::{Keyword, TreeKind};
@@ -38,26 +31,13 @@ pub fn statement_of<'a>(
 {
     match keyword {
         Keyword::Config => config_line(tokens),
-        Keyword::Choice => choice_line(tokens),
-        Keyword::Menu => menu_line(alloc, tokens),
-        Keyword::If => if_line(arena, tokens),
-        Keyword::Comment => comment_line(alloc, tokens),
+        Keyword::Choice => no_more(Statement::Head(Head::Choice), tokens),
+        Keyword::Menu => Ok(Statement::Head(Head::Menu(title(alloc, tokens)?))),
+        Keyword::If => Ok(Statement::Head(Head::Condition(last_condition(arena, tokens, 0)?))),
+        Keyword::Comment => Ok(Statement::Head(Head::Comment(title(alloc, tokens)?))),
         Keyword::Source => source_line(alloc, tokens),
         Keyword::Mainmenu => mainmenu_line(tokens),
-        Keyword::End(block) => end_line(block, tokens),
-        Keyword::Type(kind) => type_line(arena, kind, tokens),
-        Keyword::DefaultType(kind) => typed_default_line(arena, kind, tokens),
-        Keyword::Prompt => prompt_line(arena, tokens),
-        Keyword::Default => default_line(arena, tokens),
-        Keyword::Depends => depends_line(arena, tokens),
-        Keyword::Select => select_line(arena, tokens),
-        Keyword::Imply => imply_line(arena, tokens),
-        Keyword::Range => range_line(arena, tokens),
-        Keyword::Visible => visible_line(arena, tokens),
-        Keyword::Help => help_line(tokens),
-        Keyword::Modules => modules_line(tokens),
-        Keyword::Option => option_line(arena, tokens),
-        Keyword::Optional => optional_line(tokens),
-        Keyword::LeftOut => Err(TreeKind::Malformed),
+        Keyword::End(block) => no_more(Statement::Head(Head::Ends(block)), tokens),
+        _ => Ok(Statement::Attribute(attribute_of(arena, keyword, tokens)?)),
     }
 }

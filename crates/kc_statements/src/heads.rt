@@ -1,24 +1,22 @@
 //! The forms of statements that close the open entry: what may follow their first words ("Kconfig syntax").
 ghost use Rattle.std.specs.Prelude.{◌≡◌, ℕ, List, IfOk, IfErr};
-ghost use Rattle.kc_expr.specs.between.Arena.{Exprs, Grows};
+ghost use Rattle.kc_expr.specs.between.Arena.{Exprs};
 ghost use Rattle.kc_tokens.specs.QuotedTexts.{quoted_text as text_meant};
 ghost use Rattle.kc_tokens.specs.Token.{lexemes_of, lexeme_of};
 ghost use Rattle.kc_tree_model.specs.declared.fault.TreeKind.TheVariants.{OutOfMemory};
-ghost use Rattle.kc_tree_model.specs.Forms.{config_line, choice_line, titled_line, source_line, statement_of, no_more, path_of};
-ghost use Rattle.kc_tree_model.specs.Statements.{Head as DefinedHead, head, menu, comment, mainmenu, ends};
+ghost use Rattle.kc_tree_model.specs.Forms.{config_line, titled_line, source_line, path_of};
+ghost use Rattle.kc_tree_model.specs.Statements.{Head as DefinedHead, head, mainmenu};
 ghost use Rattle.kc_statements.specs.checker.Titles.{is_one_quoted};
 ghost use Rattle.kc_statements.specs.between.StatementViews.{ReturnsOrFails, StatementNodesExist, statement_in};
 
-use super::condition::last_condition;
 use super::statement::{Head, Statement};
 use super::token::{is_name, is_quoted, is_word};
-use kc_expr::Arena;
 use kc_tokens::{Token, quoted_text};
-use kc_tree_model::{Block, Keyword, TreeKind};
+use kc_tree_model::TreeKind;
 use kc_value::Text;
 use std::alloc::{AllocError, Global};
 
-/// Reads a `config` statement from the tokens after `config`: the name of a symbol alone.
+/// Reads the tokens after `config`: the name of a symbol alone.
 pub(crate) fn config_line<'a>(tokens: &[Token<'a>]) -> Result<Statement<'a>, TreeKind>
     ensures gives { (e : Exprs) → ReturnsOrFails (statement_in e) result (config_line (lexemes_of tokens.now)) }
     ensures held { (e : Exprs) → IfOk result (StatementNodesExist e) }
@@ -30,18 +28,6 @@ pub(crate) fn config_line<'a>(tokens: &[Token<'a>]) -> Result<Statement<'a>, Tre
         return Err(TreeKind::Malformed);
     }
     Ok(Statement::Head(Head::Config(tokens[0].text)))
-}
-
-/// Reads a `choice` statement. `tokens`, those after `choice`, must be empty.
-pub(crate) fn choice_line<'a>(tokens: &[Token<'_>]) -> Result<Statement<'a>, TreeKind>
-    ensures gives { (e : Exprs) → ReturnsOrFails (statement_in e) result (choice_line (lexemes_of tokens.now)) }
-    ensures held { (e : Exprs) → IfOk result (StatementNodesExist e) }
-{
-    if tokens.is_empty() {
-        Ok(Statement::Head(Head::Choice))
-    } else {
-        Err(TreeKind::Malformed)
-    }
 }
 
 /// Whether the tokens are one quoted text.
@@ -62,8 +48,8 @@ fn unquoted(alloc: Global, text: &str) -> Result<Text, TreeKind>
     }
 }
 
-/// Reads a title from the tokens of a line after its first: one quoted text.
-fn title(alloc: Global, tokens: &[Token<'_>]) -> Result<Text, TreeKind>
+/// Reads the tokens after `menu` or `comment`: a title, one quoted text.
+pub(crate) fn title(alloc: Global, tokens: &[Token<'_>]) -> Result<Text, TreeKind>
     ensures { (f : List ℕ → DefinedHead) → ReturnsOrFails (λ t. head (f t)) result (titled_line f (lexemes_of tokens.now)) }
 {
     if !is_title(tokens) {
@@ -72,32 +58,7 @@ fn title(alloc: Global, tokens: &[Token<'_>]) -> Result<Text, TreeKind>
     unquoted(alloc, tokens[0].text)
 }
 
-/// Reads a `menu` statement from the tokens after `menu`: the menu's title, one quoted text.
-pub(crate) fn menu_line<'a>(alloc: Global, tokens: &[Token<'_>]) -> Result<Statement<'a>, TreeKind>
-    ensures gives { (e : Exprs) → ReturnsOrFails (statement_in e) result (titled_line menu (lexemes_of tokens.now)) }
-    ensures held { (e : Exprs) → IfOk result (StatementNodesExist e) }
-{
-    match title(alloc, tokens) {
-        Ok(title) => Ok(Statement::Head(Head::Menu(title))),
-        Err(kind) => Err(kind),
-    }
-}
-
-/// Reads a `comment` statement from the tokens after `comment`: the comment's title, one quoted text.
-pub(crate) fn comment_line<'a>(
-    alloc: Global,
-    tokens: &[Token<'_>],
-) -> Result<Statement<'a>, TreeKind>
-    ensures gives { (e : Exprs) → ReturnsOrFails (statement_in e) result (titled_line comment (lexemes_of tokens.now)) }
-    ensures held { (e : Exprs) → IfOk result (StatementNodesExist e) }
-{
-    match title(alloc, tokens) {
-        Ok(title) => Ok(Statement::Head(Head::Comment(title))),
-        Err(kind) => Err(kind),
-    }
-}
-
-/// Reads a `mainmenu` statement from the tokens after `mainmenu`: a title, one quoted text, which isn't kept.
+/// Reads the tokens after `mainmenu`: a title, one quoted text, which isn't kept.
 pub(crate) fn mainmenu_line<'a>(tokens: &[Token<'_>]) -> Result<Statement<'a>, TreeKind>
     ensures gives { (e : Exprs) → ReturnsOrFails (statement_in e) result (titled_line (λ _. mainmenu) (lexemes_of tokens.now)) }
     ensures held { (e : Exprs) → IfOk result (StatementNodesExist e) }
@@ -124,7 +85,7 @@ fn path_of(alloc: Global, token: &Token<'_>) -> Result<Option<Text>, AllocError>
     Ok(None)
 }
 
-/// Reads a `source` statement from the tokens after `source`: a path, one quoted text or one bare word.
+/// Reads the tokens after `source`: a path, one quoted text or one bare word.
 pub(crate) fn source_line<'a>(
     alloc: Global,
     tokens: &[Token<'_>],
@@ -139,32 +100,5 @@ pub(crate) fn source_line<'a>(
         Ok(Some(path)) => Ok(Statement::Head(Head::Source(path))),
         Ok(None) => Err(TreeKind::Malformed),
         Err(_) => Err(TreeKind::OutOfMemory),
-    }
-}
-
-/// Reads an `if` statement, which opens an `if` block, from the tokens after `if`: a condition.
-pub(crate) fn if_line<'a>(
-    arena: &mut Arena,
-    tokens: &[Token<'_>],
-) -> Result<Statement<'a>, TreeKind>
-    ensures grows { Grows arena.old arena.new }
-    ensures gives { ReturnsOrFails (statement_in arena.new) result (statement_of Keyword.If (lexemes_of tokens.now)) }
-    ensures held { IfOk result (StatementNodesExist arena.new) }
-{
-    match last_condition(arena, tokens, 0) {
-        Ok(id) => Ok(Statement::Head(Head::Condition(id))),
-        Err(kind) => Err(kind),
-    }
-}
-
-/// Reads an `endmenu`, `endif` or `endchoice` statement. `tokens`, those after that word, must be empty.
-pub(crate) fn end_line<'a>(block: Block, tokens: &[Token<'_>]) -> Result<Statement<'a>, TreeKind>
-    ensures gives { (e : Exprs) → ReturnsOrFails (statement_in e) result (no_more (head (ends block)) (lexemes_of tokens.now)) }
-    ensures held { (e : Exprs) → IfOk result (StatementNodesExist e) }
-{
-    if tokens.is_empty() {
-        Ok(Statement::Head(Head::Ends(block)))
-    } else {
-        Err(TreeKind::Malformed)
     }
 }

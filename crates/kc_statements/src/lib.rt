@@ -18,5 +18,6 @@ pub use forms::statement_of;
 pub use keyword::keyword_of;
 pub use placement::{allows_attribute, is_left_out};
 pub use statement::{
-    Attribute, DefaultAttribute, Head, RangeAttribute, Statement, TargetAttribute,
+    Attribute, Conjuncts, DefaultAttribute, Head, RangeAttribute, ReverseKind, Statement,
+    TargetAttribute,
 };

@@ -5,10 +5,11 @@ ghost use Rattle.kc_expr.specs.Grammar.{is_operand_kind, operand_of_lexeme};
 ghost use Rattle.kc_tokens.specs.Token.{lexemes_of, lexeme_of};
 ghost use Rattle.kc_tree_model.specs.declared.fault.TreeKind.TheVariants.{OutOfMemory};
 ghost use Rattle.kc_tree_model.specs.Forms.{range_line};
-ghost use Rattle.kc_statements.specs.between.StatementViews.{ReturnsOrFails, StatementNodesExist, OperandNodeExists, statement_in, operand_or_n};
+ghost use Rattle.kc_tree_model.specs.Statements.{attribute, range};
+ghost use Rattle.kc_statements.specs.between.StatementViews.{ReturnsOrFails, RangeNodesExist, OperandNodeExists, range_in, operand_or_n};
 
 use super::condition::optional_if;
-use super::statement::{Attribute, RangeAttribute, Statement};
+use super::statement::RangeAttribute;
 use super::token::is_operand;
 use kc_expr::{Arena, ExprId};
 use kc_tokens::Token;
@@ -29,14 +30,14 @@ pub(crate) fn operand(arena: &mut Arena, token: &Token<'_>) -> Result<ExprId, Tr
     }
 }
 
-/// Reads a `range` attribute from the tokens after `range`: two operands and maybe a condition, `OP OP [if E]`.
-pub(crate) fn range_line<'a>(
+/// Reads the tokens after `range`: two operands and maybe a condition, `OP OP [if E]`.
+pub(crate) fn range_attribute(
     arena: &mut Arena,
     tokens: &[Token<'_>],
-) -> Result<Statement<'a>, TreeKind>
+) -> Result<RangeAttribute, TreeKind>
     ensures grows { Grows arena.old arena.new }
-    ensures gives { ReturnsOrFails (statement_in arena.new) result (range_line (lexemes_of tokens.now)) }
-    ensures held { IfOk result (StatementNodesExist arena.new) }
+    ensures gives { ReturnsOrFails (λ r. attribute (range (range_in arena.new r))) result (range_line (lexemes_of tokens.now)) }
+    ensures held { IfOk result (RangeNodesExist arena.new) }
 {
     if tokens.len() < 2 {
         return Err(TreeKind::Malformed);
@@ -47,20 +48,12 @@ pub(crate) fn range_line<'a>(
     if !is_operand(&tokens[1]) {
         return Err(TreeKind::Malformed);
     }
-    let low = match operand(arena, &tokens[0]) {
-        Ok(id) => id,
-        Err(kind) => return Err(kind),
-    };
-    let high = match operand(arena, &tokens[1]) {
-        Ok(id) => id,
-        Err(kind) => return Err(kind),
-    };
-    match optional_if(arena, tokens, 2) {
-        Ok(condition) => Ok(Statement::Attribute(Attribute::Range(RangeAttribute {
-            low,
-            high,
-            condition,
-        }))),
-        Err(kind) => Err(kind),
-    }
+    let low = operand(arena, &tokens[0])?;
+    let high = operand(arena, &tokens[1])?;
+    let condition = optional_if(arena, tokens, 2)?;
+    Ok(RangeAttribute {
+        low,
+        high,
+        condition,
+    })
 }

@@ -1,31 +1,16 @@
 -- What stands on the lines of a tree are expressions of its arena.
-use Rattle.std.proofs.Common.{◌≡◌, inl, inr, ℕ, zero, suc, ◌+◌, ◌<◌, Bool, true, false, List, [], ◌∷◌, ◌++◌, length, map, take, Option, Some, None, refl, sym, subst, ◌∙◌, arith}
-use Rattle.std.specs.Prelude.{slice_get, flat_map, All, IfSome}
-use Rattle.std.specs.Global.{Vec}
-use Rattle.std.proofs.lemmas.List.Elements.{All-nil, All-cons, All-append, All-map}
-use Rattle.kc_expr.specs.between.Arena.{Exprs}
-use Rattle.kc_listing.specs.declared.listing.Group.{Group as CodeGroup}
-use Rattle.kc_listing.specs.declared.listing.Line.{Line as CodeLine}
-use Rattle.kc_listing.specs.declared.listing.GroupHead.{GroupHead as CodeHead}
-use Rattle.kc_listing.specs.declared.listing.GroupHead.TheVariants as codes
-use Rattle.kc_listing.specs.between.ListingView.{RepresentsHead, LineNodesExist}
-use Rattle.kc_tree_model.specs.Blocks.{Group, GroupHead}
-use Rattle.kc_tree_model.specs.Limits.{names_defined}
-use Rattle.kc_tree_model.proofs.Consistency.Lists.{Has}
-use Rattle.kc_builder.specs.between.TreeLines.{HasLines}
-use Rattle.kc_builder.specs.declared.tree_lines.TreeLines.{TreeLines}
-use Rattle.kc_symbol_lines.specs.declared.attributes.Part.{Part}
-use Rattle.kc_symbol_lines.specs.declared.attributes.Part.TheVariants.{Dependency, Visibility}
+use Rattle.kc_symbol_lines.proofs.Common.{◌≡◌, inl, inr, ℕ, zero, suc, ◌+◌, ◌<◌, Bool, true, false, List, [], ◌∷◌, ◌++◌, length, map, take, Option, Some, None, refl, sym, subst, ◌∙◌, arith, slice_get, flat_map, All, IfSome, Vec, All-nil, All-cons, Exprs, RepresentsHead, LineNodesExist, Group}
+use Rattle.kc_symbol_lines.proofs.Common.{GroupHead, names_defined, Has, HasLines, TreeLines, Conjuncts, Dependencies, Visibles, LocatedExpr, IsHeld, AreHeld, conjunct_given, prompt_given, each_items, EnclosingLists, position_at, located_if, parts_in, dependency_parts, prompt_parts, prompt_at}
+use Rattle.kc_symbol_lines.proofs.Common.{prompts_in, as_choice_part, shown_parts, inside_menu, inside_choice, inside_head, inside_blocks, lines_at, All-take}
+use Rattle.std.proofs.lemmas.List.Elements.{All-append, All-map}
+use Rattle.kc_parser.specs.declared.listing.Group.{Group as CodeGroup}
+use Rattle.kc_parser.specs.declared.listing.Line.{Line as CodeLine}
+use Rattle.kc_parser.specs.declared.listing.GroupHead.{GroupHead as CodeHead}
+use Rattle.kc_parser.specs.declared.listing.GroupHead.TheVariants as codes
 use Rattle.kc_symbol_lines.specs.declared.located.Position.{Position}
-use Rattle.kc_symbol_lines.specs.declared.located.LocatedExpr.{LocatedExpr}
-use Rattle.kc_symbol_lines.specs.between.LinesView.{IsHeld, AreHeld}
-use Rattle.kc_symbol_lines.specs.checker.Attributes.{part_of, prompt_of}
-use Rattle.kc_symbol_lines.specs.checker.Lists.{each_items}
-use Rattle.kc_symbol_lines.specs.checker.OwnLines.{EnclosingLists, position_at, located_if, parts_in, dependency_parts, prompt_parts, prompt_at, prompts_in}
-use Rattle.kc_symbol_lines.specs.checker.Contexts.{as_choice_part, shown_parts, inside_menu, inside_choice, inside_head, inside_blocks, lines_at}
 use Rattle.kc_symbol_lines.proofs.AttributeViews.{part_held, prompt_held}
 use Rattle.kc_symbol_lines.proofs.PlacedGroups.{numbered}
-use Rattle.std.proofs.lemmas.List.Elements.{All-take, All-drop}
+use Rattle.std.proofs.lemmas.List.Elements.{All-drop}
 
 module _ (e : Exprs) where
   pub record AreHeldLists (a : EnclosingLists) : Type 0 where
@@ -36,16 +21,16 @@ module _ (e : Exprs) where
   one_held at None h = All-nil (IsHeld e)
   one_held at (Some i) h = All-cons (IsHeld e) _ [] h (All-nil (IsHeld e))
 
-  pub parts_held : (part : Part) (file : ℕ) (ls : List CodeLine) → All (LineNodesExist e) ls → All (IsHeld e) (parts_in part file ls)
+  pub parts_held : (part : Conjuncts) (file : ℕ) (ls : List CodeLine) → All (LineNodesExist e) ls → All (IsHeld e) (parts_in part file ls)
   parts_held part file [] h = All-nil (IsHeld e)
   parts_held part file (l ∷ ls) h =
-      All-append (IsHeld e) (located_if (position_at file l.number) (part_of part l.attribute)) (parts_in part file ls)
-      (one_held (position_at file l.number) (part_of part l.attribute) (part_held e part l.attribute (h 0 l (omega arith))))
+      All-append (IsHeld e) (located_if (position_at file l.number) (conjunct_given part l.attribute)) (parts_in part file ls)
+      (one_held (position_at file l.number) (conjunct_given part l.attribute) (part_held e part l.attribute (h 0 l (omega arith))))
       (parts_held part file ls (λ i d b. h (suc i) d (omega arith)))
 
   module _ (file : ℕ) (all : List CodeLine) (own : All (LineNodesExist e) all) (a : EnclosingLists) (outer : AreHeldLists a) where
     pub dependencies_held : All (IsHeld e) (dependency_parts a file all)
-    dependencies_held = All-append (IsHeld e) a.dependencies (parts_in Dependency file all) outer.dependencies (parts_held Dependency file all own)
+    dependencies_held = All-append (IsHeld e) a.dependencies (parts_in Dependencies file all) outer.dependencies (parts_held Dependencies file all own)
 
     prompt_at_held : (line : ℕ) (o : Option (Option ℕ)) → IfSome o (λ c. IfSome c (λ i. i < length e.nodes)) → All (All (IsHeld e)) (prompt_at a file all line o)
     prompt_at_held line None h = All-nil (All (IsHeld e))
@@ -58,8 +43,8 @@ module _ (e : Exprs) where
     pub prompts_held : (some : List CodeLine) → All (LineNodesExist e) some → All (All (IsHeld e)) (prompts_in a file all some)
     prompts_held [] h = All-nil (All (IsHeld e))
     prompts_held (l ∷ some) h =
-        All-append (All (IsHeld e)) (prompt_at a file all l.number (prompt_of l.attribute)) (prompts_in a file all some)
-        (prompt_at_held l.number (prompt_of l.attribute) (prompt_held e l.attribute (h 0 l (omega arith))))
+        All-append (All (IsHeld e)) (prompt_at a file all l.number (prompt_given l.attribute)) (prompts_in a file all some)
+        (prompt_at_held l.number (prompt_given l.attribute) (prompt_held e l.attribute (h 0 l (omega arith))))
         (prompts_held some (λ i d b. h (suc i) d (omega arith)))
 
     first_held : (pss : List (List LocatedExpr)) → All (All (IsHeld e)) pss → (off : ℕ) (at : Position) → off < length e.nodes
@@ -70,7 +55,7 @@ module _ (e : Exprs) where
     menu_held : AreHeldLists (inside_menu a file all)
     menu_held = record {
       dependencies = dependencies_held;
-      visibles = All-append (IsHeld e) a.visibles (parts_in Visibility file all) outer.visibles (parts_held Visibility file all own);
+      visibles = All-append (IsHeld e) a.visibles (parts_in Visibles file all) outer.visibles (parts_held Visibles file all own);
     }
 
     choice_held : (off line : ℕ) → off < length e.nodes → AreHeldLists (inside_choice off a file line all)

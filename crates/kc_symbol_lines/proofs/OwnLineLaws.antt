@@ -1,26 +1,13 @@
 -- What the code finds on a group's lines is what the definitions say.
-use Rattle.std.proofs.Common.{◌≡◌, ℕ, Bool, true, false, cond, List, [], ◌∷◌, ◌++◌, map, Option, Some, None, refl, ap, sym, ◌∙◌}
-use Rattle.std.specs.Prelude.{filter_map, option_map, option_to_list}
-use Rattle.std.specs.List.{cons_option}
-use Rattle.std.proofs.lemmas.List.{map-append}
-use Rattle.kc_expr.specs.Expr.{Expr}
-use Rattle.kc_expr.specs.between.Arena.{Exprs, node_expr}
-use Rattle.kc_statements.specs.between.StatementViews.{attribute_in, if_in}
+use Rattle.kc_symbol_lines.proofs.Common.{◌≡◌, ℕ, Bool, true, false, cond, List, [], ◌∷◌, ◌++◌, map, Option, Some, None, refl, ap, sym, ◌∙◌, filter_map, option_map, option_to_list, cons_option, map-append, Expr, Exprs, node_expr, attribute_in, if_in, line_in, Attribute, Group, Line, Position}
+use Rattle.kc_symbol_lines.proofs.Common.{LocatedContext, located_at, located_dependencies, located_prompts, attribute_positions, position_of, Conjuncts, Dependencies, Visibles, position_view, located_view, all_located, conjunct_given, prompt_given, is_given, EnclosingLists, position_at, located_if}
+use Rattle.kc_symbol_lines.proofs.Common.{parts_in, places_in, dependency_parts, prompt_parts, prompt_at, prompts_in}
 use Rattle.kc_statements.specs.declared.statement.Attribute.{Attribute as CodeAttribute}
-use Rattle.kc_listing.specs.declared.listing.Line.{Line as CodeLine}
-use Rattle.kc_listing.specs.between.ListingView.{line_in}
+use Rattle.kc_parser.specs.declared.listing.Line.{Line as CodeLine}
 use Rattle.kc_tree_model.specs.Statements as model
-use Rattle.kc_tree_model.specs.Statements.{Attribute}
-use Rattle.kc_tree_model.specs.Blocks.{Group, Line, Position}
-use Rattle.kc_reasons_model.specs.Places.{LocatedExpr, LocatedContext, located_at, located_attributes, located_dependencies, located_prompt, located_prompts}
-use Rattle.kc_reasons_model.specs.SymbolLines.{attribute_positions, position_of}
-use Rattle.kc_symbol_lines.specs.declared.attributes.Part.{Part}
-use Rattle.kc_symbol_lines.specs.declared.attributes.Part.TheVariants.{Dependency, Visibility}
-use Rattle.kc_symbol_lines.specs.declared.attributes.Given.{Given}
+use Rattle.kc_reasons_model.specs.Places.{LocatedExpr, located_attributes, located_prompt}
+use Rattle.kc_symbol_lines.specs.declared.own_lines.Given.{Given}
 use Rattle.kc_symbol_lines.specs.declared.located.LocatedExpr.{LocatedExpr as CodeLocated}
-use Rattle.kc_symbol_lines.specs.between.LinesView.{position_view, located_view, all_located}
-use Rattle.kc_symbol_lines.specs.checker.Attributes.{part_of, prompt_of, is_given}
-use Rattle.kc_symbol_lines.specs.checker.OwnLines.{EnclosingLists, position_at, located_if, parts_in, places_in, dependency_parts, prompt_parts, prompt_at, prompts_in}
 use Rattle.kc_symbol_lines.proofs.AttributeViews.{part_meant, part_is, prompt_is}
 
 -- the conditions that some of the code represent
@@ -35,12 +22,12 @@ module _ (e : Exprs) where
       ap (λ r. located_view e (record { expr = i; at = position_at file line; of_choice = false }) ∷ r) h
       ∙ ap (λ n. record { expr = node_expr e i; at = record { file = n; line = line }; of_choice = false } ∷ ys) (sym f)
 
-  parts_of_lines : (part : Part) (g : Group) (file : ℕ) (ls : List CodeLine) → g.at.file ≡ file
+  parts_of_lines : (part : Conjuncts) (g : Group) (file : ℕ) (ls : List CodeLine) → g.at.file ≡ file
       → all_located e (parts_in part file ls) ≡ filter_map (λ (l : Line). option_map (located_at g l.number) (part_meant part l.attribute)) (map (line_in e) ls)
   parts_of_lines part g file [] f = refl
   parts_of_lines part g file (l ∷ ls) f =
       let rest : List LocatedExpr = filter_map (λ (k : Line). option_map (located_at g k.number) (part_meant part k.attribute)) (map (line_in e) ls) in
-      one_part g file l.number (part_of part l.attribute) (parts_in part file ls) rest f (parts_of_lines part g file ls f)
+      one_part g file l.number (conjunct_given part l.attribute) (parts_in part file ls) rest f (parts_of_lines part g file ls f)
       ∙ ap (λ o. cons_option (option_map (located_at g l.number) o) rest) (part_is e part l.attribute)
 
   one_place : (g : Group) (file line : ℕ) (b : Bool) (ys zs : List Position) → g.at.file ≡ file → ys ≡ zs
@@ -60,7 +47,7 @@ module _ (e : Exprs) where
 
   -- the parts of a group's lines
   module _ (g : Group) (file : ℕ) (ls : List CodeLine) (f : g.at.file ≡ file) (own : g.attributes ≡ map (line_in e) ls) where
-    pub parts_located : (part : Part) → all_located e (parts_in part file ls) ≡ located_attributes (part_meant part) g
+    pub parts_located : (part : Conjuncts) → all_located e (parts_in part file ls) ≡ located_attributes (part_meant part) g
     parts_located part =
         parts_of_lines part g file ls f
         ∙ ap (λ xs. filter_map (λ (l : Line). option_map (located_at g l.number) (part_meant part l.attribute)) xs) (sym own)
@@ -74,8 +61,8 @@ module _ (e : Exprs) where
 
     pub dependencies_located : (a : EnclosingLists) → all_located e (dependency_parts a file ls) ≡ located_dependencies (context_view e a) g
     dependencies_located a =
-        map-append (located_view e) a.dependencies (parts_in Dependency file ls)
-        ∙ ap (λ xs. all_located e a.dependencies ++ xs) (parts_located Dependency)
+        map-append (located_view e) a.dependencies (parts_in Dependencies file ls)
+        ∙ ap (λ xs. all_located e a.dependencies ++ xs) (parts_located Dependencies)
 
     if_located : (line : ℕ) (c : Option ℕ) → all_located e (located_if (position_at file line) c) ≡ option_to_list (option_map (located_at g line) (if_in e c))
     if_located line None = refl
@@ -100,8 +87,8 @@ module _ (e : Exprs) where
     prompts_of_lines a [] = refl
     prompts_of_lines a (l ∷ some) =
         let rest : List (List LocatedExpr) = filter_map (λ (k : Line). option_map (located_prompt (context_view e a) g k.number) (model.prompt_of k.attribute)) (map (line_in e) some) in
-        map-append (all_located e) (prompt_at a file ls l.number (prompt_of l.attribute)) (prompts_in a file ls some)
-        ∙ one_prompt a l.number (prompt_of l.attribute) (map (all_located e) (prompts_in a file ls some)) rest (prompts_of_lines a some)
+        map-append (all_located e) (prompt_at a file ls l.number (prompt_given l.attribute)) (prompts_in a file ls some)
+        ∙ one_prompt a l.number (prompt_given l.attribute) (map (all_located e) (prompts_in a file ls some)) rest (prompts_of_lines a some)
         ∙ ap (λ o. cons_option (option_map (located_prompt (context_view e a) g l.number) o) rest) (prompt_is e l.attribute)
 
     pub prompts_located : (a : EnclosingLists) → map (all_located e) (prompts_in a file ls ls) ≡ located_prompts (context_view e a) g

@@ -1,4 +1,3 @@
-pub mod Attributes
 pub mod Blocks
 pub mod Contexts
 pub mod Definitions

@@ -7,7 +7,7 @@ ghost use Rattle.kc_symbol_lines.specs.checker.Reads.{IsRead};
 ghost use Rattle.kc_symbol_lines.specs.checker.Blocks.{outer_block, block_after, IsChain, HasBlocks};
 
 use kc_builder::TreeLines;
-use kc_listing::GroupHead;
+use kc_parser::GroupHead;
 use std::alloc::{AllocError, Global};
 
 /// The innermost block around a block; `blocks` has it for each group, by its number.

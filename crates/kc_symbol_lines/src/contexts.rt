@@ -6,13 +6,13 @@ ghost use Rattle.kc_symbol_lines.specs.checker.Lists.{each_items};
 ghost use Rattle.kc_symbol_lines.specs.checker.Reads.{IsRead};
 ghost use Rattle.kc_symbol_lines.specs.checker.Contexts.{lists_of, as_choice_part, shown_parts, inside_menu, inside_choice, inside_head, inside_blocks, lines_at as lines_read};
 
-use super::attributes::Part;
 use super::located::{LocatedExpr, Position};
-use super::own_lines::{push_located, push_parts, push_prompts};
+use super::own_lines::{FileLines, push_located, push_parts, push_prompts};
 use kc_builder::TreeLines;
 use kc_checks::{end_of, part};
 use kc_expr::ExprId;
-use kc_listing::{Group, GroupHead, Line};
+use kc_parser::{Group, GroupHead, Line};
+use kc_statements::Conjuncts;
 use kc_tokens::Language;
 use std::alloc::{AllocError, Global};
 
@@ -34,12 +34,12 @@ pub(crate) fn lines_at(lines: &TreeLines, i: usize) -> &[Line]
     part(&lines.lines, begin, end)
 }
 
-/// Enters a menu of a file with these lines.
-fn enter_menu(enclosing: &mut Enclosing, file: u32, lines: &[Line]) -> Result<(), AllocError>
-    ensures { OnOk result (lists_of enclosing.new ≡ inside_menu (lists_of enclosing.old) file lines.now) }
+/// Enters a menu with these lines.
+fn enter_menu(enclosing: &mut Enclosing, own: FileLines<'_>) -> Result<(), AllocError>
+    ensures { OnOk result (lists_of enclosing.new ≡ inside_menu (lists_of enclosing.old) own.entry.file own.entry.lines.now) }
 {
-    push_parts(&mut enclosing.dependencies, Part::Dependency, file, lines)?;
-    push_parts(&mut enclosing.visibles, Part::Visibility, file, lines)
+    push_parts(&mut enclosing.dependencies, Conjuncts::Dependencies, own)?;
+    push_parts(&mut enclosing.visibles, Conjuncts::Visibles, own)
 }
 
 /// Parts of the condition of a choice's prompt, as parts of the condition that it is shown.
@@ -86,7 +86,11 @@ fn enter_choice(
     ensures { OnOk result (lists_of enclosing.new ≡ inside_choice no (lists_of enclosing.old) at.file at.line lines.now) }
 {
     let mut prompts = Vec::new(alloc);
-    push_prompts(alloc, &mut prompts, enclosing, at.file, lines)?;
+    let own = FileLines {
+        file: at.file,
+        lines,
+    };
+    push_prompts(alloc, &mut prompts, enclosing, own)?;
     let dependencies = shown_parts(alloc, no, at, &prompts)?;
     enclosing.dependencies = dependencies;
     enclosing.visibles = Vec::new(alloc);
@@ -105,15 +109,19 @@ fn enter(
 ) -> Result<(), AllocError>
     ensures { OnOk result (lists_of enclosing.new ≡ inside_head (is_linux_6_12 language) no head.now (lists_of enclosing.old) at.file at.line lines.now) }
 {
+    let own = FileLines {
+        file: at.file,
+        lines,
+    };
     match *head {
         GroupHead::Choice => {
             if language.is_linux_6_12() {
-                enter_menu(enclosing, at.file, lines)
+                enter_menu(enclosing, own)
             } else {
                 enter_choice(alloc, enclosing, no, at, lines)
             }
         }
-        GroupHead::Menu(_) => enter_menu(enclosing, at.file, lines),
+        GroupHead::Menu(_) => enter_menu(enclosing, own),
         GroupHead::Condition(e) => push_located(&mut enclosing.dependencies, at, Some(e)),
         GroupHead::Config(_) => Ok(()),
         GroupHead::Comment(_) => Ok(()),

@@ -1,7 +1,6 @@
 //! The lines of a symbol's conditions, defaults, ranges, selects and implies.
 #![tactic(auto)]
 
-mod attributes;
 mod blocks;
 mod contexts;
 mod index;

@@ -1,17 +1,34 @@
 //! What stands on the attribute lines of a group.
-ghost use Rattle.std.specs.Prelude.{◌≡◌, ◌∷◌, ◌++◌, [], map, IfOk, OnOk, if◌then◌else◌};
+ghost use Rattle.std.specs.Prelude.{◌≡◌, ◌++◌, IfOk, OnOk};
 ghost use Rattle.std.specs.Global.{Vec as AnyVec};
 ghost use Rattle.kc_symbol_lines.specs.declared.located.LocatedExpr.{LocatedExpr as AnyLocatedExpr};
 ghost use Rattle.kc_symbol_lines.specs.checker.Contexts.{lists_of};
-ghost use Rattle.kc_symbol_lines.specs.checker.OwnLines.{located_if, parts_in, places_in, dependency_parts, prompt_parts, prompt_at, prompts_in, position_at};
+ghost use Rattle.kc_symbol_lines.specs.checker.OwnLines.{is_given, located_if, parts_in, places_in, dependency_parts, prompt_parts, prompt_at, prompts_in, position_at};
 ghost use Rattle.kc_symbol_lines.specs.checker.Lists.{each_items};
 
-use super::attributes::{Given, Part, is_given, part_of, prompt_of};
 use super::contexts::Enclosing;
 use super::located::{LocatedExpr, Position};
 use kc_expr::ExprId;
-use kc_listing::Line;
+use kc_parser::Line;
+use kc_statements::{Attribute, Conjuncts};
 use std::alloc::{AllocError, Global};
+
+/// What gives a value, or limits it.
+#[derive(Clone, Copy)]
+pub(crate) enum Given {
+    Default,
+    Range,
+}
+
+/// Whether an attribute is a default, or a range.
+fn is_given(given: Given, attribute: &Attribute) -> bool
+    ensures { result ≡ is_given given attribute.now }
+{
+    match given {
+        Given::Default => attribute.default_given().is_some(),
+        Given::Range => attribute.is_range(),
+    }
+}
 
 /// Appends an expression of a line, if there is one.
 pub(crate) fn push_located(
@@ -34,52 +51,47 @@ pub(crate) fn push_located(
     }
 }
 
-/// Appends the parts of conditions among lines of a file.
+/// Some attribute lines, and the file that they are in.
+#[derive(Clone, Copy)]
+pub(crate) struct FileLines<'a> {
+    pub file: u32,
+    pub lines: &'a [Line],
+}
+
+/// Appends the conditions of the `depends on`, or of the `visible if`, among some lines.
 pub(crate) fn push_parts(
     found: &mut Vec<LocatedExpr>,
-    part: Part,
-    file: u32,
-    lines: &[Line],
+    which: Conjuncts,
+    own: FileLines<'_>,
 ) -> Result<(), AllocError>
-    ensures { OnOk result (found.new.items ≡ found.old.items ++ parts_in part file lines.now) }
+    ensures { OnOk result (found.new.items ≡ found.old.items ++ parts_in which own.entry.file own.entry.lines.now) }
 {
-    for line in lines {
+    for line in own.lines {
         let at = Position {
-            file,
+            file: own.file,
             line: line.number,
         };
-        push_located(found, at, part_of(part, &line.attribute))?;
+        push_located(found, at, line.attribute.conjunct_given(which))?;
     }
     Ok(())
 }
 
-/// Appends a place, if it counts.
-fn push_place(found: &mut Vec<Position>, at: Position, counts: bool) -> Result<(), AllocError>
-    ensures { OnOk result (found.new.items ≡ found.old.items ++ (if counts then at ∷ [] else [])) }
-{
-    if counts {
-        found.push(at)?;
-        Ok(())
-    } else {
-        Ok(())
-    }
-}
-
-/// Appends the places of the defaults, or of the ranges, among lines of a file.
+/// Appends the places of the defaults, or of the ranges, among some lines.
 pub(crate) fn push_places(
     found: &mut Vec<Position>,
     given: Given,
-    file: u32,
-    lines: &[Line],
+    own: FileLines<'_>,
 ) -> Result<(), AllocError>
-    ensures { OnOk result (found.new.items ≡ found.old.items ++ places_in given file lines.now) }
+    ensures { OnOk result (found.new.items ≡ found.old.items ++ places_in given own.entry.file own.entry.lines.now) }
 {
-    for line in lines {
-        let at = Position {
-            file,
-            line: line.number,
-        };
-        push_place(found, at, is_given(given, &line.attribute))?;
+    for line in own.lines {
+        if is_given(given, &line.attribute) {
+            let at = Position {
+                file: own.file,
+                line: line.number,
+            };
+            found.push(at)?;
+        }
     }
     Ok(())
 }
@@ -88,13 +100,12 @@ pub(crate) fn push_places(
 pub(crate) fn dependency_parts(
     alloc: Global,
     enclosing: &Enclosing,
-    file: u32,
-    lines: &[Line],
+    own: FileLines<'_>,
 ) -> Result<Vec<LocatedExpr>, AllocError>
-    ensures ok { IfOk result (λ parts. parts.items ≡ dependency_parts (lists_of enclosing.now) file lines.now) }
+    ensures ok { IfOk result (λ parts. parts.items ≡ dependency_parts (lists_of enclosing.now) own.entry.file own.entry.lines.now) }
 {
     let mut parts = Vec::from_slice(alloc, &enclosing.dependencies)?;
-    push_parts(&mut parts, Part::Dependency, file, lines)?;
+    push_parts(&mut parts, Conjuncts::Dependencies, own)?;
     Ok(parts)
 }
 
@@ -102,14 +113,18 @@ pub(crate) fn dependency_parts(
 fn prompt_parts(
     alloc: Global,
     enclosing: &Enclosing,
-    lines: &[Line],
-    at: Position,
+    own: FileLines<'_>,
+    line: u32,
     condition: Option<ExprId>,
 ) -> Result<Vec<LocatedExpr>, AllocError>
-    ensures ok { IfOk result (λ parts. parts.items ≡ prompt_parts (lists_of enclosing.now) at.file lines.now at.line condition) }
+    ensures ok { IfOk result (λ parts. parts.items ≡ prompt_parts (lists_of enclosing.now) own.entry.file own.entry.lines.now line condition) }
 {
-    let mut parts = dependency_parts(alloc, enclosing, at.file, lines)?;
+    let mut parts = dependency_parts(alloc, enclosing, own)?;
     parts.extend_from_slice(&enclosing.visibles)?;
+    let at = Position {
+        file: own.file,
+        line,
+    };
     push_located(&mut parts, at, condition)?;
     Ok(parts)
 }
@@ -119,16 +134,16 @@ fn push_prompt(
     alloc: Global,
     found: &mut Vec<Vec<LocatedExpr>>,
     enclosing: &Enclosing,
-    lines: &[Line],
-    at: Position,
+    own: FileLines<'_>,
+    line: u32,
     prompt: Option<Option<ExprId>>,
 ) -> Result<(), AllocError>
-    ensures { OnOk result (each_items found.new.items ≡ each_items found.old.items ++ prompt_at (lists_of enclosing.now) at.file lines.now at.line prompt) }
+    ensures { OnOk result (each_items found.new.items ≡ each_items found.old.items ++ prompt_at (lists_of enclosing.now) own.entry.file own.entry.lines.now line prompt) }
 {
     match prompt {
         None => Ok(()),
         Some(condition) => {
-            let parts = prompt_parts(alloc, enclosing, lines, at, condition)?;
+            let parts = prompt_parts(alloc, enclosing, own, line, condition)?;
             found.push(parts)?;
             Ok(())
         }
@@ -140,24 +155,13 @@ pub(crate) fn push_prompts(
     alloc: Global,
     found: &mut Vec<Vec<LocatedExpr>>,
     enclosing: &Enclosing,
-    file: u32,
-    lines: &[Line],
+    own: FileLines<'_>,
 ) -> Result<(), AllocError>
-    ensures { OnOk result (each_items found.new.items ≡ each_items found.old.items ++ prompts_in (lists_of enclosing.now) file lines.now lines.now) }
+    ensures { OnOk result (each_items found.new.items ≡ each_items found.old.items ++ prompts_in (lists_of enclosing.now) own.entry.file own.entry.lines.now own.entry.lines.now) }
 {
-    for line in lines {
-        let at = Position {
-            file,
-            line: line.number,
-        };
-        push_prompt(
-            alloc,
-            found,
-            enclosing,
-            lines,
-            at,
-            prompt_of(&line.attribute),
-        )?;
+    for line in own.lines {
+        let prompt = line.attribute.prompt_given();
+        push_prompt(alloc, found, enclosing, own, line.number, prompt)?;
     }
     Ok(())
 }

@@ -9,13 +9,11 @@ ghost use Rattle.kc_symbol_lines.specs.checker.Blocks.{HasBlocks, open_numbers};
 ghost use Rattle.kc_symbol_lines.specs.checker.Contexts.{lists_of, inside_blocks, lines_at as lines_read};
 ghost use Rattle.kc_symbol_lines.specs.checker.Definitions.{IsBlocked, HasEntry, AreDefinitionLines};
 
-use super::attributes::Given;
 use super::blocks::blocks_from;
 use super::contexts::{Enclosing, enclosing_in, lines_at};
 use super::located::{LocatedExpr, Position};
-use super::own_lines::{dependency_parts, push_places, push_prompts};
+use super::own_lines::{FileLines, Given, dependency_parts, push_places, push_prompts};
 use kc_builder::TreeLines;
-use kc_listing::Line;
 use kc_tokens::Language;
 use std::alloc::{AllocError, Global};
 
@@ -28,21 +26,20 @@ pub(crate) struct DefinitionLines {
     pub ranges: Vec<Position>,
 }
 
-/// Appends the lines of a definition with these lines in a file.
+/// Appends the lines of a definition with these lines.
 fn push_entry(
     alloc: Global,
     found: &mut DefinitionLines,
     enclosing: &Enclosing,
-    file: u32,
-    lines: &[Line],
+    own: FileLines<'_>,
 ) -> Result<(), AllocError>
-    ensures { OnOk result (HasEntry (lists_of enclosing.now) file lines.now found.old found.new) }
+    ensures { OnOk result (HasEntry (lists_of enclosing.now) own.entry.file own.entry.lines.now found.old found.new) }
 {
-    push_prompts(alloc, &mut found.prompts, enclosing, file, lines)?;
-    let parts = dependency_parts(alloc, enclosing, file, lines)?;
+    push_prompts(alloc, &mut found.prompts, enclosing, own)?;
+    let parts = dependency_parts(alloc, enclosing, own)?;
     found.direct.push(parts)?;
-    push_places(&mut found.defaults, Given::Default, file, lines)?;
-    push_places(&mut found.ranges, Given::Range, file, lines)
+    push_places(&mut found.defaults, Given::Default, own)?;
+    push_places(&mut found.ranges, Given::Range, own)
 }
 
 /// Appends the lines of the definition that group `i` is.
@@ -62,7 +59,11 @@ fn push_group(
     let around = blocks_from(alloc, blocks, blocks[i])?;
     let enclosing = enclosing_in(alloc, language, lines, &around)?;
     let own = lines_at(lines, i);
-    push_entry(alloc, found, &enclosing, lines.groups[i].file, own)
+    let entry = FileLines {
+        file: lines.groups[i].file,
+        lines: own,
+    };
+    push_entry(alloc, found, &enclosing, entry)
 }
 
 /// The lines of the definitions that the groups with these numbers are. An `Err` means out of memory.

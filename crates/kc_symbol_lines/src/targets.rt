@@ -7,12 +7,11 @@ ghost use Rattle.kc_builder.specs.between.TreeLines.{HasLines};
 ghost use Rattle.kc_symbol_lines.specs.checker.Reads.{IsRead};
 ghost use Rattle.kc_symbol_lines.specs.checker.Targets.{target_symbol, target_keys, target_places, HasDefinition, AreGathered};
 
-use super::attributes::{Force, target_of};
 use super::contexts::lines_at;
 use super::located::Position;
 use kc_builder::TreeLines;
-use kc_listing::{GroupHead, Line};
-use kc_statements::Attribute;
+use kc_parser::{GroupHead, Line};
+use kc_statements::{Attribute, ReverseKind};
 use kc_tree::{ItemsWithKeys, Tree};
 use kc_tree_model::Sym;
 use std::alloc::{AllocError, Global};
@@ -27,10 +26,10 @@ pub(crate) struct GatheredLines {
 }
 
 /// The symbol that an attribute selects, or implies, if an entry defines it.
-fn target_symbol(tree: &Tree, force: Force, attribute: &Attribute) -> Option<Sym>
-    ensures { result ≡ target_symbol tree.now force attribute.now }
+fn target_symbol(tree: &Tree, which: ReverseKind, attribute: &Attribute) -> Option<Sym>
+    ensures { result ≡ target_symbol tree.now which attribute.now }
 {
-    match target_of(force, attribute) {
+    match attribute.target_given(which) {
         None => None,
         Some(name) => tree.symbol_at(name),
     }
@@ -40,15 +39,15 @@ fn target_symbol(tree: &Tree, force: Force, attribute: &Attribute) -> Option<Sym
 fn push_targets(
     found: &mut ItemsWithKeys<Position>,
     tree: &Tree,
-    force: Force,
+    which: ReverseKind,
     file: u32,
     lines: &[Line],
 ) -> Result<(), AllocError>
-    ensures keys { OnOk result (found.new.keys.items ≡ found.old.keys.items ++ target_keys tree.now force lines.now) }
-    ensures items { OnOk result (found.new.items.items ≡ found.old.items.items ++ target_places tree.now force file lines.now) }
+    ensures keys { OnOk result (found.new.keys.items ≡ found.old.keys.items ++ target_keys tree.now which lines.now) }
+    ensures items { OnOk result (found.new.items.items ≡ found.old.items.items ++ target_places tree.now which file lines.now) }
 {
     for line in lines {
-        if let Some(target) = target_symbol(tree, force, &line.attribute) {
+        if let Some(target) = target_symbol(tree, which, &line.attribute) {
             let at = Position {
                 file,
                 line: line.number,
@@ -71,8 +70,8 @@ fn push_definition(
     ensures { OnOk result (HasDefinition tree.now symbol number file lines.now found.old found.new) }
 {
     found.definitions.push(symbol, number)?;
-    push_targets(&mut found.selectors, tree, Force::Select, file, lines)?;
-    push_targets(&mut found.impliers, tree, Force::Imply, file, lines)
+    push_targets(&mut found.selectors, tree, ReverseKind::Select, file, lines)?;
+    push_targets(&mut found.impliers, tree, ReverseKind::Imply, file, lines)
 }
 
 /// Collects the definitions of all symbols, and the places of all selects and implies. An `Err` means out of memory.

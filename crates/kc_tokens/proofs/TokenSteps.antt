@@ -1,22 +1,12 @@
 -- Steps of reading a line.
-use Rattle.std.proofs.Common.{◌≡◌, ℕ, suc, zero, ◌+◌, ◌≤◌, ◌<◌, Bool, true, false, List, [], ◌∷◌, ◌++◌, length, drop, take, refl, ap, sym, ◌∙◌, arith, cond, Result, Ok, Err, get_or, ◌-◌, append_assoc, sub-one, add-suc, add-one, get_or-drop, drop-drop, length-drop}
+use Rattle.std.proofs.Common.{sub-one, add-suc, add-one, get_or-drop, drop-drop}
 use Rattle.std.proofs.Math.ListN.{drop_of_length-le}
-use Rattle.std.proofs.lemmas.List.{drop_more}
-use Rattle.std.proofs.lemmas.Str.{IsCharBoundary-after_ascii}
+use Rattle.kc_tokens.proofs.Common.{◌≡◌, ℕ, suc, zero, ◌+◌, ◌≤◌, ◌<◌, Bool, true, false, List, [], ◌∷◌, ◌++◌, length, drop, take, refl, ap, sym, ◌∙◌, arith, cond, Result, Ok, Err, get_or, ◌-◌, append_assoc, length-drop, drop_more, IsCharBoundary-after_ascii, take-length, take_while-cons, take_while}
+use Rattle.kc_tokens.proofs.Common.{IsCharBoundary, Language, lexemes_from, Lexeme, is_word_byte, lexemes_of, White, Comment, Token, Fault, TokenKind, ExprKind, nat_tests, with_front, ExprFault}
 use Rattle.std.specs.Prelude.{IsUtf8}
-use Rattle.std.proofs.Math.Seq.{take-length}
-use Rattle.std.proofs.lemmas.List.Sums.{take_while-cons}
-use Rattle.std.specs.Prelude.{take_while, IsCharBoundary}
-use Rattle.kc_tokens.specs.declared.language.Language.{Language}
-use Rattle.kc_tokens.specs.Token.{lexemes_from, next_token, Lexeme, is_word_byte, lexemes_of, lexeme_of}
+use Rattle.kc_tokens.specs.Token.{next_token, lexeme_of}
 use Rattle.kc_tokens.specs.declared.token.Token.{Token as CodeToken}
 use Rattle.std.proofs.lemmas.List.{map-append}
-use Rattle.kc_tokens.specs.declared.token.NextToken.TheVariants.{White, Comment, Token, Fault}
-use Rattle.kc_tokens.specs.declared.token.TokenKind.{TokenKind}
-use Rattle.kc_tokens.specs.declared.fault.ExprKind.{ExprKind}
-use Rattle.std.proofs.lemmas.Bool.Decides.{nat_tests}
-use Rattle.kc_tokens.specs.Token.{with_front}
-use Rattle.kc_tokens.specs.declared.fault.ExprFault.{ExprFault}
 
 pub word_byte_ascii : (c : ℕ) → is_word_byte c ≡ true → c < 128
 word_byte_ascii c h = grind (arith, nat_tests)
@@ -124,15 +114,6 @@ lexemes_more ts t = map-append lexeme_of ts (t ∷ [])
 
 pub text_is : (line : List ℕ) (at len : ℕ) (text : List ℕ) → text ≡ take ((at + len) - at) (drop at line) → text ≡ take len (drop at line)
 text_is line at len text e = e ∙ ap (λ n. take n (drop at line)) (omega arith)
-
-pub fault_alone : {X E : Type 0} (xs : List X) (r : Result (List X) E) (e : E) → with_front xs r ≡ Err e → r ≡ Err e
-fault_alone xs (Ok ys) e h = cc
-fault_alone xs (Err f) e h = h
-
--- the run of word bytes from a word byte on is one byte longer than that from the byte after it
-pub run_on : (bs : List ℕ) (i : ℕ) → i < length bs → is_word_byte (get_or bs i 0) ≡ true → length (take_while is_word_byte (drop i bs))
-    ≡ 1 + length (take_while is_word_byte (drop (i + 1) bs))
-run_on bs i h e = rw (drop_more bs i 0 h, take_while-cons is_word_byte (get_or bs i 0) (drop (i + 1) bs), e) (omega arith)
 
 pub run_stops : (bs : List ℕ) (i : ℕ) → i < length bs → is_word_byte (get_or bs i 0) ≡ false → length (take_while is_word_byte (drop i bs)) ≡ 0
 run_stops bs i h e = rw (drop_more bs i 0 h, take_while-cons is_word_byte (get_or bs i 0) (drop (i + 1) bs), e) refl

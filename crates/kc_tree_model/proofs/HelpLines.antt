@@ -1,15 +1,7 @@
 -- A line begins a help text in every language or in none.
-use Rattle.std.proofs.Common.{◌≡◌, ℕ, Bool, true, false, List, [], ◌∷◌, Result, Ok, Err, refl, ap, sym, ◌∙◌}
-use Rattle.kc_tokens.specs.Token.{Lexeme, lexemes_from}
-use Rattle.kc_tokens.specs.declared.fault.ExprFault.{ExprFault}
-use Rattle.kc_tokens.specs.declared.language.Language.{Language}
-use Rattle.kc_tokens.specs.declared.language.Language.TheVariants.{Strict, Linux}
-use Rattle.kc_tokens.specs.declared.language.LinuxVersion.{LinuxVersion}
-use Rattle.kc_tokens.specs.declared.token.TokenKind.{TokenKind}
-use Rattle.kc_tokens.specs.declared.token.TokenKind.TheVariants.{Word, Quoted, Relation, Not, And, Or, Open, Close}
-use Rattle.kc_expr.proofs.Languages.{AllKinds, IsUnquoted, unquoted_line, strict_in_linux}
-use Rattle.kc_tree_model.specs.Keywords.{keyword_of}
-use Rattle.kc_tree_model.specs.LogicalLines.{is_help, is_help_word, is_help_or_fault, begins_help_in, begins_help}
+use Rattle.kc_tree_model.proofs.Common.{◌≡◌, ℕ, Bool, true, false, List, [], ◌∷◌, Result, Ok, Err, refl, ap, sym, ◌∙◌, Lexeme, lexemes_from, ExprFault, Language, Strict, Linux, LinuxVersion, TokenKind, Word, Quoted, strict_in_linux, keyword_of, is_help_word, is_help_or_fault, begins_help}
+use Rattle.kc_expr.proofs.Languages.{AllKinds, IsUnquoted, unquoted_line}
+use Rattle.kc_tree_model.specs.LogicalLines.{is_help, begins_help_in}
 
 abbrev Lexed : Type 0
 Lexed = Result (List Lexeme) ExprFault
@@ -22,12 +14,7 @@ unquoted_kind : (kind : TokenKind) (text : List ℕ) (start stop : ℕ) → is_h
     (keyword_of (record { kind = kind; start = start; stop = stop; text = text })) ≡ true → IsUnquoted kind
 unquoted_kind Word text start stop h = λ e. cc
 unquoted_kind Quoted text start stop h = cc
-unquoted_kind (Relation op) text start stop h = λ e. cc
-unquoted_kind Not text start stop h = λ e. cc
-unquoted_kind And text start stop h = λ e. cc
-unquoted_kind Or text start stop h = λ e. cc
-unquoted_kind Open text start stop h = λ e. cc
-unquoted_kind Close text start stop h = λ e. cc
+unquoted_kind x text start stop h = λ e. cc
 
 unquoted_help : (ts : List Lexeme) → is_help ts ≡ true → AllKinds IsUnquoted ts
 unquoted_help [] h = tt

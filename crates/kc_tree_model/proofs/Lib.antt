@@ -1,6 +1,8 @@
+pub mod Common
 pub mod HelpLines
 pub mod Lookups
 pub mod TextsLemmas
+pub mod WordLemmas
 mod Rows
 pub mod NestedTrees
 pub mod Consistency

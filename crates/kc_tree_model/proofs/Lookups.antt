@@ -1,14 +1,11 @@
 -- The numbers of the symbols and units of a consistent tree.
-use Rattle.std.proofs.Common.{◌≡◌, inl, inr, ℕ, zero, suc, ◌<◌, true, cond, List, [], ◌∷◌, Option, Some, None, length, get_or, refl, sym, ◌∙◌, ap, arith}
-use Rattle.std.specs.Prelude.{slice_get, bytes_eq, nat_lt}
-use Rattle.std.proofs.lemmas.Bool.{cases_Bool, false≢true, eqb-true, eq-eqb, lt-ltb}
+use Rattle.kc_tree_model.proofs.Common.{◌≡◌, inl, inr, ℕ, zero, suc, ◌<◌, true, cond, List, [], ◌∷◌, Option, Some, None, length, get_or, refl, sym, ◌∙◌, ap, arith, slice_get, bytes_eq, nat_lt, eqb-true, eq-eqb, lt-ltb, bytes_eq-Decides, Tree, Symbol, IsConsistent}
+use Rattle.std.proofs.lemmas.Bool.{cases_Bool, false≢true}
 use Rattle.std.proofs.lemmas.Option.{get_or_from_slice_get, slice_get-get_or}
 use Rattle.std.proofs.lemmas.List.Sums.{position_or_len_is}
-use Rattle.std.proofs.lemmas.Slice.Eq.{bytes_eq-Decides}
-use Rattle.kc_tree_model.specs.Trees.{Tree, Symbol}
 use Rattle.kc_tree_model.specs.declared.ids.Unit.{Unit as TreeUnit}
 use Rattle.kc_tree_model.specs.declared.ids.Unit.TheVariants.{Symbol as of_symbol, Choice as of_choice}
-use Rattle.kc_tree_model.specs.TreeLookup.{IsConsistent, is_same_unit, index_of_unit, unit_in, unit_of_symbol, unit_of, symbol_named}
+use Rattle.kc_tree_model.specs.TreeLookup.{is_same_unit, index_of_unit, unit_in, unit_of_symbol, unit_of, symbol_named}
 
 -- an index if it is below a count, or None
 abbrev pub index_if_found : ℕ → ℕ → Option ℕ

@@ -1,18 +1,12 @@
 -- Files that a reading doesn't meet change nothing.
-use Rattle.std.proofs.Common.{◌≡◌, ◌≢◌, ℕ, zero, suc, ◌+◌, Bool, true, false, not, cond, List, [], ◌∷◌, Option, Some, None, Result, Ok, Err, refl, ap, sym, ◌∙◌, subst, length}
-use Rattle.std.specs.Prelude.{filter_map, is_some, nat_lt, sum_by}
-use Rattle.std.specs.List.{cons_option, fold, AllByRecursion}
-use Rattle.kc_tokens.specs.declared.language.Language.{Language}
-use Rattle.kc_tree_model.specs.declared.fault.TreeKind.{TreeKind}
-use Rattle.kc_tree_model.specs.declared.fault.TreeKind.TheVariants.{MissingFile, SourceLoop}
-use Rattle.kc_tree_model.specs.declared.fault.TreeFault.{TreeFault}
-use Rattle.kc_tree_model.specs.LogicalLines.{LogicalLine, lines_of}
-use Rattle.kc_tree_model.specs.Statements.{Statement, head, attribute, path_of_head}
-use Rattle.kc_tree_model.specs.declared.keyword.Block.{Block}
-use Rattle.kc_tree_model.specs.Blocks.{Group, Position, sourced_path, file_end, innermost}
-use Rattle.kc_tree_model.specs.Limits.{FileSource, bytes_in, size_in, files_read, open_files, is_in_list, source_fault}
-use Rattle.kc_value.specs.declared.limits.TheConstants.{MAX_TREE_BYTES, MAX_OPEN_FILES}
-use Rattle.kc_tree_model.specs.TreeReading.{statement_on_line, with_statement, with_group, path_to_read, Outcome, at_file_end, continue_after_file, continue_after_source, continue_after_statement, continue_after_line, read_lines, read_file, read_root}
+use Rattle.std.proofs.Common.{◌≢◌}
+use Rattle.kc_tree_model.proofs.Common.{◌≡◌, ℕ, zero, suc, ◌+◌, Bool, true, false, not, cond, List, [], ◌∷◌, Option, Some, None, Result, Ok, Err, refl, ap, sym, ◌∙◌, subst, length, filter_map, is_some, nat_lt, sum_by, cons_option, AllByRecursion, Language, TreeKind, MissingFile, SourceLoop}
+use Rattle.kc_tree_model.proofs.Common.{TreeFault, LogicalLine, Statement, head, attribute, path_of_head, Block, Group, Position, sourced_path, file_end, innermost, FileSource, bytes_in, size_in, files_read, open_files, is_in_list, MAX_TREE_BYTES, MAX_OPEN_FILES, with_statement, with_group}
+use Rattle.kc_tree_model.proofs.Common.{path_to_read, Outcome, at_file_end, continue_after_file, continue_after_source, continue_after_statement, continue_after_line, read_lines, read_file, read_root}
+use Rattle.std.specs.List.{fold}
+use Rattle.kc_tree_model.specs.LogicalLines.{lines_of}
+use Rattle.kc_tree_model.specs.Limits.{source_fault}
+use Rattle.kc_tree_model.specs.TreeReading.{statement_on_line}
 use Rattle.kc_tree_model.specs.MoreFiles.{LacksNoFile, AreAmong, MoreFilesChangeNothing}
 
 -- a source without a fault of its own is there

@@ -1,39 +1,22 @@
 -- What the strict language reads without a fault, the language of Linux reads the same.
-use Rattle.std.proofs.Common.{◌≡◌, ℕ, zero, suc, Bool, true, false, not, ◌&&◌, ◌||◌, cond, List, [], ◌∷◌, ◌++◌, length, Option, Some, None, Result, Ok, Err, refl, ap, sym, ◌∙◌}
-use Rattle.std.specs.Prelude.{nat_lt, slice_get, flat_map, is_some, is_none, bytes_eq, codes}
-use Rattle.std.specs.Option.{option_or}
+use Rattle.kc_tree_model.proofs.Common.{◌≡◌, ℕ, zero, suc, Bool, true, false, not, ◌&&◌, ◌||◌, cond, List, [], ◌∷◌, ◌++◌, length, Option, Some, None, Result, Ok, Err, refl, ap, sym, ◌∙◌, nat_lt, slice_get, flat_map, is_some, is_none, bytes_eq, codes, option_or, Lexeme, lexemes_from, ExprFault}
+use Rattle.kc_tree_model.proofs.Common.{Language, Strict, Linux, LinuxVersion, Unknown, strict_in_linux, Kind, MAX_TREE_BYTES, MAX_LINE_BYTES, MAX_OPEN_FILES, TreeKind, NotUtf8, LineTooLong, Misplaced, StrayEnd, LeftOut, TooDeep, TooMany, NoType, ChoiceMember, ModulesType, TreeFault, Keyword}
+use Rattle.kc_tree_model.proofs.Common.{lookup, Files, file_at, index_of_file, LogicalLine, keyword_of, is_quoted_kind, is_the_word, config, Statement, statement_of, ◌>>=◌, Group, GroupHead, Position, of_head, file_end, is_allowed, is_left_out, is_stray_end, FileSource, is_too_deep, is_too_many}
+use Rattle.kc_tree_model.proofs.Common.{Outcome, fault_if, statement_by_keyword, statement_by_word, statement_of_tokens, statement_or_fault, with_statement, with_group, path_to_read, continue_after_file, continue_after_source, continue_after_statement, continue_after_line, read_lines, read_file}
+use Rattle.kc_tree_model.proofs.Common.{read_root, GroupInContext, Contents, contents_of, choice_of_symbol, is_first_definition, type_given, when, is_no_member_kind, may_follow_member, definition_faults, faults_of_head, faults_of_group}
 use Rattle.std.specs.Str.{is_utf8}
-use Rattle.kc_tokens.specs.Token.{Lexeme, lexemes_from}
-use Rattle.kc_tokens.specs.declared.fault.ExprFault.{ExprFault}
-use Rattle.kc_tokens.specs.declared.language.Language.{Language}
-use Rattle.kc_tokens.specs.declared.language.Language.TheVariants.{Strict, Linux}
-use Rattle.kc_tokens.specs.declared.language.LinuxVersion.{LinuxVersion}
-use Rattle.kc_tokens.specs.declared.language.LinuxVersion.TheVariants.{Unknown, V6_1, V6_12}
+use Rattle.kc_tokens.specs.declared.language.LinuxVersion.TheVariants.{V6_1, V6_12}
 use Rattle.kc_tokens.specs.Languages.{is_linux_6_12}
 use Rattle.kc_expr.specs.Expr.{modules as modules_name}
-use Rattle.kc_expr.proofs.Languages.{strict_in_linux}
-use Rattle.kc_value.specs.declared.value.Kind.{Kind}
 use Rattle.kc_value.specs.declared.value.Kind.TheVariants.{Bool as Boolean, Tristate, Text, Int, Hex}
-use Rattle.kc_value.specs.declared.limits.TheConstants.{MAX_TREE_BYTES, MAX_LINE_BYTES, MAX_OPEN_FILES}
-use Rattle.kc_tree_model.specs.declared.fault.TreeKind.{TreeKind}
-use Rattle.kc_tree_model.specs.declared.fault.TreeKind.TheVariants.{NotUtf8, LineTooLong, Misplaced, StrayEnd, LeftOut, TooDeep, TooMany, NoType, ChoiceMember, ModulesType}
-use Rattle.kc_tree_model.specs.declared.fault.TreeFault.{TreeFault}
-use Rattle.kc_tree_model.specs.declared.keyword.Keyword.{Keyword}
 use Rattle.kc_tree_model.specs.declared.keyword.Keyword.TheVariants as words
-use Rattle.std.specs.Map.{lookup}
 use Rattle.kc_tree_model.specs.Trees.{in_language}
-use Rattle.kc_tree_model.specs.TreeFiles.{Files, file_at, index_of_file}
-use Rattle.kc_tree_model.specs.LogicalLines.{LogicalLine, lines_of}
-use Rattle.kc_tree_model.specs.Keywords.{keyword_of, is_quoted_kind, is_the_word}
-use Rattle.kc_tree_model.specs.Statements.{config, choice, menu, condition, comment, source, mainmenu, ends, Statement}
-use Rattle.kc_tree_model.specs.Forms.{statement_of, ◌>>=◌}
-use Rattle.kc_tree_model.specs.Blocks.{Group, GroupHead, Position, of_head, file_end}
-use Rattle.kc_tree_model.specs.Placement.{first_is, is_allowed, is_left_out, is_stray_end}
-use Rattle.kc_tree_model.specs.Limits.{FileSource, is_too_deep, is_too_many, source_fault}
-use Rattle.kc_tree_model.specs.TreeReading.{Outcome, fault_if, statement_by_keyword, statement_by_word, statement_of_tokens, statement_or_fault, statement_on_line, with_statement, with_group, path_to_read, continue_after_file, continue_after_source, continue_after_statement, continue_after_line, read_lines, read_file, read_root, reading}
-use Rattle.kc_tree_model.specs.Conditions.{GroupInContext}
-use Rattle.kc_tree_model.specs.Contents.{Contents, contents_of, choice_of_symbol, is_first_definition, type_given, tree_of_groups, tree_of_files}
-use Rattle.kc_tree_model.specs.TreeFaults.{when, is_other_kind, is_no_member_kind, kind_of, may_follow_member, definition_faults, attribute_faults, faults_at, faults_of_lines, faults_of_head, faults_of_group, tree_faults, first_tree_fault}
+use Rattle.kc_tree_model.specs.LogicalLines.{lines_of}
+use Rattle.kc_tree_model.specs.Placement.{first_is}
+use Rattle.kc_tree_model.specs.Limits.{source_fault}
+use Rattle.kc_tree_model.specs.TreeReading.{statement_on_line, reading}
+use Rattle.kc_tree_model.specs.Contents.{tree_of_groups, tree_of_files}
+use Rattle.kc_tree_model.specs.TreeFaults.{is_other_kind, kind_of, attribute_faults, faults_at, faults_of_lines, tree_faults, first_tree_fault}
 use Rattle.kc_tree_model.proofs.NestedTrees.LineFits.{fault_if_ok}
 use Rattle.kc_tree_model.proofs.Consistency.Definitions.{nothing_left, no_first, nothing_mapped, not_when}
 
@@ -206,9 +189,7 @@ module _ (version : LinuxVersion) where
   wider_kinds true None h = refl
   wider_kinds true (Some Boolean) h = refl
   wider_kinds true (Some Tristate) h = refl
-  wider_kinds true (Some Text) h = h
-  wider_kinds true (Some Int) h = h
-  wider_kinds true (Some Hex) h = h
+  wider_kinds true w h = h
 
   member_test : (m n x y : Bool) → (m ≡ false → n ≡ false) → (m || (x && true)) ≡ false → (n || (x && y)) ≡ false
   member_test true n x y w h = cc
@@ -239,14 +220,7 @@ module _ (version : LinuxVersion) where
     head_same : (w : GroupHead) → elim w as (λ _. List TreeFault) [ of_head h ↦ faults_of_head Strict c p h | file_end ↦ [] ] ≡ []
         → elim w as (λ _. List TreeFault) [ of_head h ↦ faults_of_head (Linux version) c p h | file_end ↦ [] ] ≡ []
     head_same (of_head (config name)) h = lines_same name h
-    head_same (of_head choice) h = h
-    head_same (of_head (menu title)) h = h
-    head_same (of_head (condition e)) h = h
-    head_same (of_head (comment title)) h = h
-    head_same (of_head (source path)) h = h
-    head_same (of_head mainmenu) h = h
-    head_same (of_head (ends b)) h = h
-    head_same file_end h = h
+    head_same w h = h
 
   groups_same : (c : Contents) (ps : List GroupInContext) → flat_map (faults_of_group Strict c) ps ≡ [] → flat_map (faults_of_group (Linux version) c) ps ≡ []
   groups_same c [] h = refl

@@ -1,15 +1,12 @@
 -- The files of a tree, through the map that holds them.
-use Rattle.std.proofs.Common.{◌≡◌, ℕ, zero, suc, length, arith, ◌≤◌, ◌+◌, Bool, true, false, not, List, [], ◌∷◌, map, refl, ap, sym, ◌∙◌, cond}
-use Rattle.std.specs.List.{IsDistinct, AllByRecursion}
-use Rattle.std.proofs.lemmas.Bool.{ltb-false}
-use Rattle.std.specs.List.{position, position_or_len}
-use Rattle.std.specs.Prelude.{None, nat_lt, slice_get, String, Vec, string_bytes, string_eq, bytes_eq, Option, Some, option_map}
-use Rattle.std.specs.declared.alloc.Global.{Global}
+use Rattle.kc_tree_model.proofs.Common.{◌≡◌, ℕ, zero, suc, length, arith, ◌≤◌, ◌+◌, Bool, true, false, not, List, [], ◌∷◌, map, refl, ap, sym, ◌∙◌, cond, AllByRecursion, ltb-false, position_or_len, nat_lt, slice_get, Vec, bytes_eq, option_map, Global, lookup, Language, files_of, Files, with_file}
+use Rattle.std.specs.List.{IsDistinct}
+use Rattle.std.specs.List.{position}
+use Rattle.std.specs.Prelude.{None, String, string_bytes, string_eq, Option, Some}
 use Rattle.indexmap.specs.IndexMap.{insert_entry}
-use Rattle.std.specs.Map.{lookup, keys_of}
-use Rattle.kc_tokens.specs.declared.language.Language.{Language}
-use Rattle.kc_tree_model.specs.checker.TextsView.{file_of, files_of}
-use Rattle.kc_tree_model.specs.TreeFiles.{Files, with_path, with_file}
+use Rattle.std.specs.Map.{keys_of}
+use Rattle.kc_tree_model.specs.checker.TextsView.{file_of}
+use Rattle.kc_tree_model.specs.TreeFiles.{with_path}
 
 insert_by : (b : Bool) (e : String Global × Vec ℕ Global) (es fs : List (String Global × Vec ℕ Global)) (v : Vec ℕ Global)
     → map file_of (cond b ((e.0, v) ∷ es) (e ∷ fs)) ≡ cond b ((string_bytes e.0, v.items) ∷ map file_of es) (file_of e ∷ map file_of fs)
@@ -41,13 +38,6 @@ find_file path [] = refl
 find_file path (e ∷ es) =
     find_by (bytes_eq path (string_bytes e.0)) e (lookup (λ k. bytes_eq path (string_bytes k)) es)
     ∙ ap (λ o. cond (bytes_eq path (string_bytes e.0)) (Some e.1.items) o) (find_file path es)
-
--- the path of the map entry with this index is that of the file with this index
-pub path_of_entry : (es : List (String Global × Vec ℕ Global)) (i : ℕ) → option_map (λ (e : String Global × Vec ℕ Global). string_bytes e.0) (slice_get es i)
-    ≡ option_map (λ (f : List ℕ × List ℕ). f.0) (slice_get (map file_of es) i)
-path_of_entry [] i = refl
-path_of_entry (e ∷ es) zero = refl
-path_of_entry (e ∷ es) (suc i) = path_of_entry es i
 
 -- paths differ where the keys of the map do
 others : (e : String Global × Vec ℕ Global) (es : List (String Global × Vec ℕ Global)) → AllByRecursion (λ k. string_eq e.0 k ≡ false) (keys_of es)

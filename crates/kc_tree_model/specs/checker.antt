@@ -1,1 +1,2 @@
 pub mod TextsView
+pub mod WordLengths

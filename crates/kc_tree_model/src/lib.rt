@@ -11,7 +11,7 @@ mod texts;
 
 pub use fault::{TreeFault, TreeKind};
 pub use ids::{Sym, Unit};
-pub use keyword::{Block, Keyword, OpenEntry};
+pub use keyword::{Block, Keyword, OpenEntry, keyword_named};
 pub use laws::{
     each_file_is_read, help_begins_in_every_language, lines_are_of_the_grammar,
     linux_reads_strict_trees, more_files_change_nothing, nothing_is_missing_after_wanted,

@@ -13,18 +13,18 @@ use std::{env, fs, io};
 /// The files and the environment of the system, of which contracts know nothing but how many calls on files failed. Paths
 /// and names are hashed by a seed of this run's own.
 #[derive(Drop)]
-pub(crate) struct Disk<'a> {
+pub(crate) struct SystemFiles<'a> {
     runtime: &'a HostRuntime,
     seed: Seed,
     failed: u64,
 }
 
-impl<'a> Disk<'a> {
+impl<'a> SystemFiles<'a> {
     /// The files and the environment of the system, with a new seed and no failed call so far.
-    pub(crate) fn new(runtime: &'a HostRuntime) -> Disk<'a>
-        ensures { ⟦<Disk<'a> as Files>⟧.failures result ≡ 0 }
+    pub(crate) fn new(runtime: &'a HostRuntime) -> SystemFiles<'a>
+        ensures { ⟦<SystemFiles<'a> as Files>⟧.failures result ≡ 0 }
     {
-        Disk {
+        SystemFiles {
             runtime,
             seed: new_seed(runtime),
             failed: 0,
@@ -189,7 +189,7 @@ fn names_listed(
     Ok(Some(names))
 }
 
-impl Files for Disk<'_> {
+impl Files for SystemFiles<'_> {
     type File = OpenFile;
 
     ghost surroundings = { λ _. record { content = λ _. None; regular = λ _. None; names = λ _. None; variable = λ _. None } };

@@ -5,12 +5,12 @@ mod files;
 mod line_files;
 mod streams;
 
-use files::{Disk, new_seed};
+use files::{SystemFiles, new_seed};
 use kc_value::FromRead;
+use kmin_cli::{ParsedWords, command_first, read_words};
 use kmin_disk::SystemDisk;
 use kmin_options::{Question, Task, Verb};
 use kmin_run::run;
-use kmin_words::{ParsedWords, command_first, read_words};
 use line_files::SystemLines;
 use std::alloc::Global;
 use std::io::IsTerminal;
@@ -34,7 +34,7 @@ fn run_words(rt: &HostRuntime) -> io::Result<u8> {
     let mut input = FromRead::new(rt.stdin());
     let mut out = Output::new(rt.stdout());
     let mut err = StandardError::new(rt.alloc(), rt.stderr(), SystemLines::new(rt));
-    let mut files = Disk::new(rt);
+    let mut files = SystemFiles::new(rt);
     let mut disk = SystemDisk::new(rt, new_seed(rt));
     let status = run(
         rt.alloc(),

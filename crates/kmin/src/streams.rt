@@ -4,7 +4,7 @@ ghost use Rattle.kmin_texts.specs.KnownLines.{nothing_known};
 
 use crate::line_files::SystemLines;
 use kc_value::{Failed, Sink, ToWrite};
-use kmin_report::{Messages, Report};
+use kmin_report::{Message, Messages};
 use kmin_texts::{FormMessages, FormedMessages, Wording};
 use std::alloc::{AllocError, Global};
 use std::io::{ErrorKind, Write};
@@ -75,7 +75,7 @@ impl<'a, W: Write> StandardError<'a, W> {
     /// Writes the line that was held back, unless standard output is a closed pipe: then its reader wants no more, as `head`.
     pub(crate) fn end(&mut self, is_closed: bool) {
         if self.holds_line && !is_closed {
-            self.messages.write_report(Report::OutputFault);
+            self.messages.write_report(Message::OutputFault);
         }
     }
 }
@@ -85,9 +85,9 @@ impl<'a, W: Write> Messages for StandardError<'a, W> {
 
     ghost failures = { λ s. ⟦<FormedMessages<ToWrite<W>, SystemLines<'a>> as Messages>⟧.failures s.messages };
 
-    fn write_report(&mut self, report: Report<'_>) {
+    fn write_report(&mut self, report: Message<'_>) {
         match report {
-            Report::OutputFault => self.holds_line = true,
+            Message::OutputFault => self.holds_line = true,
             _ => self.messages.write_report(report),
         }
     }

@@ -11,7 +11,7 @@ ghost use Rattle.kmin_report.specs.between.ReportLines.{report_line};
 use crate::details::Detail;
 use crate::message_lines::{MessageParts, message_line};
 use kmin_messages::{Form, Severity};
-use kmin_report::Report;
+use kmin_report::Message;
 use std::alloc::{AllocError, Global};
 
 /// The line of a report in a form, with this detail. A file of a tree is named by its path with the root in front. Words that are
@@ -20,13 +20,13 @@ pub fn line_in(
     alloc: Global,
     form: Form,
     root: &[u8],
-    report: &Report<'_>,
+    report: &Message<'_>,
     detail: Detail<'_>,
 ) -> Result<Vec<u8>, AllocError>
     ensures { IfOk result (λ line. line.items ≡ line_in form root.now (report_line report.now) (shown (detail_text detail.entry)) (detail_names detail.entry)) }
 {
     match report {
-        Report::RefusedWords(message) => Vec::from_slice(alloc, message.as_bytes()),
+        Message::RefusedWords(message) => Vec::from_slice(alloc, message.as_bytes()),
         _ => message_in(alloc, form, root, report, detail),
     }
 }
@@ -36,7 +36,7 @@ fn message_in(
     alloc: Global,
     form: Form,
     root: &[u8],
-    report: &Report<'_>,
+    report: &Message<'_>,
     detail: Detail<'_>,
 ) -> Result<Vec<u8>, AllocError>
     ensures { IfOk result (λ line. line.items ≡ form_line form (message_of root.now (report_line report.now) (shown (detail_text detail.entry)) (detail_names detail.entry))) }
@@ -63,66 +63,66 @@ fn borrowed(file: &Option<Vec<u8>>) -> Option<&[u8]>
 }
 
 /// The name of the kind of a report.
-fn kind_of(report: &Report<'_>) -> &'static str
+fn kind_of(report: &Message<'_>) -> &'static str
     ensures { result.now ≡ kind_of (report_line report.now) }
 {
     match report {
-        Report::TreeFault { kind, .. } => kind.name(),
-        Report::Cycle { .. } => "Cycle",
-        Report::FileFault { kind, .. } => kind.name(),
-        Report::Notice { kind, .. } => kind.name(),
-        Report::AnswersFault { kind, .. } => kind.name(),
-        Report::MacroNotice(notice) => notice.kind.name(),
-        Report::MacroFault { fault, .. } => fault.kind.name(),
-        Report::OutputFault | Report::Unwritten(_) => "Write",
-        Report::NotRegular(_) => "NotRegular",
-        Report::Left(_) => "Left",
-        Report::OutOfMemory => "OutOfMemory",
-        Report::RefusedWords(_) => "",
+        Message::TreeFault { kind, .. } => kind.name(),
+        Message::Cycle { .. } => "Cycle",
+        Message::FileFault { kind, .. } => kind.name(),
+        Message::Notice { kind, .. } => kind.name(),
+        Message::AnswersFault { kind, .. } => kind.name(),
+        Message::MacroNotice(notice) => notice.kind.name(),
+        Message::MacroFault { fault, .. } => fault.kind.name(),
+        Message::OutputFault | Message::Unwritten(_) => "Write",
+        Message::NotRegular(_) => "NotRegular",
+        Message::Left(_) => "Left",
+        Message::OutOfMemory => "OutOfMemory",
+        Message::RefusedWords(_) => "",
     }
 }
 
 /// The severity of a report.
-fn severity_of(report: &Report<'_>) -> Severity
+fn severity_of(report: &Message<'_>) -> Severity
     ensures { result ≡ severity_of (report_line report.now) }
 {
     match report {
-        Report::Notice { .. } | Report::MacroNotice(_) => Severity::Warning,
+        Message::Notice { .. } | Message::MacroNotice(_) => Severity::Warning,
         _ => Severity::Error,
     }
 }
 
 /// The number of the line of a report in its file; 0 where it is of no line.
-fn number_of(report: &Report<'_>) -> u32
+fn number_of(report: &Message<'_>) -> u32
     ensures { result ≡ number_of (report_line report.now) }
 {
     match report {
-        Report::TreeFault { line, .. }
-        | Report::Cycle { line, .. }
-        | Report::FileFault { line, .. }
-        | Report::Notice { line, .. }
-        | Report::AnswersFault { line, .. } => *line,
-        Report::MacroNotice(notice) => notice.line,
-        Report::MacroFault { fault, .. } => fault.line,
+        Message::TreeFault { line, .. }
+        | Message::Cycle { line, .. }
+        | Message::FileFault { line, .. }
+        | Message::Notice { line, .. }
+        | Message::AnswersFault { line, .. } => *line,
+        Message::MacroNotice(notice) => notice.line,
+        Message::MacroFault { fault, .. } => fault.line,
         _ => 0,
     }
 }
 
 /// The path of the file of a report, if it is of one; of a file of a tree it has the root in front.
-fn file_of(alloc: Global, root: &[u8], report: &Report<'_>) -> Result<Option<Vec<u8>>, AllocError>
+fn file_of(alloc: Global, root: &[u8], report: &Message<'_>) -> Result<Option<Vec<u8>>, AllocError>
     ensures { IfOk result (λ file. option_map (λ (path : Vec ℕ). path.items) file ≡ file_of root.now (report_line report.now)) }
 {
     match report {
-        Report::TreeFault { path, .. } | Report::Cycle { path, .. } => below(alloc, root, path),
-        Report::MacroNotice(notice) => below(alloc, root, notice.file.as_slice()),
-        Report::MacroFault { fault, .. } => below(alloc, root, fault.file.as_slice()),
-        Report::FileFault { path, .. }
-        | Report::Notice { path, .. }
-        | Report::AnswersFault { path, .. }
-        | Report::NotRegular(path)
-        | Report::Unwritten(path)
-        | Report::Left(path) => Ok(Some(Vec::from_slice(alloc, path.as_bytes())?)),
-        Report::OutputFault | Report::OutOfMemory | Report::RefusedWords(_) => Ok(None),
+        Message::TreeFault { path, .. } | Message::Cycle { path, .. } => below(alloc, root, path),
+        Message::MacroNotice(notice) => below(alloc, root, notice.file.as_slice()),
+        Message::MacroFault { fault, .. } => below(alloc, root, fault.file.as_slice()),
+        Message::FileFault { path, .. }
+        | Message::Notice { path, .. }
+        | Message::AnswersFault { path, .. }
+        | Message::NotRegular(path)
+        | Message::Unwritten(path)
+        | Message::Left(path) => Ok(Some(Vec::from_slice(alloc, path.as_bytes())?)),
+        Message::OutputFault | Message::OutOfMemory | Message::RefusedWords(_) => Ok(None),
     }
 }
 

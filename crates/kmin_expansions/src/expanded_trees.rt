@@ -14,16 +14,16 @@ ghost use Rattle.kmin_expansions.specs.between.FilesByPlace.{with_file_at};
 ghost use Rattle.kmin_expansions.specs.between.ExpansionStops.{StopsExpanding};
 ghost use Rattle.kmin_report.specs.between.RunErrors.{status_of};
 
-use crate::tree_folder::{TreeFolder, text_of};
+use crate::tree_folder::{TreeFolder, utf8_or_none};
 use kc_answers::Answers;
-use kc_expansion::{ExpandedTree, Expansion, expand, unused, wants};
+use kc_expansion::{ExpandedTree, ExpansionOutcome, expand, unused, wants};
 use kc_macros::{MacroFault, MacroNotice};
 use kc_tokens::Language;
 use kc_tree::Texts;
 use kc_value::Seed;
 use kmin_inputs::Files;
 use kmin_options::Settings;
-use kmin_report::{Messages, Report, RunError};
+use kmin_report::{Message, Messages, RunError};
 use std::alloc::{AllocError, Global};
 
 /// A tree whose macros are expanded, and its expanded files as the texts to read as a Kconfig tree.
@@ -35,7 +35,7 @@ pub struct ExpandedTexts {
 
 /// The expansion of a tree below a folder, and the path of the file that couldn't be opened last, if that is known.
 #[derive(Drop)]
-struct ExpansionBelow {
+struct FolderExpansion {
     notices: Vec<MacroNotice>,
     tree: Result<ExpandedTree, MacroFault>,
     missing: Option<Vec<u8>>,
@@ -68,7 +68,7 @@ pub fn expanded_tree<F: Files, E: Messages>(
     ensures rising { F.failures files.old ≤ F.failures files.new }
 {
     let seed = files.seed();
-    let ExpansionBelow {
+    let FolderExpansion {
         notices,
         tree,
         missing,
@@ -85,7 +85,7 @@ pub fn expanded_tree<F: Files, E: Messages>(
         Err(fault) => {
             report_macro_notices(&notices, err);
             let missing = borrowed(&missing);
-            err.write_report(Report::MacroFault {
+            err.write_report(Message::MacroFault {
                 fault: &fault,
                 missing,
             });
@@ -109,7 +109,7 @@ fn expansion_below<F: Files>(
     first: &str,
     answers: &Answers,
     files: &mut F,
-) -> Result<ExpansionBelow, AllocError>
+) -> Result<FolderExpansion, AllocError>
     ensures same { (F.surroundings files.new).content ≡ (F.surroundings files.old).content }
     ensures expanded { IfOk result (λ e. IsCountedExpansion (contents_below (F.surroundings files.old) root.now) (F.failures files.old) (F.failures files.new) answers.now first.now (map notice_of e.notices.items) (tree_of e.tree)) }
     ensures rising { F.failures files.old ≤ F.failures files.new }
@@ -120,11 +120,11 @@ fn expansion_below<F: Files>(
         root,
         missing: &mut missing,
     };
-    let Expansion {
+    let ExpansionOutcome {
         notices,
         tree: expanded,
     } = expand(alloc, &mut tree, first.as_bytes(), answers)?;
-    Ok(ExpansionBelow {
+    Ok(FolderExpansion {
         notices,
         tree: expanded,
         missing,
@@ -206,7 +206,7 @@ fn insert_at(tree: &ExpandedTree, at: usize, texts: &mut Texts) -> Result<(), Al
 fn insert(key: &[u8], text: &[u8], texts: &mut Texts) -> Result<(), AllocError>
     ensures { OnOk result (texts.new ≡ (if is_utf8 key.now then with_file texts.old key.now text.now else texts.old)) }
 {
-    match text_of(key) {
+    match utf8_or_none(key) {
         Some(key) => texts.insert(key, text),
         None => Ok(()),
     }
@@ -217,6 +217,6 @@ fn report_macro_notices<E: Messages>(notices: &[MacroNotice], err: &mut E)
     ensures { TakesLines (E.taken err.old) (E.failures err.old) (map (λ notice. macro_notice_line (notice_of notice)) notices.now) (E.taken err.new) (E.failures err.new) }
 {
     for notice in notices {
-        err.write_report(Report::MacroNotice(notice));
+        err.write_report(Message::MacroNotice(notice));
     }
 }

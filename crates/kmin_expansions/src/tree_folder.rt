@@ -29,7 +29,7 @@ pub(crate) fn path_in(alloc: Global, root: &str, path: &str) -> Result<String, A
 }
 
 /// Bytes as a text, if they are UTF-8.
-pub(crate) fn text_of(bytes: &[u8]) -> Option<&str>
+pub(crate) fn utf8_or_none(bytes: &[u8]) -> Option<&str>
     ensures same { IfSome result (λ text. text.now ≡ bytes.now) }
     ensures utf8 { is_some result ≡ is_utf8 bytes.now }
 {
@@ -58,7 +58,7 @@ impl<F: Files> TreeFiles for TreeFolder<'_, F> {
 
     fn open(&mut self, alloc: Global, path: &[u8]) -> Result<Option<F::File>, FileStop> {
         *self.missing = None;
-        let Some(path) = text_of(path) else {
+        let Some(path) = utf8_or_none(path) else {
             return Ok(None);
         };
         let place = path_in(alloc, self.root, path)?;
@@ -85,7 +85,7 @@ impl<F: Files> TreeFiles for TreeFolder<'_, F> {
         most: usize,
     ) -> Result<Option<Vec<Vec<u8>>>, FileStop> {
         *self.missing = None;
-        let Some(folder) = text_of(folder) else {
+        let Some(folder) = utf8_or_none(folder) else {
             return Ok(Some(Vec::new(alloc)));
         };
         let place = path_in(alloc, self.root, folder)?;

@@ -1,21 +1,18 @@
 -- The walk over an expression that keeps a condition too low.
-use Rattle.std.proofs.Common.{◌≡◌, ℕ, ◌<◌, Bool, true, false, not, cond, ltb, List, [], ◌∷◌, ◌++◌, length, reverse, Option, Some, None, refl, sym, ◌∙◌, ap, append_assoc, append-nil, All, arith}
+use Rattle.std.proofs.Common.{ltb, reverse}
 use Rattle.std.specs.Prelude.{filter_map, bytes_eq}
 use Rattle.std.proofs.lemmas.Bool.{ltb-true}
-use Rattle.std.specs.List.{cons_option, position_or_len}
+use Rattle.std.specs.List.{position_or_len}
 use Rattle.std.proofs.lemmas.List.{reverse-append}
-use Rattle.std.proofs.lemmas.List.Elements.{All-nil, All-cons, filter_map-append}
-use Rattle.kc_value.specs.declared.tri.Tri.{Tri}
+use Rattle.std.proofs.lemmas.List.Elements.{filter_map-append}
+use Rattle.kmin_explain.proofs.Common.{◌≡◌, ℕ, ◌<◌, Bool, true, false, not, cond, List, [], ◌∷◌, ◌++◌, length, Option, Some, None, refl, sym, ◌∙◌, ap, append_assoc, append-nil, All, arith, cons_option, All-nil, All-cons, Tri, Tree, Symbol, symbol_named, blamed, blamed_in_reverse}
 use Rattle.kc_value.specs.declared.tri.Tri.TheVariants.{N, M}
 use Rattle.kc_value.specs.Tri.{tri_not}
-use Rattle.kc_tokens.specs.declared.token.Relop.{Relop}
 use Rattle.kc_expr.specs.Expr.{Expr, Operand, constant, named, quoted, alone, related, negated, both, either, shown, Environment, value}
 use Rattle.kc_expr.specs.ExpressionNames.{operand_names}
-use Rattle.kc_tree_model.specs.Trees.{Tree, Symbol}
-use Rattle.kc_tree_model.specs.TreeLookup.{symbol_named}
-use Rattle.kc_reasons_model.specs.Blame.{is_off, blamed}
+use Rattle.kc_reasons_model.specs.Blame.{is_off}
 use Rattle.kmin_explain.specs.checker.Bounds.{is_never_off, shown_limit}
-use Rattle.kmin_explain.specs.checker.BlamedWalk.{operand_symbols, blamed_in_reverse}
+use Rattle.kmin_explain.specs.checker.BlamedWalk.{operand_symbols}
 
 -- the walk goes on into the left part
 pub into_left : (left right whole before found all : List ℕ) → whole ≡ right ++ left → found ≡ before ++ right → before ++ whole ≡ all → found ++ left ≡ all
@@ -30,57 +27,12 @@ into_part whole part before all is h = ap (λ x. before ++ x) (sym is) ∙ h
 pub nothing_left : (whole before all : List ℕ) → whole ≡ [] → before ++ whole ≡ all → before ≡ all
 nothing_left whole before all is h = sym (append-nil before) ∙ into_part whole [] before all is h
 
--- or after the last part
-pub last_part : (whole part before found all : List ℕ) → whole ≡ part → found ≡ before ++ part → before ++ whole ≡ all → found ≡ all
-last_part whole part before found all is f h = f ∙ into_part whole part before all is h
-
 module _ (tree : Tree) (names : Environment) where
-  -- what an expression of two parts has where it is off, and where it isn't
-  pub off_both : (above : Bool) (t : Tri) (e left right : Expr) (b : Bool) → e ≡ both left right → b ≡ is_off above t (value names e) → b ≡ true
-      → blamed_in_reverse tree names above t e ≡ blamed_in_reverse tree names above t right ++ blamed_in_reverse tree names above t left
-  off_both above t e left right b is test on =
-      ap (blamed_in_reverse tree names above t) is ∙ ap (λ c. cond c (blamed_in_reverse tree names above t right ++ blamed_in_reverse tree names above t left) []) (sym (test ∙ ap (λ x. is_off above t (value names x)) is) ∙ on)
-
-  pub on_both : (above : Bool) (t : Tri) (e left right : Expr) (b : Bool) → e ≡ both left right → b ≡ is_off above t (value names e) → b ≡ false
-      → blamed_in_reverse tree names above t e ≡ []
-  on_both above t e left right b is test on =
-      ap (blamed_in_reverse tree names above t) is ∙ ap (λ c. cond c (blamed_in_reverse tree names above t right ++ blamed_in_reverse tree names above t left) []) (sym (test ∙ ap (λ x. is_off above t (value names x)) is) ∙ on)
-
-  pub off_either : (above : Bool) (t : Tri) (e left right : Expr) (b : Bool) → e ≡ either left right → b ≡ is_off above t (value names e) → b ≡ true
-      → blamed_in_reverse tree names above t e ≡ blamed_in_reverse tree names above t right ++ blamed_in_reverse tree names above t left
-  off_either above t e left right b is test on =
-      ap (blamed_in_reverse tree names above t) is ∙ ap (λ c. cond c (blamed_in_reverse tree names above t right ++ blamed_in_reverse tree names above t left) []) (sym (test ∙ ap (λ x. is_off above t (value names x)) is) ∙ on)
-
-  pub on_either : (above : Bool) (t : Tri) (e left right : Expr) (b : Bool) → e ≡ either left right → b ≡ is_off above t (value names e) → b ≡ false
-      → blamed_in_reverse tree names above t e ≡ []
-  on_either above t e left right b is test on =
-      ap (blamed_in_reverse tree names above t) is ∙ ap (λ c. cond c (blamed_in_reverse tree names above t right ++ blamed_in_reverse tree names above t left) []) (sym (test ∙ ap (λ x. is_off above t (value names x)) is) ∙ on)
-
-  -- what an expression of one part has
-  pub of_negated : (above : Bool) (t : Tri) (e part : Expr) (above' : Bool) (t' : Tri) → e ≡ negated part → above' ≡ not above → t' ≡ tri_not t
-      → blamed_in_reverse tree names above t e ≡ blamed_in_reverse tree names above' t' part
-  of_negated above t e part above' t' is a b =
-      ap (blamed_in_reverse tree names above t) is ∙ ap (λ x. blamed_in_reverse tree names x (tri_not t) part) (sym a) ∙ ap (λ x. blamed_in_reverse tree names above' x part) (sym b)
-
   pub of_shown : (above : Bool) (t : Tri) (e part : Expr) (above' : Bool) (t' : Tri) → e ≡ shown part → is_never_off above t ≡ false → above' ≡ above → t' ≡ shown_limit above
       → blamed_in_reverse tree names above t e ≡ blamed_in_reverse tree names above' t' part
   of_shown above t e part above' t' is never a b =
       ap (blamed_in_reverse tree names above t) is ∙ ap (λ c. cond c [] (blamed_in_reverse tree names above (shown_limit above) part)) never
       ∙ ap (λ x. blamed_in_reverse tree names x (shown_limit above) part) (sym a) ∙ ap (λ x. blamed_in_reverse tree names above' x part) (sym b)
-
-  pub never_shown : (above : Bool) (t : Tri) (e part : Expr) → e ≡ shown part → is_never_off above t ≡ true → blamed_in_reverse tree names above t e ≡ []
-  never_shown above t e part is never =
-      ap (blamed_in_reverse tree names above t) is ∙ ap (λ c. cond c [] (blamed_in_reverse tree names above (shown_limit above) part)) never
-
-  pub of_alone : (above : Bool) (t : Tri) (e : Expr) (a : Operand) (b : Bool) → e ≡ alone a → b ≡ is_off above t (value names e)
-      → blamed_in_reverse tree names above t e ≡ cond b (operand_symbols tree a) []
-  of_alone above t e a b is test =
-      ap (blamed_in_reverse tree names above t) is ∙ ap (λ c. cond c (operand_symbols tree a) []) (sym (test ∙ ap (λ x. is_off above t (value names x)) is))
-
-  pub of_related : (above : Bool) (t : Tri) (e : Expr) (op : Relop) (a a' : Operand) (b : Bool) → e ≡ related op a a' → b ≡ is_off above t (value names e)
-      → blamed_in_reverse tree names above t e ≡ cond b (operand_symbols tree a' ++ operand_symbols tree a) []
-  of_related above t e op a a' b is test =
-      ap (blamed_in_reverse tree names above t) is ∙ ap (λ c. cond c (operand_symbols tree a' ++ operand_symbols tree a) []) (sym (test ∙ ap (λ x. is_off above t (value names x)) is))
 
   -- turned round, what the walk finds are the blamed names
   one_kept : (o : Option ℕ) → reverse (cons_option o []) ≡ cons_option o []

@@ -1,30 +1,21 @@
 -- `explain` as a whole: its output with all lines of standard error, or where it ends.
-use Rattle.std.proofs.Common.{◌≡◌, ℕ, List, [], ◌∷◌, ◌++◌, Option, Result, Ok, Err, IfOk, IfErr, inl, inr, refl, sym, subst, append_assoc, append-nil}
-use Rattle.kc_rules.specs.between.SettledViews.{tree_of_settled}
+use Rattle.kmin_explain_command.proofs.Common.{◌≡◌, ℕ, List, [], ◌∷◌, ◌++◌, Option, Result, Ok, Err, IfOk, IfErr, inl, inr, refl, sym, subst, append_assoc, append-nil, tree_of_settled, ErrorLine, refused_line, SpelledBytes, TakesLines, RunError, status_of, lines_append, TreeTexts, IsLinedTree}
+use Rattle.kmin_explain_command.proofs.Common.{LinedTree, JobOutput, StopsOverTree, task_of, AnswersOver, StopsOver}
 use Rattle.kmin_options.specs.Jobs.{ExplainJob}
 use Rattle.kmin_inputs.specs.FileContents.{Surroundings}
-use Rattle.kmin_report.specs.Reports.{ErrorLine, last_lines, output_line, refused_line}
-use Rattle.kmin_report.specs.StandardError.{SpelledBytes, TakesLines}
-use Rattle.kmin_report.specs.declared.run_error.RunError.{RunError}
-use Rattle.kmin_report.specs.between.RunErrors.{status_of}
-use Rattle.kmin_report.proofs.WriterLemmas.{lines_append}
-use Rattle.kmin_expansions.specs.JobTexts.{TreeTexts, AreTextsOfJob}
-use Rattle.kmin_trees.specs.LinedTrees.{IsLinedTree}
-use Rattle.kmin_trees.specs.declared.lined_trees.LinedTree.{LinedTree}
-use Rattle.kmin_answers.specs.Stops.{StopsBefore, among_files, at_choices}
-use Rattle.kmin_answers.specs.declared.verb_texts.AnswerText.{AnswerText}
-use Rattle.kmin_answers.specs.between.LoadStops.{StopsOverTree}
+use Rattle.kmin_report.specs.Reports.{last_lines, output_line}
+use Rattle.kmin_expansions.specs.JobTexts.{AreTextsOfJob}
+use Rattle.kmin_outputs.specs.Stops.{StopsBefore, among_files, at_choices}
 use Rattle.kmin_explain_command.specs.Explains.{Explains}
-use Rattle.kmin_explain_command.specs.Stops.{StopsExplaining, task_of, unknown_text}
+use Rattle.kmin_explain_command.specs.Stops.{StopsExplaining, unknown_text}
 use Rattle.kmin_explain_command.specs.Stops as stops
-use Rattle.kmin_explain_command.specs.between.Ends.{AnswersOver, StopsOver}
 use Rattle.kmin_explain_command.specs.between.Ends as ends
 
 -- over a tree of the job
 module _ (known : Surroundings) (job : ExplainJob) (tree : LinedTree) (t : TreeTexts) (are : AreTextsOfJob known job.settings t)
     (lined : IsLinedTree t job.settings.tree tree) (taken middle after : SpelledBytes) (failed failed_middle failed_after : ℕ)
     (before : TakesLines taken failed t.lines middle failed_middle) where
-  pub job_answers : (r : Result AnswerText RunError)
+  pub job_answers : (r : Result JobOutput RunError)
       → IfOk r (λ answer. AnswersOver known.content job tree answer.text.items answer.status middle failed_middle after failed_after)
       → IfOk r (λ answer. (t : TreeTexts) × (lines : List ErrorLine) × AreTextsOfJob known job.settings t
       × Explains known.content job t answer.text.items answer.status lines × TakesLines taken failed lines after failed_after)
@@ -56,7 +47,7 @@ module _ (known : Surroundings) (job : ExplainJob) (tree : LinedTree) (t : TreeT
         (lines_append taken middle failed failed_middle t.lines _ after failed_after before h),
   )
 
-  pub job_stops : (counted counted_after : ℕ) (r : Result AnswerText RunError)
+  pub job_stops : (counted counted_after : ℕ) (r : Result JobOutput RunError)
       → IfErr r (λ stop. StopsOver known.content job tree (status_of stop) middle failed_middle after failed_after)
       → IfErr r (λ stop. (lines : List ErrorLine) × StopsExplaining known counted counted_after job (status_of stop) lines × TakesLines taken failed lines after failed_after)
   job_stops counted counted_after (Ok answer) h = tt

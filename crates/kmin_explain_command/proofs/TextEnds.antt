@@ -1,33 +1,21 @@
 -- The text of a command that gives reasons, for a configuration whose files were read, or its end there.
-use Rattle.std.proofs.Common.{◌≡◌, ◌≤◌, ℕ, Bool, true, false, List, [], ◌∷◌, Vec, Option, Some, None, if◌then◌else◌, refl, sym, ap, subst, ◌∙◌, arith}
-use Rattle.std.specs.Borrow.{Bor}
+use Rattle.std.proofs.Common.{Vec, Some, if◌then◌else◌}
+use Rattle.kmin_explain_command.proofs.Common.{◌≡◌, ◌≤◌, ℕ, Bool, true, false, List, [], ◌∷◌, Option, None, refl, sym, ap, subst, ◌∙◌, arith, Bor, Group, Tree, LineMeaning, tree_in, config_of, sources_model, explain_job_view, question_view, ExplainJob, SpelledBytes, TakesLines, LinedTree}
+use Rattle.kmin_explain_command.proofs.Common.{AreNoticed, JobOutput, lines_kept, explained_text, IsExplained, symbols_in, unknown_for, AreOfSources, StopsAfterFiles, paths_of_job, sources_of, StopsAtName, LinedFiles}
 use Rattle.std.specs.declared.alloc.AllocError.{AllocError}
 use Rattle.std.specs.declared.alloc.Global.{Global}
 use Rattle.std.specs.Prelude.{option_map, IfOk, Result, Ok, Err}
-use Rattle.kc_tree_model.specs.Blocks.{Group}
-use Rattle.kc_tree_model.specs.Trees.{Tree}
-use Rattle.kc_dotconfig_model.specs.ConfigLines.{LineMeaning}
-use Rattle.kc_config.specs.ConfigStates.{tree_in}
 use Rattle.kmin_explain.specs.Deep.{AreDeep}
 use Rattle.kmin_explain.specs.Explanations.{SourcesModel, is_one_hindered}
-use Rattle.kmin_explain.specs.between.Sources.{AreSourcesOf, config_of, sources_model}
+use Rattle.kmin_explain.specs.between.Sources.{AreSourcesOf}
 use Rattle.kmin_explain.specs.declared.sources.Sources.{Sources}
-use Rattle.kmin_options.specs.Jobs.{explain_job_view, Question, question_view, explain}
+use Rattle.kmin_options.specs.Jobs.{Question, explain}
 use Rattle.kmin_options.specs.declared.job.ExplainFlags.{ExplainFlags}
-use Rattle.kmin_options.specs.declared.job.ExplainJob.{ExplainJob}
 use Rattle.kmin_records.specs.declared.output_form.OutputForm.{OutputForm}
-use Rattle.kmin_report.specs.StandardError.{SpelledBytes, TakesLines}
-use Rattle.kmin_trees.specs.declared.lined_trees.LinedTree.{LinedTree}
-use Rattle.kmin_answers.specs.Statuses.{status_of_list}
-use Rattle.kmin_answers.specs.between.Comparisons.{AreNoticed}
-use Rattle.kmin_answers.specs.declared.verb_texts.AnswerText.{AnswerText}
-use Rattle.kmin_answers.proofs.JobOutputs.{lines_kept}
-use Rattle.kmin_explain_command.specs.Explains.{AreExplainedFor, explained_text, IsExplained, symbols_in, unknown_for}
-use Rattle.kmin_explain_command.specs.between.Texts.{AreOfSources, StopsAfterFiles, IsAnswerFor, IsAnswerOf, IsTextOf, paths_of_job, sources_of, status_by}
+use Rattle.kmin_explain_command.specs.Explains.{AreExplainedFor}
+use Rattle.kmin_explain_command.specs.between.Texts.{IsAnswerFor, IsAnswerOf, IsTextOf, status_by}
 use Rattle.kmin_explain_command.specs.between.Texts as after_files
-use Rattle.kmin_explain_command.specs.between.UnknownNames.{StopsAtName}
 use Rattle.kmin_explain_command.specs.between.UnknownNames as names
-use Rattle.kmin_explain_command.specs.declared.lined_files.LinedFiles.{LinedFiles}
 
 module _ (job : ExplainJob) (tree : LinedTree) (found : LinedFiles) (taken middle after : SpelledBytes) (failed failed_middle failed_after : ℕ)
     (n : AreNoticed job.settings.strict (paths_of_job job) found.read taken failed middle failed_middle) where
@@ -82,12 +70,6 @@ pub answer_of_question : (job : ExplainJob) (question : Question) (g : SourcesMo
 answer_of_question job question g text status is a =
     subst (λ (q : Question). IsAnswerFor job.settings.output_form q g (symbols_in (explain_job_view job) g.tree) text status) (sym is) a
 
--- the status of a list is 0 or 1
-pub list_status_small : {A : Type 0} (exit_code : Bool) (listed : List A) → status_of_list exit_code listed ≤ 1
-list_status_small false listed = omega arith
-list_status_small true [] = omega arith
-list_status_small true (x ∷ xs) = omega arith
-
 -- what symbols are explained by is of the tree and the files that were read
 pub answer_from : (by : Sources) (job : ExplainJob) (tree : LinedTree) (found : LinedFiles) (read : List Group) (meanings : List (List LineMeaning)) (text : List ℕ)
     (status : ℕ) → config_of by ≡ found.read.config → by.lines.now ≡ tree.lines → by.files.now ≡ found.lines.items → by.tree_paths.now ≡ tree.paths.items
@@ -108,7 +90,7 @@ pub no_status : (flags : ExplainFlags) (g : SourcesModel) (named : List ℕ) →
 no_status flags g named e = rw e refl
 
 -- and so of a result that has both
-pub both_answered : (form : OutputForm) (flags : ExplainFlags) (names : Option (List ℕ)) (by : Sources) (r : Result AnswerText AllocError) (named other : List ℕ) → named ≡ other
+pub both_answered : (form : OutputForm) (flags : ExplainFlags) (names : Option (List ℕ)) (by : Sources) (r : Result JobOutput AllocError) (named other : List ℕ) → named ≡ other
     → IfOk r (λ answer. (read : List Group) (meanings : List (List LineMeaning)) → AreSourcesOf by read meanings
     → IsTextOf form flags (sources_model by read meanings) named answer.text.items)
     → IfOk r (λ answer. (read : List Group) (meanings : List (List LineMeaning)) → AreSourcesOf by read meanings
@@ -120,7 +102,7 @@ both_answered form flags names by (Ok answer) named other is t s = λ read meani
     named_is form flags names (sources_model by read meanings) named other answer.text.items answer.status is (t read meanings are) (s read meanings are)
 
 -- a result that has the answer for the question of a job has that of the job
-pub question_answered : (job : ExplainJob) (question : Question) (by : Sources) (r : Result AnswerText AllocError) → question_view job.question ≡ question
+pub question_answered : (job : ExplainJob) (question : Question) (by : Sources) (r : Result JobOutput AllocError) → question_view job.question ≡ question
     → IfOk r (λ answer. (read : List Group) (meanings : List (List LineMeaning)) → AreSourcesOf by read meanings
     → IsAnswerFor job.settings.output_form question (sources_model by read meanings) (symbols_in (explain_job_view job) (tree_in (config_of by))) answer.text.items answer.status)
     → IfOk r (λ answer. (read : List Group) (meanings : List (List LineMeaning)) → AreSourcesOf by read meanings

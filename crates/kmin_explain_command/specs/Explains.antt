@@ -27,9 +27,9 @@ use Rattle.kmin_trees.specs.AcceptedTrees.{AreAccepted}
 use Rattle.kmin_expansions.specs.JobTexts.{TreeTexts}
 use Rattle.kmin_trees.specs.LinedTrees.{names_by_number}
 use Rattle.kmin_report.specs.Reports.{ErrorLine, notice_lines, choice_notice_lines}
-use Rattle.kmin_answers.specs.Answers.{Resolve}
-use Rattle.kmin_answers.specs.Statuses.{status_of_list}
-use Rattle.kmin_answers.specs.Strictness.{AllowsNotices}
+use Rattle.kmin_outputs.specs.Outputs.{Resolve}
+use Rattle.kmin_outputs.specs.Statuses.{status_of_list}
+use Rattle.kmin_outputs.specs.Strictness.{AllowsNotices}
 
 -- What the symbols of a job are explained by: its tree is accepted and of the groups of the one reading of its texts, and its files
 -- are accepted, have these meanings and the one solution.

@@ -6,7 +6,7 @@ use Rattle.kmin_options.specs.Jobs.{ExplainJob, Task, over}
 use Rattle.kmin_options.specs.declared.job.Verb.TheVariants.{Min}
 use Rattle.kmin_inputs.specs.FileContents.{Surroundings}
 use Rattle.kmin_expansions.specs.JobTexts.{TreeTexts, AreTextsOfJob}
-use Rattle.kmin_answers.specs.Stops.{StopsBefore}
+use Rattle.kmin_outputs.specs.Stops.{StopsBefore}
 use Rattle.kmin_report.specs.Reports.{ErrorLine, output_line, refused_line}
 use Rattle.kmin_explain_command.specs.Explains.{Explains, RefusesName}
 

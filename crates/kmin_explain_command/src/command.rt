@@ -16,9 +16,9 @@ ghost use Rattle.kmin_expansions.specs.JobTexts.{TreeTexts, AreTextsOfJob};
 use crate::lined_files::read_lined;
 use crate::texts::explained_files;
 use kc_value::Sink;
-use kmin_answers::AnswerText;
 use kmin_inputs::Files;
 use kmin_options::ExplainJob;
+use kmin_outputs::JobOutput;
 use kmin_report::{Messages, RunError, exit_status, write_answer};
 use kmin_trees::{LinedTree, job_tree_with_lines};
 use std::alloc::Global;
@@ -73,7 +73,7 @@ fn explained<F: Files, E: Messages>(
     job: &ExplainJob<'_>,
     files: &mut F,
     err: &mut E,
-) -> Result<AnswerText, RunError>
+) -> Result<JobOutput, RunError>
     ensures status { IfOk result (λ answer. answer.status ≤ 1) }
     ensures answer { IfOk result (λ answer. (t : TreeTexts) × (lines : List ErrorLine) × AreTextsOfJob (F.surroundings files.old) (explain_job_view job.now).settings t × Explains (F.surroundings files.old).content (explain_job_view job.now) t answer.text.items answer.status lines × TakesLines (E.taken err.old) (E.failures err.old) lines (E.taken err.new) (E.failures err.new)) }
     ensures stopped { IfErr result (λ stop. (lines : List ErrorLine) × StopsExplaining (F.surroundings files.old) (F.failures files.old) (F.failures files.new) (explain_job_view job.now) (status_of stop) lines × TakesLines (E.taken err.old) (E.failures err.old) lines (E.taken err.new) (E.failures err.new)) }
@@ -92,7 +92,7 @@ fn explained_over<F: Files, E: Messages>(
     tree: &LinedTree,
     files: &mut F,
     err: &mut E,
-) -> Result<AnswerText, RunError>
+) -> Result<JobOutput, RunError>
     requires profile { profile_of tree.now.settled ≡ job.now.settings.profile }
     requires read { IsReadTree (tree_model_of tree.now.settled) tree.now.lines }
     ensures status { IfOk result (λ answer. answer.status ≤ 1) }

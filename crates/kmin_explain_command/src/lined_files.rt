@@ -6,8 +6,8 @@ ghost use Rattle.kc_dotconfig_model.specs.ConfigFiles.{empty_assignment, overlay
 ghost use Rattle.kc_dotconfig_model.specs.between.Formats.{file_format};
 ghost use Rattle.kc_config.specs.ConfigStates.{IsSolved, tree_in};
 ghost use Rattle.kc_dotconfig.specs.Fragments.{FitsTree, users_of};
-ghost use Rattle.kmin_answers.specs.Stops.{StopsAmongFiles};
-ghost use Rattle.kmin_answers.specs.between.LoadResults.{lists_of};
+ghost use Rattle.kmin_outputs.specs.Stops.{StopsAmongFiles};
+ghost use Rattle.kmin_outputs.specs.between.LoadResults.{lists_of};
 ghost use Rattle.kmin_explain_command.specs.between.LinedFiles.{AreLined};
 ghost use Rattle.kmin_report.specs.Reports.{ErrorLine};
 ghost use Rattle.kc_files.specs.TreeContents.{HasRisen};
@@ -17,9 +17,9 @@ ghost use Rattle.kmin_report.specs.between.RunErrors.{status_of};
 use crate::lined_file::{LinedFile, read_file};
 use kc_config_reasons::FileLines;
 use kc_rules::Settled;
-use kmin_answers::{ReadFiles, add_fragment, unassigned};
 use kmin_inputs::Files;
 use kmin_options::Settings;
+use kmin_outputs::{ReadFiles, add_fragment, unassigned};
 use kmin_report::{Messages, RunError};
 use std::alloc::{AllocError, Global};
 

@@ -6,7 +6,7 @@ ghost use Rattle.kc_rules.specs.between.SettledViews.{tree_model_of};
 ghost use Rattle.kc_config.specs.ConfigStates.{tree_in};
 ghost use Rattle.kc_dotconfig_model.specs.ConfigLines.{LineMeaning};
 ghost use Rattle.kc_symbol_lines.specs.between.Indexes.{IsReadTree};
-ghost use Rattle.kmin_answers.specs.between.Comparisons.{AreNoticed};
+ghost use Rattle.kmin_outputs.specs.between.Comparisons.{AreNoticed};
 ghost use Rattle.kmin_explain.specs.between.Sources.{AreReadSources, AreSourcesOf, config_of, sources_model};
 ghost use Rattle.kc_dotconfig_model.specs.MissedAssignments.{missed as missed_symbols};
 ghost use Rattle.kc_rules_model.specs.Reports.{unmet as unmet_symbols};
@@ -21,11 +21,11 @@ use crate::unknown_names::refuse_unknown;
 use kc_symbol_lines::LineIndex;
 use kc_tree::{Sym, Tree};
 use kc_value::Seed;
-use kmin_answers::{AnswerText, list_status, notice_choices};
 use kmin_explain::{Sources, deep_symbols, explanation_of, is_one_hindered, named_symbols};
 use kmin_explain_records::{records_of, records_of_missed};
 use kmin_missed::{lines_of_missed, lines_of_unmet, missed_by_cause};
 use kmin_options::{ExplainFlags, ExplainJob, MissedForm, Question};
+use kmin_outputs::{JobOutput, list_status, notice_choices};
 use kmin_records::OutputForm;
 use kmin_report::{Messages, RunError};
 use kmin_trees::LinedTree;
@@ -40,7 +40,7 @@ pub(crate) fn explained_files<E: Messages>(
     found: &LinedFiles<'_>,
     seed: Seed,
     err: &mut E,
-) -> Result<AnswerText, RunError>
+) -> Result<JobOutput, RunError>
     requires system { found.now.read.config.system ≡ tree.now.settled }
     requires read { IsReadTree (tree_model_of tree.now.settled) tree.now.lines }
     ensures status { IfOk result (λ answer. answer.status ≤ 1) }
@@ -61,7 +61,7 @@ fn text_of(
     tree: &LinedTree,
     found: &LinedFiles<'_>,
     seed: Seed,
-) -> Result<AnswerText, AllocError>
+) -> Result<JobOutput, AllocError>
     requires system { found.now.read.config.system ≡ tree.now.settled }
     requires read { IsReadTree (tree_model_of tree.now.settled) tree.now.lines }
     ensures status { IfOk result (λ answer. answer.status ≤ 1) }
@@ -86,7 +86,7 @@ fn answer_by(
     job: &ExplainJob<'_>,
     by: &Sources<'_>,
     seed: Seed,
-) -> Result<AnswerText, AllocError>
+) -> Result<JobOutput, AllocError>
     requires read { AreReadSources by.now }
     ensures status { IfOk result (λ answer. answer.status ≤ 1) }
     ensures answer { IfOk result (λ answer. (read : List Group) (meanings : List (List LineMeaning)) → AreSourcesOf by.now read meanings → IsAnswerOf (explain_job_view job.now) (sources_model by.now read meanings) answer.text.items answer.status) }
@@ -106,7 +106,7 @@ fn explained_answer(
     job: &ExplainJob<'_>,
     flags: ExplainFlags,
     by: &Sources<'_>,
-) -> Result<AnswerText, AllocError>
+) -> Result<JobOutput, AllocError>
     requires read { AreReadSources by.now }
     ensures status { IfOk result (λ answer. answer.status ≤ 1) }
     ensures answer { (names : Option (List ℕ)) → IfOk result (λ answer. (read : List Group) (meanings : List (List LineMeaning)) → AreSourcesOf by.now read meanings → IsAnswerFor job.now.settings.output_form (explain flags names) (sources_model by.now read meanings) (symbols_in (explain_job_view job.now) (tree_in (config_of by.now))) answer.text.items answer.status) }
@@ -123,7 +123,7 @@ fn missed_answer(
     exit_code: bool,
     by: &Sources<'_>,
     seed: Seed,
-) -> Result<AnswerText, AllocError>
+) -> Result<JobOutput, AllocError>
     requires read { AreReadSources by.now }
     ensures status { IfOk result (λ answer. answer.status ≤ 1) }
     ensures answer { (named : List ℕ) → IfOk result (λ answer. (read : List Group) (meanings : List (List LineMeaning)) → AreSourcesOf by.now read meanings → IsAnswerFor job.now.settings.output_form (missed form exit_code) (sources_model by.now read meanings) named answer.text.items answer.status) }
@@ -132,7 +132,7 @@ fn missed_answer(
     let output_form = job.settings.output_form;
     let text = missed_text(alloc, output_form, form, by, seed, &symbols)?;
     let status = list_status(exit_code, &symbols);
-    Ok(AnswerText { text, status })
+    Ok(JobOutput { text, status })
 }
 
 /// The text of `missed`, for the symbols that don't have the values that files assign: in a form, or their records.
@@ -178,7 +178,7 @@ fn unmet_answer(
     job: &ExplainJob<'_>,
     exit_code: bool,
     by: &Sources<'_>,
-) -> Result<AnswerText, AllocError>
+) -> Result<JobOutput, AllocError>
     requires read { AreReadSources by.now }
     ensures status { IfOk result (λ answer. answer.status ≤ 1) }
     ensures answer { (named : List ℕ) → IfOk result (λ answer. (read : List Group) (meanings : List (List LineMeaning)) → AreSourcesOf by.now read meanings → IsAnswerFor job.now.settings.output_form (check exit_code) (sources_model by.now read meanings) named answer.text.items answer.status) }
@@ -187,7 +187,7 @@ fn unmet_answer(
     let output_form = job.settings.output_form;
     let text = unmet_text(alloc, output_form, by, &symbols)?;
     let status = list_status(exit_code, &symbols);
-    Ok(AnswerText { text, status })
+    Ok(JobOutput { text, status })
 }
 
 /// The text of `check` with reasons, for the symbols that are selected against their dependencies: lines, or their records.
@@ -236,7 +236,7 @@ fn named_answer(
     flags: ExplainFlags,
     by: &Sources<'_>,
     symbols: &[Sym],
-) -> Result<AnswerText, AllocError>
+) -> Result<JobOutput, AllocError>
     requires read { AreReadSources by.now }
     requires there { All (λ s. s < length (tree_in (config_of by.now)).symbols) symbols.now }
     ensures text { IfOk result (λ answer. (read : List Group) (meanings : List (List LineMeaning)) → AreSourcesOf by.now read meanings → IsTextOf form flags (sources_model by.now read meanings) symbols.now answer.text.items) }
@@ -245,7 +245,7 @@ fn named_answer(
 {
     let text = named_text(alloc, form, flags, by, symbols)?;
     let status = status_for(alloc, flags, by, symbols)?;
-    Ok(AnswerText { text, status })
+    Ok(JobOutput { text, status })
 }
 
 /// The text for symbols, and with `--deep` for those to go on with.

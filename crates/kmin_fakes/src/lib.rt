@@ -37,3 +37,20 @@ macro_rules! twice_on {
         }
     }};
 }
+
+/// The result of an expression about a value, which is dropped first.
+#[macro_export]
+macro_rules! and_drop {
+    (mut $value:ident = $made:expr; $result:expr) => {{
+        let mut $value = $made;
+        let result = $result;
+        drop($value);
+        result
+    }};
+    ($value:ident = $made:expr; $result:expr) => {{
+        let $value = $made;
+        let result = $result;
+        drop($value);
+        result
+    }};
+}

@@ -7,7 +7,7 @@ ghost use Rattle.kmin_faults.specs.FirstPlaces.{first_type, other_definition};
 ghost use Rattle.kmin_faults.specs.between.StoredDefinitions.{begins_before, defined_by, definition_at, defines, first_of, first_type_in, first_typed, gives_type, has_type, is_same_place, is_typed, other_definition_in, other_place, place_of, position_of, unless_same};
 
 use crate::listings::listing_of;
-use kc_listing::{Group, GroupHead, Line, Listing};
+use kc_parser::{Group, GroupHead, Line, Listing};
 use kc_statements::Attribute;
 use kc_tree::Texts;
 use std::alloc::{AllocError, Global};

@@ -1,10 +1,10 @@
 //! The statements of the texts of a tree.
 ghost use Rattle.std.specs.Prelude.{◌≡◌, ◌≢◌, false, Some, IfOk};
-ghost use Rattle.kc_listing.specs.between.ListingView.{RepresentsListing};
-ghost use Rattle.kc_listing.specs.between.MemoryFaults.{no_memory};
+ghost use Rattle.kc_parser.specs.between.ListingView.{RepresentsListing};
+ghost use Rattle.kc_parser.specs.between.MemoryFaults.{no_memory};
 ghost use Rattle.kc_tree_model.specs.TreeReading.{reading};
 
-use kc_listing::{Listing, read_files};
+use kc_parser::{Listing, read_files};
 use kc_tree::{Texts, TreeFault, TreeKind};
 use std::alloc::{AllocError, Global};
 

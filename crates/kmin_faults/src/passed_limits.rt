@@ -10,7 +10,7 @@ ghost use Rattle.kmin_faults.specs.between.StoredStatements.{is_source_head};
 
 use crate::listings::listing_of;
 use crate::sourced_paths::is_source_word;
-use kc_listing::{Group, GroupHead};
+use kc_parser::{Group, GroupHead};
 use kc_statements::keyword_of;
 use kc_tokens::{ExprKind, Token, push_tokens};
 use kc_tree::Texts;

@@ -1,23 +1,17 @@
 -- Answer files, one after another: what they record, and where a run ends among them.
-use Rattle.std.proofs.Common.{◌≡◌, ℕ, ◌⊎◌, inl, inr, List, [], ◌∷◌, ◌++◌, Option, Some, None, Result, Ok, Err, OnOk, refl, sym, subst, append-nil}
+use Rattle.std.proofs.Common.{append-nil}
 use Rattle.std.specs.Io.KnownBytes.{Consumes}
-use Rattle.kc_macros_model.specs.declared.fault.AnswersKind.{AnswersKind}
-use Rattle.kc_macros_model.specs.declared.fault.AnswersKind.TheVariants.{Malformed, TwoAnswers, NotUtf8, LineTooLong, TooManyLines, TooLarge, Read, OutOfMemory}
-use Rattle.kc_macros_model.specs.declared.fault.AnswersFault.{AnswersFault}
-use Rattle.kc_macros_model.specs.AnswerFiles.{RecordedAnswers, complete, cut_by, answers_read}
-use Rattle.kc_answers.specs.ReadAnswers.{AreRecorded, IsRefused, ReadsToEnd, end_of_file}
-use Rattle.kc_files.specs.TreeContents.{FileContent}
+use Rattle.kmin_inputs.proofs.Common.{◌≡◌, ℕ, ◌⊎◌, inl, inr, List, [], ◌∷◌, ◌++◌, Option, Some, None, Result, Ok, Err, OnOk, refl, sym, subst, AnswersKind, Malformed, TwoAnswers, NotUtf8, LineTooLong, TooManyLines, TooLarge, Read, OutOfMemory, AnswersFault, RecordedAnswers, complete, cut_by}
+use Rattle.kmin_inputs.proofs.Common.{AreAnswersRefused, ReadsToEnd, end_of_file, FileContent, OpensAs, SpelledBytes, TakesLines, ErrorLine, FilesRecord, answers_status, lines_append, rest_of, whole_content}
+use Rattle.kc_macros_model.specs.AnswerFiles.{answers_read}
+use Rattle.kc_answers.specs.ReadAnswers.{AreRecorded}
 use Rattle.kmin_report.specs.KnownBytes.{AreKnownBytes}
-use Rattle.kmin_disk.specs.Contents.{OpensAs}
-use Rattle.kmin_report.specs.StandardError.{SpelledBytes, TakesLines}
-use Rattle.kmin_report.specs.Reports.{ErrorLine, answers_line}
-use Rattle.kmin_inputs.specs.JobAnswers.{FilesRecord, none, file}
-use Rattle.kmin_inputs.specs.AnswerStops.{StopsAtAnswers, StopsAmongAnswers, answers_status, refused}
+use Rattle.kmin_report.specs.Reports.{answers_line}
+use Rattle.kmin_inputs.specs.JobAnswers.{none, file}
+use Rattle.kmin_inputs.specs.AnswerStops.{StopsAtAnswers, StopsAmongAnswers, refused}
 use Rattle.kmin_inputs.specs.AnswerStops as stops
 use Rattle.kmin_inputs.specs.between.AnswerSteps.{StopsReading, StopsAtAnswersPath, ReportsAnswersFault, answers_lines}
 use Rattle.kmin_inputs.specs.between.AnswerSteps as steps
-use Rattle.kmin_report.proofs.WriterLemmas.{lines_append}
-use Rattle.kmin_report.proofs.KnownContents.{rest_of, whole_content}
 
 -- answer files that add to earlier answers, and then more of them, do so as one list of files
 pub record_append : (content_of : List ℕ → FileContent) (xs ys : List (List ℕ)) (a b c : RecordedAnswers) → FilesRecord content_of xs a b
@@ -51,7 +45,7 @@ module _ (content : FileContent) (path : List ℕ) (before after : Option (List 
   refused_by failed failed_after bytes fault (Some TooManyLines) h e r = absurd e
   refused_by failed failed_after bytes fault (Some OutOfMemory) h e r = absurd e
 
-  refused_file : (failed failed_after : ℕ) (fault : AnswersFault) → IsRefused before after failed failed_after earlier fault
+  refused_file : (failed failed_after : ℕ) (fault : AnswersFault) → AreAnswersRefused before after failed failed_after earlier fault
       → answers_lines path fault.line fault.kind ≡ answers_line path fault.line fault.kind ∷ []
       → StopsAtAnswersPath content earlier path (answers_status fault.kind) (answers_lines path fault.line fault.kind)
   refused_file failed failed_after fault r l =
@@ -101,7 +95,7 @@ on_ok_map (Ok x) P Q f h = f h
 on_ok_map (Err e) P Q f h = tt
 
 pub reports_fault : (left left_after : Option (List ℕ)) (failed failed_after : ℕ) (earlier : RecordedAnswers) (fault : AnswersFault)
-    → (fault.kind ≡ OutOfMemory) ⊎ IsRefused left left_after failed failed_after earlier fault
+    → (fault.kind ≡ OutOfMemory) ⊎ AreAnswersRefused left left_after failed failed_after earlier fault
     → ReportsAnswersFault left left_after failed failed_after earlier fault
 reports_fault left left_after failed failed_after earlier fault (inl e) = steps.for_memory e
 reports_fault left left_after failed failed_after earlier fault (inr r) = steps.refused r

@@ -3,7 +3,7 @@ use Rattle.std.specs.Prelude.{◌≡◌, ℕ, ◌<◌, Bool, true, false, nat_lt
 use Rattle.kc_files.specs.TreeContents.{FileContent}
 use Rattle.kmin_lines.specs.WordLines.{are_utf8}
 use Rattle.kmin_lines.specs.WordFiles.{files_of, with_files}
-use Rattle.kmin_words.specs.Inputs.{inputs_named, named_twice}
+use Rattle.kmin_cli.specs.Inputs.{inputs_named, named_twice}
 use Rattle.kmin_inputs.specs.ListFiles.{IsListRead, StopsReadingList, list_content, malformed_line}
 use Rattle.kmin_report.specs.Reports.{ErrorLine, refused_line}
 

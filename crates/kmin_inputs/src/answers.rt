@@ -18,15 +18,15 @@ use crate::files::Files;
 use kc_answers::Answers;
 use kc_macros::{AnswersFault, AnswersKind};
 use kc_value::{MAX_VARIABLE_BYTES, Source, has_newline};
-use kmin_options::{Definition, Expansion};
-use kmin_report::{Messages, Report, RunError};
+use kmin_options::{Definition, ExpansionOptions};
+use kmin_report::{Message, Messages, RunError};
 use std::alloc::{AllocError, Global};
 
 /// The answers to the questions of a job's tree: by its definitions, else by its answer files, else by the environment.
 /// Reports why an answer file is refused.
 pub fn job_answers<F: Files, E: Messages>(
     alloc: Global,
-    expansion: &Expansion<'_>,
+    expansion: &ExpansionOptions<'_>,
     files: &mut F,
     err: &mut E,
 ) -> Result<Answers, RunError>
@@ -39,14 +39,14 @@ pub fn job_answers<F: Files, E: Messages>(
 {
     let mut answers = file_answers(alloc, &expansion.answers, files, err)?;
     define(&expansion.definitions, &mut answers)?;
-    lend(alloc, &expansion.environment, files, &mut answers)?;
+    answer_from_environment(alloc, &expansion.environment, files, &mut answers)?;
     Ok(answers)
 }
 
 /// The answers that `job_answers` makes, and the questions that the answer files answer, in order of their first answers.
 pub fn answers_and_questions<F: Files, E: Messages>(
     alloc: Global,
-    expansion: &Expansion<'_>,
+    expansion: &ExpansionOptions<'_>,
     files: &mut F,
     err: &mut E,
 ) -> Result<(Answers, Vec<Vec<u8>>), RunError>
@@ -60,7 +60,7 @@ pub fn answers_and_questions<F: Files, E: Messages>(
     let mut answers = file_answers(alloc, &expansion.answers, files, err)?;
     let answered = answers.questions()?;
     define(&expansion.definitions, &mut answers)?;
-    lend(alloc, &expansion.environment, files, &mut answers)?;
+    answer_from_environment(alloc, &expansion.environment, files, &mut answers)?;
     Ok((answers, answered))
 }
 
@@ -140,11 +140,11 @@ fn report_answers_fault<E: Messages>(path: &str, fault: AnswersFault, err: &mut 
     match kind {
         AnswersKind::OutOfMemory => RunError::Memory,
         AnswersKind::Read => {
-            err.write_report(Report::AnswersFault { path, line, kind });
+            err.write_report(Message::AnswersFault { path, line, kind });
             RunError::Failed
         }
         _ => {
-            err.write_report(Report::AnswersFault { path, line, kind });
+            err.write_report(Message::AnswersFault { path, line, kind });
             RunError::Configuration
         }
     }
@@ -162,7 +162,7 @@ fn define(definitions: &[Definition<'_>], answers: &mut Answers) -> Result<(), A
 }
 
 /// Gives each of these names that has no answer its value in the environment.
-fn lend<F: Files>(
+fn answer_from_environment<F: Files>(
     alloc: Global,
     names: &[&str],
     files: &mut F,
@@ -173,13 +173,13 @@ fn lend<F: Files>(
     ensures uncounted { F.failures files.new ≡ F.failures files.old }
 {
     for name in names {
-        lend_one(alloc, name, files, answers)?;
+        answer_one_from_environment(alloc, name, files, answers)?;
     }
     Ok(())
 }
 
 /// Gives a name that has no answer its value in the environment.
-fn lend_one<F: Files>(
+fn answer_one_from_environment<F: Files>(
     alloc: Global,
     name: &str,
     files: &mut F,

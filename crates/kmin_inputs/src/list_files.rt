@@ -10,7 +10,7 @@ ghost use Rattle.kmin_inputs.specs.ListFiles.{IsListRead, StopsReadingList, list
 use crate::files::Files;
 use kc_dotconfig_model::LoadKind;
 use kc_value::{MAX_LIST_BYTES, ReadBytes, ReadEnd, Source, read_up_to};
-use kmin_report::{Messages, Report, RunError};
+use kmin_report::{Message, Messages, RunError};
 use std::alloc::Global;
 
 /// The bytes of the file at a path, or for `-` of standard input. Reports why they can't be read.
@@ -80,7 +80,7 @@ fn read_from<S: Source, E: Messages>(
 fn report_list<E: Messages>(path: &str, kind: LoadKind, err: &mut E)
     ensures { TakesLine (E.taken err.old) (E.failures err.old) (fault_line path.now 0 kind) (E.taken err.new) (E.failures err.new) }
 {
-    err.write_report(Report::FileFault {
+    err.write_report(Message::FileFault {
         path,
         line: 0,
         kind,

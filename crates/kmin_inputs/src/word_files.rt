@@ -3,7 +3,7 @@ ghost use Rattle.std.specs.Prelude.{◌≡◌, ◌≤◌, ◌⊎◌, ◌++◌, [
 ghost use Rattle.std.specs.Borrow.{Bor};
 ghost use Rattle.kc_files.specs.TextViews.{texts_of};
 ghost use Rattle.kmin_lines.specs.WordFiles.{files_of};
-ghost use Rattle.kmin_words.specs.Inputs.{inputs_named};
+ghost use Rattle.kmin_cli.specs.Inputs.{inputs_named};
 ghost use Rattle.kmin_report.specs.Reports.{ErrorLine, last_lines};
 ghost use Rattle.kmin_report.specs.StandardError.{TakesLines};
 ghost use Rattle.kc_files.specs.TreeContents.{HasRisen};
@@ -14,9 +14,9 @@ ghost use Rattle.kmin_inputs.specs.between.ReadFiles.{StopsAmongLists};
 use crate::files::Files;
 use crate::list_files::read_list;
 use kc_value::Source;
+use kmin_cli::{NAMED_TWICE, inputs_named};
 use kmin_lines::files_of;
-use kmin_report::{Messages, Report, RunError, exit_status};
-use kmin_words::{NAMED_TWICE, inputs_named};
+use kmin_report::{Message, Messages, RunError, exit_status};
 use std::alloc::Global;
 
 /// The bytes of the files of words `@FILE`.
@@ -56,7 +56,7 @@ pub fn read_word_files<F: Files, I: Source, E: Messages>(
     };
     let inputs = inputs_named(&paths);
     if inputs > 1 {
-        err.write_report(Report::RefusedWords(NAMED_TWICE));
+        err.write_report(Message::RefusedWords(NAMED_TWICE));
         return Err(2);
     }
     match read_lists(alloc, &paths, files, input, err) {

@@ -9,7 +9,7 @@ use Rattle.kmin_messages.specs.declared.message.Form.{Form}
 use Rattle.kmin_records.specs.declared.output_form.OutputForm.{OutputForm}
 use Rattle.kmin_options.specs.declared.job.Verb.{Verb}
 use Rattle.kmin_options.specs.declared.job.Definition.{Definition as DeclaredDefinition}
-use Rattle.kmin_options.specs.declared.job.Expansion.{Expansion as DeclaredExpansion}
+use Rattle.kmin_options.specs.declared.job.ExpansionOptions.{ExpansionOptions as DeclaredExpansion}
 use Rattle.kmin_options.specs.declared.job.Settings.{Settings as DeclaredSettings}
 use Rattle.kmin_options.specs.declared.job.TidyFlags.{TidyFlags}
 use Rattle.kmin_options.specs.declared.job.ExplainFlags.{ExplainFlags}

@@ -10,7 +10,7 @@ ghost use Rattle.kmin_options.specs.Jobs.{definition_view, expansion_view};
 ghost use Rattle.kmin_options.specs.between.OptionValues as parsed;
 ghost use Rattle.kmin_options.specs.between.Refusals.{Agrees};
 
-use crate::job::{Definition, Expansion};
+use crate::job::{Definition, ExpansionOptions};
 use crate::refusal::Refusal;
 use crate::values::{has_values, is_given, value_of, values_of};
 use clap::ArgMatches;
@@ -217,14 +217,17 @@ fn is_input_found_twice(matches: &ArgMatches<'_>, paths: &[&str]) -> bool
 }
 
 /// The values of `--answers`, `--define` and `--env`. Also refuses a value of `--tree` with a newline.
-pub fn expansion_of<'a>(alloc: Global, matches: &ArgMatches<'a>) -> Result<Expansion<'a>, Refusal>
+pub fn expansion_of<'a>(
+    alloc: Global,
+    matches: &ArgMatches<'a>,
+) -> Result<ExpansionOptions<'a>, Refusal>
     ensures { Agrees expansion_view (parsed.expansion_of (found_of matches.now)) result }
 {
     let texts = values_of(alloc, matches, "define")?;
     let definitions = definitions_of(alloc, texts.as_slice())?;
     let environment = environment_of(values_of(alloc, matches, "env")?)?;
     check_tree(value_of(matches, "tree"))?;
-    Ok(Expansion {
+    Ok(ExpansionOptions {
         answers: values_of(alloc, matches, "answers")?,
         definitions,
         environment,
@@ -245,7 +248,7 @@ fn is_expanded(matches: &ArgMatches<'_>) -> bool
 pub fn expansion_if_given<'a>(
     alloc: Global,
     matches: &ArgMatches<'a>,
-) -> Result<Option<Expansion<'a>>, Refusal>
+) -> Result<Option<ExpansionOptions<'a>>, Refusal>
     ensures { Agrees (option_map expansion_view) (parsed.expansion_if_given (found_of matches.now)) result }
 {
     if !is_expanded(matches) {

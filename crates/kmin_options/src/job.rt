@@ -33,7 +33,7 @@ pub struct Definition<'a> {
 
 /// Where the questions of a tree's macros are answered: by `--answers`, `--define` and `--env`.
 #[derive(Drop)]
-pub struct Expansion<'a> {
+pub struct ExpansionOptions<'a> {
     /// The paths of the answer files, in the order of the command line.
     pub answers: Vec<&'a str>,
     /// The definitions of `--define`, in order. The last one of a name counts, and has precedence over all answer files.
@@ -58,7 +58,7 @@ pub struct Settings<'a> {
     /// Whether a configuration file with a notice is refused.
     pub strict: bool,
     /// Where the questions of the tree's macros are answered; `None` where no macro is expanded.
-    pub expansion: Option<Expansion<'a>>,
+    pub expansion: Option<ExpansionOptions<'a>>,
     /// The form of messages; `None` for plain ones.
     pub messages: Option<Form>,
     /// The form of what is listed on standard output; plain for a command that writes a configuration file.
@@ -176,7 +176,7 @@ pub struct Questions<'a> {
     /// The path of the tree's first Kconfig file, relative to `root`.
     pub tree: &'a str,
     /// Where the questions of the tree's macros are answered; those without an answer are open.
-    pub expansion: Expansion<'a>,
+    pub expansion: ExpansionOptions<'a>,
     /// `--unused`: whether the questions of the answer files that the tree doesn't ask are listed where none is open.
     pub unused: bool,
     /// The form of messages; `None` for plain ones.

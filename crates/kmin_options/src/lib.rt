@@ -9,7 +9,7 @@ mod values;
 
 pub use expansion_words::{check_inputs, expansion_if_given, expansion_of};
 pub use job::{
-    Definition, Expansion, ExplainFlags, ExplainJob, Job, MissedForm, OutputJob, PathList,
+    Definition, ExpansionOptions, ExplainFlags, ExplainJob, Job, MissedForm, OutputJob, PathList,
     Question, Questions, Settings, Task, TidyFlags, TidyJob, Verb,
 };
 pub use prefix_words::name_prefix_of;

@@ -3,7 +3,7 @@ ghost use Rattle.std.specs.Prelude.{ℕ};
 ghost use Rattle.kmin_report.specs.StandardError.{SpelledBytes, TakesLine};
 ghost use Rattle.kmin_report.specs.between.ReportLines.{report_line};
 
-use crate::report::Report;
+use crate::message::Message;
 
 /// Standard error. Contracts see how it spells lines, the bytes that it took, if they are known, and how many of its writes failed.
 pub trait Messages {
@@ -14,6 +14,6 @@ pub trait Messages {
     ghost failures: { Self → ℕ };
 
     /// Writes the line of a report, up to the first write that fails.
-    fn write_report(&mut self, report: Report<'_>)
+    fn write_report(&mut self, report: Message<'_>)
         ensures { TakesLine (taken self.old) (failures self.old) (report_line report.entry) (taken self.new) (failures self.new) };
 }

@@ -6,8 +6,8 @@ ghost use Rattle.kmin_report.specs.StandardError.{TakesLines};
 ghost use Rattle.kc_files.specs.TreeContents.{HasRisen};
 ghost use Rattle.kmin_report.specs.between.RunErrors.{status_of};
 
+use crate::message::Message;
 use crate::messages::Messages;
-use crate::report::Report;
 use crate::run_error::RunError;
 use kc_output::{WriteFault, write_out};
 use kc_value::Sink;
@@ -28,7 +28,7 @@ pub fn write_answer<O: Sink, E: Messages>(
     match write_out(out, text) {
         Ok(()) => Ok(()),
         Err(fault) => {
-            err.write_report(Report::OutputFault);
+            err.write_report(Message::OutputFault);
             Err(fault)
         }
     }
@@ -41,7 +41,7 @@ pub fn exit_status<E: Messages>(stop: RunError, err: &mut E) -> u8
 {
     match stop {
         RunError::Memory => {
-            err.write_report(Report::OutOfMemory);
+            err.write_report(Message::OutOfMemory);
             stop.status()
         }
         _ => stop.status(),

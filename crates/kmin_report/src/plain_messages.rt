@@ -2,8 +2,8 @@
 ghost use Rattle.std.specs.Prelude.{◌≡◌};
 ghost use Rattle.kmin_report.specs.PlainLines.{plain_bytes};
 
+use crate::message::{Message, write_plain_line};
 use crate::messages::Messages;
-use crate::report::{Report, write_plain_line};
 use kc_value::Sink;
 
 /// Standard error that spells lines plainly, over a writer. It takes no memory.
@@ -35,7 +35,7 @@ impl<W: Sink> Messages for PlainMessages<W> {
 
     ghost failures = { λ m. W.failures m.sink };
 
-    fn write_report(&mut self, report: Report<'_>) {
+    fn write_report(&mut self, report: Message<'_>) {
         let _ = write_plain_line(&report, &mut self.sink);
     }
 }

@@ -1,7 +1,7 @@
 pub mod between
 pub mod Bundles
-pub mod BundleAnswers
-pub mod PartialAnswers
+pub mod BundleOutputs
+pub mod PartialOutputs
 pub mod TidyRuns
 pub mod Saves
 pub mod Runs

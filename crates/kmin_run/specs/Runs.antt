@@ -11,22 +11,22 @@ use Rattle.kc_tokens.specs.declared.language.LinuxVersion.TheVariants.{Unknown}
 use Rattle.kmin_messages.specs.declared.message.Form.{Form}
 use Rattle.kmin_texts.specs.Spellings.{AskedForm}
 use Rattle.kmin_options.specs.Jobs.{ExplainJob, Settings, Questions, Task, explain_job_view, settings_view, questions_view, task_view, tidy_job_view}
-use Rattle.kmin_words.specs.Parses.{AreReadAs}
-use Rattle.kmin_words.specs.declared.command_line.ParsedWords.{ParsedWords}
-use Rattle.kmin_words.specs.declared.command_line.ParsedWords.TheVariants.{Job, Save, Questions as TheQuestions, Explain, Tidy, Help, Refused}
+use Rattle.kmin_cli.specs.Parses.{AreReadAs}
+use Rattle.kmin_cli.specs.declared.command_line.ParsedWords.{ParsedWords}
+use Rattle.kmin_cli.specs.declared.command_line.ParsedWords.TheVariants.{Job, Save, Questions as TheQuestions, Explain, Tidy, Help, Refused}
 use Rattle.kmin_inputs.specs.FileContents.{Surroundings}
 use Rattle.kmin_expansions.specs.JobTexts.{TreeTexts, AreTextsOfJob}
 use Rattle.kmin_inputs.specs.WordFiles.{Represent, StopsAtWords, is_input_read_for}
 use Rattle.kmin_expansions.specs.WantedQuestions.{AreAsked, AsksInPart, StopsWanting, questions_text}
-use Rattle.kmin_answers.specs.Answers.{Answer}
+use Rattle.kmin_outputs.specs.Outputs.{Answer}
 use Rattle.kmin_explain_command.specs.Explains.{Explains}
 use Rattle.kmin_explain_command.specs.Stops.{ExplainsInPart, StopsExplaining}
-use Rattle.kmin_run.specs.BundleAnswers.{AnswersBundle, StopsOnBundle, WritesPart}
+use Rattle.kmin_run.specs.BundleOutputs.{AnswersBundle, StopsOnBundle, WritesPart}
 use Rattle.kmin_run.specs.Bundles.{ReadsToEnd}
-use Rattle.kmin_run.specs.PartialAnswers.{AnswersInPart}
+use Rattle.kmin_run.specs.PartialOutputs.{AnswersInPart}
 use Rattle.kmin_run.specs.Saves.{SaveEnds}
-use Rattle.kmin_answers.specs.Statuses.{status_of_list}
-use Rattle.kmin_answers.specs.Stops.{Stops}
+use Rattle.kmin_outputs.specs.Statuses.{status_of_list}
+use Rattle.kmin_outputs.specs.Stops.{Stops}
 use Rattle.kmin_run.specs.TidyRuns.{Outputs, TidyEnds}
 
 -- the status of a run that ended with a fault, and not by words that are refused

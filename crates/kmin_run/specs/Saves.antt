@@ -14,8 +14,8 @@ use Rattle.kmin_report.specs.Reports.{ErrorLine, not_regular_line, write_line, l
 use Rattle.kmin_options.specs.Jobs.{Settings, Task}
 use Rattle.kmin_inputs.specs.FileContents.{Surroundings}
 use Rattle.kmin_expansions.specs.JobTexts.{TreeTexts, AreTextsOfJob}
-use Rattle.kmin_answers.specs.Answers.{Answer}
-use Rattle.kmin_answers.specs.Stops.{StopsBefore}
+use Rattle.kmin_outputs.specs.Outputs.{Answer}
+use Rattle.kmin_outputs.specs.Stops.{StopsBefore}
 
 -- the lines of standard error for an output file that wasn't replaced, or not for good; none where memory ran out
 abbrev pub replace_lines : (path : List ℕ) → ReplaceFault → List ErrorLine

@@ -8,7 +8,7 @@ use Rattle.kc_tree_model.specs.Trees.{Tree}
 use Rattle.kc_files.specs.TreeContents.{FileContent}
 use Rattle.kmin_lines.specs.Lists.{paths_in, is_one_line}
 use Rattle.kmin_tidy.specs.declared.options.TidyOptions.{TidyOptions}
-use Rattle.kmin_tidy.specs.Options.{Settings as RunSettings}
+use Rattle.kmin_tidy.specs.Options.{TidySettings as RunSettings}
 use Rattle.kmin_disk.specs.Disks.{Disk}
 use Rattle.kmin_tidy.specs.Ends.{Ends}
 use Rattle.kmin_tidy.specs.Promises.{IsKeptOrLeft, AreTidy}

@@ -1,7 +1,7 @@
 //! Bundles: a tree, a line of just `%%` and a configuration.
 ghost use Rattle.std.specs.Prelude.{◌≡◌, ◌≤◌, [], IfOk, IfErr, OnOk, ℕ, List, length};
 ghost use Rattle.kmin_run.specs.Bundles.{IsBundle, ReadsToEnd};
-ghost use Rattle.kmin_run.specs.BundleAnswers.{StopsOnBundle, bundle_line};
+ghost use Rattle.kmin_run.specs.BundleOutputs.{StopsOnBundle, bundle_line};
 ghost use Rattle.kmin_report.specs.StandardError.{TakesLine, TakesLines};
 ghost use Rattle.kc_files.specs.TreeContents.{HasRisen};
 ghost use Rattle.kmin_report.specs.between.RunErrors.{status_of};
@@ -10,7 +10,7 @@ ghost use Rattle.kmin_report.specs.Reports.{ErrorLine};
 use kc_dotconfig::LoadKind;
 use kc_value::{MAX_BUNDLE_BYTES, ReadBytes, ReadEnd, Source, read_up_to};
 use kmin_lines::first_piece;
-use kmin_report::{Messages, Report, RunError};
+use kmin_report::{Message, Messages, RunError};
 use std::alloc::Global;
 
 /// The line that ends the tree.
@@ -48,7 +48,7 @@ fn report_bundle<E: Messages>(kind: LoadKind, err: &mut E)
     ensures { TakesLine (E.taken err.old) (E.failures err.old) (bundle_line kind) (E.taken err.new) (E.failures err.new) }
 {
     let path = "bundle";
-    err.write_report(Report::FileFault {
+    err.write_report(Message::FileFault {
         path,
         line: 0,
         kind,
@@ -56,7 +56,7 @@ fn report_bundle<E: Messages>(kind: LoadKind, err: &mut E)
 }
 
 /// The parts of a bundle: its tree, and its configuration.
-pub(crate) fn cut(bundle: &[u8]) -> (&[u8], &[u8])
+pub(crate) fn split_bundle(bundle: &[u8]) -> (&[u8], &[u8])
     ensures { IsBundle bundle.now result.0.now result.1.now }
 {
     let mut rest = bundle;

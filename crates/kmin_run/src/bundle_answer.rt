@@ -9,25 +9,25 @@ ghost use Rattle.kc_dotconfig_model.specs.Formats.{plain_format};
 ghost use Rattle.kc_dotconfig_model.specs.ConfigLines.{LineMeaning};
 ghost use Rattle.kc_minimal_model.specs.FullFile.{full_file};
 ghost use Rattle.kmin_trees.specs.AcceptedTrees.{AreAccepted};
-ghost use Rattle.kmin_answers.specs.Answers.{Resolve};
+ghost use Rattle.kmin_outputs.specs.Outputs.{Resolve};
 ghost use Rattle.kmin_run.specs.Bundles.{ReadsToEnd};
-ghost use Rattle.kmin_run.specs.BundleAnswers.{AnswersBundle, StopsInBundle, StopsOnBundle, WritesPart, bundle_content, bundle_files, bundle_settings};
+ghost use Rattle.kmin_run.specs.BundleOutputs.{AnswersBundle, StopsInBundle, StopsOnBundle, WritesPart, bundle_content, bundle_files, bundle_settings};
 ghost use Rattle.kmin_report.specs.Reports.{ErrorLine, notice_lines};
 ghost use Rattle.kmin_report.specs.StandardError.{TakesLines};
 ghost use Rattle.kc_files.specs.TreeContents.{HasRisen};
-ghost use Rattle.kmin_answers.specs.Stops.{StopsAmongFiles};
+ghost use Rattle.kmin_outputs.specs.Stops.{StopsAmongFiles};
 ghost use Rattle.kmin_report.specs.between.RunErrors.{status_of};
 ghost use Rattle.kmin_trees.specs.between.TreeStops.{StopsAtTexts};
 
-use crate::bundle::{cut, read_whole};
+use crate::bundle::{read_whole, split_bundle};
 use kc_config::Config;
 use kc_dotconfig::Format;
 use kc_minimal::full_text;
 use kc_rules::{Profile, Settled};
 use kc_tree::Texts;
 use kc_value::{Seed, Sink, Source};
-use kmin_answers::load;
 use kmin_disk::MemoryReader;
+use kmin_outputs::load;
 use kmin_report::{Messages, RunError, write_answer};
 use kmin_trees::{FileNames, read_texts, settled_tree};
 use std::alloc::Global;
@@ -67,7 +67,7 @@ fn bundle_text<E: Messages>(
     ensures unfailed { result ≢ Err RunError.Failed }
     ensures stopped { IfErr result (λ stop. (lines : List ErrorLine) × StopsInBundle bundle.now (status_of stop) lines × TakesLines (E.taken err.old) (E.failures err.old) lines (E.taken err.new) (E.failures err.new)) }
 {
-    let (tree, configuration) = cut(bundle);
+    let (tree, configuration) = split_bundle(bundle);
     let settled = bundle_tree(alloc, seed, tree, err)?;
     let text = full_over(alloc, &settled, configuration, err);
     drop(settled);

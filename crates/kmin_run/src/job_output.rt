@@ -9,26 +9,26 @@ ghost use Rattle.kc_dotconfig_model.specs.between.Formats.{file_format};
 ghost use Rattle.kc_config.specs.ConfigStates.{IsSolved, tree_in};
 ghost use Rattle.kc_minimal_model.specs.Differences.{differences};
 ghost use Rattle.kmin_options.specs.Jobs.{Settings as GivenSettings, settings_view, task_view, over, compare};
-ghost use Rattle.kmin_answers.specs.Answers.{Answer, IsTextOfVerb, difference_line};
-ghost use Rattle.kmin_answers.specs.Statuses.{status_of_list, status_of_verb};
+ghost use Rattle.kmin_outputs.specs.Outputs.{Answer, IsTextOfVerb, difference_line};
+ghost use Rattle.kmin_outputs.specs.Statuses.{status_of_list, status_of_verb};
 ghost use Rattle.kmin_trees.specs.AcceptedTrees.{AreAccepted};
 ghost use Rattle.kmin_expansions.specs.JobTexts.{TreeTexts, AreTextsOfJob};
-ghost use Rattle.kmin_run.specs.PartialAnswers.{AnswersInPart};
+ghost use Rattle.kmin_run.specs.PartialOutputs.{AnswersInPart};
 ghost use Rattle.kmin_report.specs.Reports.{ErrorLine, last_lines};
 ghost use Rattle.kmin_report.specs.StandardError.{TakesLines};
 ghost use Rattle.kc_files.specs.TreeContents.{HasRisen};
-ghost use Rattle.kmin_answers.specs.Stops.{Stops, StopsAmongFiles, StopsBefore};
-ghost use Rattle.kmin_answers.specs.between.Comparisons.{AreBothNoticed, AreBothRead, AreNoticed, StopsAnswering, StopsComparing};
-ghost use Rattle.kmin_answers.specs.between.LoadStops.{StopsOverTree};
+ghost use Rattle.kmin_outputs.specs.Stops.{Stops, StopsAmongFiles, StopsBefore};
+ghost use Rattle.kmin_outputs.specs.between.Comparisons.{AreBothNoticed, AreBothRead, AreNoticed, StopsAnswering, StopsComparing};
+ghost use Rattle.kmin_outputs.specs.between.LoadStops.{StopsOverTree};
 ghost use Rattle.kmin_report.specs.between.RunErrors.{status_of};
 
 use kc_rules::Settled;
 use kc_value::Sink;
-use kmin_answers::{
-    AnswerText, ReadFiles, answer_of, compared, configured, configured_by, notice_choices,
-};
 use kmin_inputs::Files;
 use kmin_options::{Job, Settings, Task, Verb};
+use kmin_outputs::{
+    JobOutput, ReadFiles, answer_of, compared, configured, configured_by, notice_choices,
+};
 use kmin_report::{Messages, RunError, exit_status, write_answer};
 use kmin_trees::job_tree;
 use std::alloc::Global;
@@ -70,7 +70,7 @@ pub fn serve<F: Files, O: Sink, E: Messages>(
     // On status 5 a file couldn't be opened, or a read of a file or a write of the output failed.
     ensures failed { result ≡ 5 → HasRisen (F.failures files.old) (F.failures files.new) ⊎ HasRisen (O.failures out.old) (O.failures out.new) }
 {
-    match answer_job(alloc, job, files, err) {
+    match output_of_job(alloc, job, files, err) {
         Ok(answer) => match write_answer(&answer.text, out, err) {
             Ok(()) => answer.status,
             Err(_) => RunError::Failed.status(),
@@ -80,12 +80,12 @@ pub fn serve<F: Files, O: Sink, E: Messages>(
 }
 
 /// The complete output of a command, and its status. Reports the notices, and why there is no output.
-pub(crate) fn answer_job<F: Files, E: Messages>(
+pub(crate) fn output_of_job<F: Files, E: Messages>(
     alloc: Global,
     job: &Job<'_>,
     files: &mut F,
     err: &mut E,
-) -> Result<AnswerText, RunError>
+) -> Result<JobOutput, RunError>
     ensures status { IfOk result (λ answer. answer.status ≤ 1) }
     ensures answer { IfOk result (λ answer. (t : TreeTexts) × (notices : List ErrorLine) × AreTextsOfJob (F.surroundings files.old) (settings_view job.now.settings) t × Answer (F.surroundings files.old).content (settings_view job.now.settings) t.texts (task_view job.now.task) answer.text.items answer.status notices × TakesLines (E.taken err.old) (E.failures err.old) (t.lines ++ notices) (E.taken err.new) (E.failures err.new)) }
     ensures stopped { IfErr result (λ stop. (lines : List ErrorLine) × StopsBefore (F.surroundings files.old) (F.failures files.old) (F.failures files.new) (settings_view job.now.settings) (task_view job.now.task) (status_of stop) lines × TakesLines (E.taken err.old) (E.failures err.old) lines (E.taken err.new) (E.failures err.new)) }
@@ -105,7 +105,7 @@ fn answer_over<F: Files, E: Messages>(
     settled: &Settled,
     files: &mut F,
     err: &mut E,
-) -> Result<AnswerText, RunError>
+) -> Result<JobOutput, RunError>
     requires profile { profile_of settled.now ≡ settings.now.profile }
     ensures status { IfOk result (λ answer. answer.status ≤ 1) }
     ensures answer { IfOk result (λ answer. (notices : List ErrorLine) × ((texts : trees.Files) → AreAccepted texts settings.now.tree.now (tree_of_settled settled.now) → Answer (F.surroundings files.old).content (settings_view settings.now) texts (task_view task.now) answer.text.items answer.status notices) × TakesLines (E.taken err.old) (E.failures err.old) notices (E.taken err.new) (E.failures err.new)) }
@@ -133,7 +133,7 @@ fn answer_files<F: Files, E: Messages>(
     settled: &Settled,
     files: &mut F,
     err: &mut E,
-) -> Result<AnswerText, RunError>
+) -> Result<JobOutput, RunError>
     requires profile { profile_of settled.now ≡ settings.now.profile }
     ensures status { IfOk result (λ answer. answer.status ≤ 1) }
     ensures answer { IfOk result (λ answer. (notices : List ErrorLine) × ((texts : trees.Files) → AreAccepted texts settings.now.tree.now (tree_of_settled settled.now) → Answer (F.surroundings files.old).content (settings_view settings.now) texts (over verb (map (λ (path : Bor (List ℕ)). path.now) paths.now)) answer.text.items answer.status notices) × TakesLines (E.taken err.old) (E.failures err.old) notices (E.taken err.new) (E.failures err.new)) }
@@ -156,7 +156,7 @@ fn noticed_answer<E: Messages>(
     paths: &[&str],
     read: &ReadFiles<'_>,
     err: &mut E,
-) -> Result<AnswerText, RunError>
+) -> Result<JobOutput, RunError>
     ensures text { IfOk result (λ answer. (given : GivenSettings) → given.format ≡ file_format settings.now.format → given.profile ≡ profile_of read.now.config.system → IsTextOfVerb given (tree_in read.now.config) read.now.config.users read.now.config.values verb answer.text.items) }
     ensures status { IfOk result (λ answer. answer.status ≡ status_of_verb (tree_in read.now.config) read.now.config.users read.now.config.values verb) }
     ensures noticed { IfOk result (λ answer. AreNoticed settings.now.strict (map (λ (path : Bor (List ℕ)). path.now) paths.now) read.now (E.taken err.old) (E.failures err.old) (E.taken err.new) (E.failures err.new)) }
@@ -176,7 +176,7 @@ fn answer_comparison<F: Files, E: Messages>(
     settled: &Settled,
     files: &mut F,
     err: &mut E,
-) -> Result<AnswerText, RunError>
+) -> Result<JobOutput, RunError>
     requires profile { profile_of settled.now ≡ settings.now.profile }
     ensures status { IfOk result (λ answer. answer.status ≤ 1) }
     ensures answer { IfOk result (λ answer. (notices : List ErrorLine) × ((texts : trees.Files) → AreAccepted texts settings.now.tree.now (tree_of_settled settled.now) → Answer (F.surroundings files.old).content (settings_view settings.now) texts (compare left.now right.now) answer.text.items answer.status notices) × TakesLines (E.taken err.old) (E.failures err.old) notices (E.taken err.new) (E.failures err.new)) }
@@ -229,7 +229,7 @@ fn noticed_comparison<E: Messages>(
     before: &ReadFiles<'_>,
     after: &ReadFiles<'_>,
     err: &mut E,
-) -> Result<AnswerText, RunError>
+) -> Result<JobOutput, RunError>
     requires { before.now.config.system ≡ after.now.config.system }
     ensures text { IfOk result (λ answer. answer.text.items ≡ flat_map (difference_line settings.now.output_form settings.now.format.strings (tree_in before.now.config)) (differences (tree_in before.now.config) before.now.config.values after.now.config.values)) }
     ensures status { IfOk result (λ answer. answer.status ≡ status_of_list true (differences (tree_in before.now.config) before.now.config.values after.now.config.values)) }

@@ -9,11 +9,11 @@ ghost use Rattle.kmin_report.specs.between.ReportLines.{report_line};
 ghost use Rattle.kmin_report.specs.between.RunErrors.{status_of};
 ghost use Rattle.kmin_report.specs.Reports.{ErrorLine};
 
-use crate::job_output::answer_job;
+use crate::job_output::output_of_job;
 use kmin_disk::{ReplaceFault, UpdateFault, WriteDisk, update};
 use kmin_inputs::Files;
 use kmin_options::OutputJob;
-use kmin_report::{Messages, Report, RunError, exit_status};
+use kmin_report::{Message, Messages, RunError, exit_status};
 use std::alloc::Global;
 
 /// Runs a command over configuration files, writes its output to a file of the disk, and returns the exit status: 0 done or
@@ -41,7 +41,7 @@ pub fn save<F: Files, D: WriteDisk, E: Messages>(
     ensures failed { result ≡ 5 → HasRisen (F.failures files.old) (F.failures files.new)
         ⊎ ((text : List ℕ) × (fault : TheFault) × IsUnsaved (D.disk disk.old) (D.disk disk.new) output_job.now.output.now text fault) }
 {
-    match answer_job(alloc, &output_job.job, files, err) {
+    match output_of_job(alloc, &output_job.job, files, err) {
         Ok(answer) => match save_text(alloc, output_job.output, &answer.text, disk, err) {
             Ok(()) => answer.status,
             Err(stop) => exit_status(stop, err),
@@ -76,7 +76,7 @@ fn report_update<E: Messages>(path: &str, fault: UpdateFault, err: &mut E) -> Ru
     ensures reported { TakesLines (E.taken err.old) (E.failures err.old) (update_lines path.now fault) (E.taken err.new) (E.failures err.new) }
 {
     match fault {
-        UpdateFault::Unread => report_failure(Report::Unwritten(path), err),
+        UpdateFault::Unread => report_failure(Message::Unwritten(path), err),
         UpdateFault::Replace(fault) => report_replace(path, fault, err),
     }
 }
@@ -88,17 +88,17 @@ fn report_replace<E: Messages>(path: &str, fault: ReplaceFault, err: &mut E) -> 
     ensures reported { TakesLines (E.taken err.old) (E.failures err.old) (replace_lines path.now fault) (E.taken err.new) (E.failures err.new) }
 {
     match fault {
-        ReplaceFault::NotRegular => report_failure(Report::NotRegular(path), err),
-        ReplaceFault::Unchanged => report_failure(Report::Unwritten(path), err),
-        ReplaceFault::NamesTaken => report_failure(Report::Unwritten(path), err),
-        ReplaceFault::Left(new_path) => report_failure(Report::Left(&new_path), err),
-        ReplaceFault::FolderNotSynced => report_failure(Report::Unwritten(path), err),
+        ReplaceFault::NotRegular => report_failure(Message::NotRegular(path), err),
+        ReplaceFault::Unchanged => report_failure(Message::Unwritten(path), err),
+        ReplaceFault::NamesTaken => report_failure(Message::Unwritten(path), err),
+        ReplaceFault::Left(new_path) => report_failure(Message::Left(&new_path), err),
+        ReplaceFault::FolderNotSynced => report_failure(Message::Unwritten(path), err),
         ReplaceFault::OutOfMemory => RunError::Memory,
     }
 }
 
 /// Reports a failure, and returns it as the error of the run.
-fn report_failure<E: Messages>(report: Report<'_>, err: &mut E) -> RunError
+fn report_failure<E: Messages>(report: Message<'_>, err: &mut E) -> RunError
     ensures error { result ≡ RunError.Failed }
     ensures reported { TakesLine (E.taken err.old) (E.failures err.old) (report_line report.entry) (E.taken err.new) (E.failures err.new) }
 {

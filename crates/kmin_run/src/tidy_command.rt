@@ -17,7 +17,7 @@ use kmin_disk::WriteDisk;
 use kmin_inputs::{Files, read_list};
 use kmin_lines::{ListFault, listed_paths};
 use kmin_options::{PathList, Settings, TidyFlags, TidyJob};
-use kmin_report::{Messages, Report, RunError, exit_status};
+use kmin_report::{Message, Messages, RunError, exit_status};
 use kmin_tidy::{TidyOptions, tidy_files};
 use kmin_trees::job_tree;
 use std::alloc::{AllocError, Global};
@@ -94,7 +94,7 @@ pub(crate) fn refuse_list<E: Messages>(err: &mut E) -> u8
     ensures status { result ≡ 2 }
     ensures reported { TakesLine (E.taken err.old) (E.failures err.old) malformed_line (E.taken err.new) (E.failures err.new) }
 {
-    err.write_report(Report::RefusedWords("from: Malformed\n"));
+    err.write_report(Message::RefusedWords("from: Malformed\n"));
     2
 }
 

@@ -9,15 +9,15 @@ ghost use Rattle.kmin_report.specs.Reports.{ErrorLine, last_lines};
 ghost use Rattle.kmin_report.specs.StandardError.{TakesLines};
 ghost use Rattle.kc_files.specs.TreeContents.{HasRisen};
 ghost use Rattle.kmin_expansions.specs.WantedQuestions.{AreAsked, AsksInPart, StopsWanting, question_line, questions_text};
-ghost use Rattle.kmin_answers.specs.Statuses.{status_of_list};
+ghost use Rattle.kmin_outputs.specs.Statuses.{status_of_list};
 ghost use Rattle.kmin_report.specs.between.RunErrors.{status_of};
 
 use kc_value::Sink;
-use kmin_answers::AnswerText;
 use kmin_expansions::{Wanted, wanted_of};
 use kmin_inputs::Files;
 use kmin_options::Questions;
-use kmin_report::{Messages, Report, RunError, exit_status, write_answer};
+use kmin_outputs::JobOutput;
+use kmin_report::{Message, Messages, RunError, exit_status, write_answer};
 use std::alloc::{AllocError, Global};
 
 /// Lists the open questions of a tree's macros, a line each, in the order in which the expansion asks them; with `--unused`, where
@@ -67,7 +67,7 @@ fn answer_questions<F: Files, E: Messages>(
     questions: &Questions<'_>,
     files: &mut F,
     err: &mut E,
-) -> Result<AnswerText, RunError>
+) -> Result<JobOutput, RunError>
     ensures status { IfOk result (λ answer. answer.status ≤ 1) }
     ensures answer { IfOk result (λ answer. (asked : List (List ℕ)) × AreAsked (F.surroundings files.old) (F.failures files.old) (F.failures files.new) (questions_view questions.now) (Ok asked) × (answer.text.items ≡ questions_text asked) × (answer.status ≡ status_of_list true asked)) }
     ensures unreported { IfOk result (λ answer. TakesLines (E.taken err.old) (E.failures err.old) [] (E.taken err.new) (E.failures err.new)) }
@@ -78,7 +78,7 @@ fn answer_questions<F: Files, E: Messages>(
     match listed {
         Ok(asked) => Ok(lines_of(alloc, &asked)?),
         Err(fault) => {
-            err.write_report(Report::MacroFault {
+            err.write_report(Message::MacroFault {
                 fault: &fault,
                 missing: missing.as_deref(),
             });
@@ -88,13 +88,13 @@ fn answer_questions<F: Files, E: Messages>(
 }
 
 /// A line for each question, and the exit status: 1 if there are any, else 0.
-fn lines_of(alloc: Global, asked: &[Vec<u8>]) -> Result<AnswerText, AllocError>
+fn lines_of(alloc: Global, asked: &[Vec<u8>]) -> Result<JobOutput, AllocError>
     ensures text { IfOk result (λ answer. answer.text.items ≡ questions_text (items_of asked.now)) }
     ensures status { IfOk result (λ answer. answer.status ≡ status_of_list true (items_of asked.now)) }
 {
     let text = question_lines(alloc, asked)?;
     let status = if asked.is_empty() { 0 } else { 1 };
-    Ok(AnswerText { text, status })
+    Ok(JobOutput { text, status })
 }
 
 /// A line for each question.

@@ -1,6 +1,6 @@
+pub mod Common
 pub mod NumberedLines
 pub mod OwnDetails
-pub mod OtherKinds
 pub mod FaultSteps
 pub mod NoticeSteps
 pub mod Spaced

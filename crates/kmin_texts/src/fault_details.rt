@@ -15,7 +15,7 @@ ghost use Rattle.kmin_texts.specs.between.KeptDetails.{HasMacroAt, MayBe, hidden
 use crate::form_messages::Wording;
 use crate::kept_details::{KeptDetail, hidden, limit_detail, path_detail};
 use crate::line_files::{LineFiles, Reread};
-use crate::numbered_lines::text_of;
+use crate::numbered_lines::utf8_or_none;
 use crate::text_details::{TreeTexts, first_detail, passed_limit};
 use kc_dotconfig_model::LoadKind;
 use kc_macros::MacroFault;
@@ -24,7 +24,7 @@ use kc_tokens::Language;
 use kc_tree_model::TreeKind;
 use kmin_details::{file_line_text, first_run, first_word, tree_line_text};
 use kmin_faults::{Limit, expansion_limit, is_open, sourced_path};
-use kmin_report::Report;
+use kmin_report::Message;
 use std::alloc::{AllocError, Global};
 
 /// The detail of a fault: what the line at fault has, the limit that it passes, the place of a first definition, or why a file can't be
@@ -32,13 +32,13 @@ use std::alloc::{AllocError, Global};
 pub(crate) fn fault_detail<L: LineFiles>(
     alloc: Global,
     wording: &Wording<'_>,
-    report: &Report<'_>,
+    report: &Message<'_>,
     files: &mut L,
 ) -> Result<KeptDetail, AllocError>
     ensures { IfOk result (λ detail. MayBe (is_detail_of wording.now.root.now wording.now.language (prefix_bytes wording.now.prefix.now) L.known (report_line report.now)) (kept_detail detail)) }
 {
     match report {
-        Report::TreeFault {
+        Message::TreeFault {
             path,
             line,
             kind,
@@ -64,15 +64,15 @@ pub(crate) fn fault_detail<L: LineFiles>(
                 _ => tree_detail(alloc, wording, path, *line, *kind, files),
             }
         }
-        Report::FileFault { path, line, kind } => {
+        Message::FileFault { path, line, kind } => {
             let reread = files.named_line(alloc, path, *line)?;
             file_detail(alloc, *kind, &reread)
         }
-        Report::AnswersFault { path, line, kind } => {
+        Message::AnswersFault { path, line, kind } => {
             let reread = files.named_line(alloc, path, *line)?;
             answers_detail(alloc, *kind, &reread)
         }
-        Report::MacroFault { fault, missing } => {
+        Message::MacroFault { fault, missing } => {
             macro_detail(alloc, wording, fault, *missing, files)
         }
         _ => Ok(KeptDetail::Nothing),
@@ -120,7 +120,7 @@ fn shown_detail(
 ) -> Result<KeptDetail, AllocError>
     ensures { IfOk result (λ detail. MayBe (is_one_of (on_tree_line language kind (Some line.now))) (kept_detail detail)) }
 {
-    match text_of(line) {
+    match utf8_or_none(line) {
         Some(line) => {
             let text = tree_line_text(alloc, language, kind, line)?;
             Ok(KeptDetail::Words(text))
@@ -311,7 +311,7 @@ fn source_detail<L: LineFiles>(
     ensures shown { IfOk result (λ detail. MayBe (is_one_of (sourced_on (L.known.tree wording.now.root.now) wording.now.language file.now (Some line.now))) (kept_detail detail)) }
     ensures hidden { IfOk result (λ detail. MayBe (is_one_of (sourced_on (L.known.tree wording.now.root.now) wording.now.language file.now (Some line.now))) (hidden_kept detail)) }
 {
-    let Some(line) = text_of(line) else {
+    let Some(line) = utf8_or_none(line) else {
         return Ok(KeptDetail::Nothing);
     };
     let path = sourced_path(alloc, wording.language, file, line)?;

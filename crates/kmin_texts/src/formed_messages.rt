@@ -14,7 +14,7 @@ use kc_output::write_out;
 use kc_tokens::Language;
 use kc_value::Sink;
 use kmin_messages::Form;
-use kmin_report::{Messages, Report, write_plain_line};
+use kmin_report::{Message, Messages, write_plain_line};
 use std::alloc::{AllocError, Global};
 
 /// A wording that is kept.
@@ -59,7 +59,7 @@ impl<W: Sink, L: LineFiles> Messages for FormedMessages<W, L> {
 
     ghost failures = { λ m. W.failures m.sink };
 
-    fn write_report(&mut self, report: Report<'_>) {
+    fn write_report(&mut self, report: Message<'_>) {
         match &self.wording {
             None => {
                 let _ = write_plain_line(&report, &mut self.sink);
@@ -103,7 +103,7 @@ impl<W: Sink, L: LineFiles> FormMessages for FormedMessages<W, L> {
 fn write_formed<W: Sink, L: LineFiles>(
     alloc: Global,
     wording: &Wording<'_>,
-    report: &Report<'_>,
+    report: &Message<'_>,
     files: &mut L,
     unknown: &mut u32,
     sink: &mut W,

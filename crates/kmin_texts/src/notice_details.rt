@@ -12,7 +12,7 @@ ghost use Rattle.kmin_texts.specs.between.KeptDetails.{MayBe};
 ghost use Rattle.kmin_texts.specs.between.NoticeDetails.{hidden_detail, is_noticed_on, nearest_detail};
 
 use crate::line_files::Reread;
-use crate::numbered_lines::text_of;
+use crate::numbered_lines::utf8_or_none;
 use kc_dotconfig_model::{NoticeKind, Prefix};
 use kc_tree::Tree;
 use kmin_details::{Detail, named_on, nearest_symbol, notice_detail, without_words};
@@ -53,7 +53,7 @@ fn shown_notice<'a>(
 ) -> Result<Detail<'a>, AllocError>
     ensures { IfOk result (λ detail. MayBe (is_noticed_on kind (prefix_bytes prefix.now) (near_names tree.now.tree kind) (Some line.now)) (line_detail detail)) }
 {
-    let Some(line) = text_of(line) else {
+    let Some(line) = utf8_or_none(line) else {
         return Ok(Detail::Nothing);
     };
     match kind {
@@ -69,7 +69,7 @@ fn shown_notice<'a>(
 fn hidden_notice<'a>(prefix: &Prefix, kind: NoticeKind, line: &'a [u8]) -> Detail<'a>
     ensures { line_detail result ≡ hidden_detail kind (prefix_bytes prefix.now) (utf8_line (Some line.now)) }
 {
-    match text_of(line) {
+    match utf8_or_none(line) {
         Some(line) => without_words(notice_detail(kind, prefix, line)),
         None => Detail::Nothing,
     }

@@ -78,13 +78,13 @@ pub(crate) fn utf8_line(line: Option<&[u8]>) -> Option<&str>
     ensures { option_map (λ (text : Bor (List ℕ)). text.now) result ≡ utf8_line (option_map (λ (bytes : Bor (List ℕ)). bytes.now) line.entry) }
 {
     match line {
-        Some(line) => text_of(line),
+        Some(line) => utf8_or_none(line),
         None => None,
     }
 }
 
 /// Bytes as a text, if they are UTF-8.
-pub(crate) fn text_of(bytes: &[u8]) -> Option<&str>
+pub(crate) fn utf8_or_none(bytes: &[u8]) -> Option<&str>
     ensures { option_map (λ (text : Bor (List ℕ)). text.now) result ≡ (if is_utf8 bytes.now then Some bytes.now else None) }
 {
     match str::from_utf8(bytes) {

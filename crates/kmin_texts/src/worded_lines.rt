@@ -14,7 +14,7 @@ use crate::notice_details::notice_at;
 use kc_tree::Tree;
 use kmin_details::{Detail, line_in};
 use kmin_faults::{cycle_steps, unit_names};
-use kmin_report::Report;
+use kmin_report::Message;
 use std::alloc::{AllocError, Global};
 
 /// The line of a report in a form, with the detail that the file it is about gives; without it where memory runs out for that.
@@ -22,7 +22,7 @@ use std::alloc::{AllocError, Global};
 pub(crate) fn line_of<L: LineFiles>(
     alloc: Global,
     wording: &Wording<'_>,
-    report: &Report<'_>,
+    report: &Message<'_>,
     files: &mut L,
     unknown: &mut u32,
 ) -> Result<Vec<u8>, AllocError>
@@ -38,19 +38,19 @@ pub(crate) fn line_of<L: LineFiles>(
 fn worded_line<L: LineFiles>(
     alloc: Global,
     wording: &Wording<'_>,
-    report: &Report<'_>,
+    report: &Message<'_>,
     files: &mut L,
     unknown: &mut u32,
 ) -> Result<Vec<u8>, AllocError>
     ensures { IfOk result (λ line. IsSpelled (asked_by wording.now) L.known (report_line report.now) line.items) }
 {
     match report {
-        Report::MacroNotice(notice) => {
+        Message::MacroNotice(notice) => {
             let detail = Detail::Expansion(notice.text.as_slice());
             spelled_line(alloc, wording, report, detail)
         }
-        Report::Cycle { tree, units, .. } => cycle_line(alloc, wording, report, tree, units),
-        Report::Notice {
+        Message::Cycle { tree, units, .. } => cycle_line(alloc, wording, report, tree, units),
+        Message::Notice {
             path,
             line,
             kind,
@@ -71,7 +71,7 @@ fn worded_line<L: LineFiles>(
 fn cycle_line(
     alloc: Global,
     wording: &Wording<'_>,
-    report: &Report<'_>,
+    report: &Message<'_>,
     tree: &Tree,
     units: &[u32],
 ) -> Result<Vec<u8>, AllocError>
@@ -92,7 +92,7 @@ fn cycle_line(
 fn spelled_line(
     alloc: Global,
     wording: &Wording<'_>,
-    report: &Report<'_>,
+    report: &Message<'_>,
     detail: Detail<'_>,
 ) -> Result<Vec<u8>, AllocError>
     ensures { (known : KnownLines) → IsDetailOf (asked_by wording.now) known (report_line report.now) (line_detail detail.entry)

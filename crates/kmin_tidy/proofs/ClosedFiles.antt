@@ -1,7 +1,5 @@
 -- A disk after a file of it was opened, read and closed.
-use Rattle.std.proofs.Common.{◌≡◌, ℕ, ◌⊎◌, inl, inr, ap, ◌∙◌}
-use Rattle.kc_value.specs.Streams.{one_failure_more}
-use Rattle.kmin_disk.specs.Disks.{Disk, FailsOnce, MayFailOnce}
+use Rattle.kmin_tidy.proofs.Common.{◌≡◌, ℕ, ◌⊎◌, inl, inr, ap, ◌∙◌, one_failure_more, Disk, FailsOnce, MayFailOnce}
 use Rattle.kmin_disk.specs.Failures.{failures_after_close}
 
 -- a disk with the same state and the same count of failed calls is the same

@@ -1,28 +1,22 @@
 -- What holds of the disk and the output when a run over files ends.
-use Rattle.std.proofs.Common.{◌≡◌, ◌≢◌, ℕ, true, false, List, [], ◌∷◌, ◌++◌, Option, Some, None, inl, inr, refl, sym, ap, ◌∙◌, subst, length, arith, append-nil, string_bytes}
+use Rattle.std.proofs.Common.{string_bytes}
 use Rattle.std.specs.Io.KnownBytes.{Appends}
 use Rattle.std.proofs.KnownBytes.{Appends-nil}
-use Rattle.kmin_disk.specs.Contents.{nothing, unfinished}
-use Rattle.kmin_disk.specs.Disks.{Disk, DiskState, History, newest, with_newest, content_at}
-use Rattle.kmin_disk.proofs.Places.{same_place_or_other}
-use Rattle.kmin_tidy.specs.Options.{Settings}
-use Rattle.kmin_tidy.specs.Runs.{Tidies}
+use Rattle.kmin_tidy.proofs.Common.{◌≡◌, ◌≢◌, ℕ, true, false, List, [], ◌∷◌, ◌++◌, Option, Some, None, inl, inr, refl, sym, ap, ◌∙◌, subst, length, arith, append-nil, nothing, unfinished, Disk, DiskState, History, newest, with_newest, content_at, same_place_or_other, TidySettings, Tidies, IsKept}
+use Rattle.kmin_tidy.proofs.Common.{IsTidy, AreTidy, StopsRun, TidyStop, Memory, ErrorLine}
 use Rattle.kmin_tidy.specs.Ends.{Ends, whole, part, stopped, Stops, before_write, at_write, at_left, IsToBeReplaced, LeavesNewFile}
-use Rattle.kmin_tidy.specs.Promises.{IsKeptOrLeft, IsKept, IsTidy, AreTidy}
+use Rattle.kmin_tidy.specs.Promises.{IsKeptOrLeft}
 use Rattle.kmin_tidy.specs.checker.Endings.{status_of_stop, IsWrittenOut}
 use Rattle.kmin_tidy.specs.checker.Endings as written
-use Rattle.kmin_tidy.specs.checker.FileResults.{StopsRun}
 use Rattle.kmin_tidy.specs.checker.FileResults as results
 use Rattle.kmin_tidy.specs.checker.ReportLines.{stop_line}
-use Rattle.kmin_tidy.specs.declared.stop.Stop.{Stop}
-use Rattle.kmin_tidy.specs.declared.stop.Stop.TheVariants.{Memory, Left}
+use Rattle.kmin_tidy.specs.declared.stop.TidyStop.TheVariants.{Left}
 use Rattle.kmin_tidy.specs.declared.whole_run.RunResult.{RunResult}
 use Rattle.kmin_tidy.proofs.KeptPlaces.{stays_same, kept_after, newest_written}
 use Rattle.kmin_tidy.proofs.StepLemmas.{once_same, tidy_same}
 use Rattle.kmin_tidy.proofs.RunLemmas.{all_front, all_next, run_kept, run_unasked, run_tidy}
-use Rattle.kmin_report.specs.Reports.{ErrorLine}
 
-module _ (s : Settings) (a : Disk) where
+module _ (s : TidySettings) (a : Disk) where
   tidies_kept : (b : Disk) (paths : List (List ℕ)) (text : List ℕ) (reports : List ErrorLine) (status : ℕ) → Tidies s a b paths text reports status
       → (place : List ℕ) → IsKept s (a.state.history place) (b.state.history place)
   tidies_kept b paths text reports status t place = run_kept s a b t.files text reports t.run place
@@ -145,7 +139,7 @@ module _ (s : Settings) (a : Disk) where
       subst (λ later. Appends taken later []) (sym same) (Appends-nil taken)
 
 -- a run that went over all its files, and whose text was then written whole or in part, ends as `Ends` says
-pub ends_written : (s : Settings) (a b : Disk) (paths : List (List ℕ)) (tidied : RunResult) (earlier own : List ErrorLine) (taken after : Option (List ℕ))
+pub ends_written : (s : TidySettings) (a b : Disk) (paths : List (List ℕ)) (tidied : RunResult) (earlier own : List ErrorLine) (taken after : Option (List ℕ))
     (failed failed_after status : ℕ)
     → Tidies s a b paths tidied.text.items earlier tidied.status → IsWrittenOut tidied taken after failed failed_after own status
     → Ends s a b paths taken after failed failed_after (earlier ++ own) status
@@ -157,7 +151,7 @@ ends_written s a b paths tidied earlier own taken after failed failed_after stat
     part tidied.text.items earlier tidied.status count t l w f (ap (λ rs. earlier ++ rs) r) n
 
 -- a run that ended early, and then wrote the line of the reason to standard error, ends as `Ends` says
-pub ends_early : (s : Settings) (a b : Disk) (paths : List (List ℕ)) (earlier : List ErrorLine) (stop : Stop) (taken : Option (List ℕ)) (failed status : ℕ)
+pub ends_early : (s : TidySettings) (a b : Disk) (paths : List (List ℕ)) (earlier : List ErrorLine) (stop : TidyStop) (taken : Option (List ℕ)) (failed status : ℕ)
     → StopsRun s a b paths earlier stop → status ≡ status_of_stop stop → Ends s a b paths taken taken failed failed (earlier ++ stop_line stop ∷ []) status
 ends_early s a b paths earlier Memory taken failed status (results.before_write between front back text made e t same is) n =
     stopped (before_write between front back text earlier made e t same refl n) refl refl

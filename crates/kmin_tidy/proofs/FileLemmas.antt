@@ -1,57 +1,44 @@
 -- Facts for `tidy_file`: from the results of its parts to a `Step` of the run.
-use Rattle.std.proofs.Common.{◌≡◌, ◌≢◌, ℕ, Bool, true, false, List, [], ◌∷◌, ◌++◌, Option, Some, None, map, length, take, cond, refl, sym, ap, ◌∙◌, subst, append-nil, inl, inr}
+use Rattle.kmin_tidy.proofs.Common.{◌≡◌, ◌≢◌, ℕ, Bool, true, false, List, [], ◌∷◌, ◌++◌, Option, Some, None, map, length, take, cond, refl, sym, ap, ◌∙◌, subst, append-nil, inl, inr, Settled, tree_of_settled, Read, file_format, Fragment, notice_pair, Content, special, readable, Disk, FailsOnce}
+use Rattle.kmin_tidy.proofs.Common.{MayFailOnce, content_at, TidySettings, Notices, settings_of, refuses_notices, Tree, MayBeRead, IsReadAt, HasMinimalFile, fault_line, notice_lines, file_line, Step, noticed, minimal, shown, replaced, unwritten, unsynced, call_failed, names_taken, not_regular}
+use Rattle.kmin_tidy.proofs.Common.{IsFragmentOf, IsFaulty, places_noted, IsRewritten, StopsFile, report_lines, problem_lines, Refused, Failed, OutputForm, Problem, FileReport, TidyStop}
 use Rattle.std.proofs.Math.Seq.{take-append_seam}
 use Rattle.std.specs.Str.{bytes_eq}
 use Rattle.std.proofs.lemmas.Slice.Eq.{bytes_eq-Decides}
-use Rattle.kc_system.specs.Solutions.{UniquelySolves}
+use Rattle.kc_solver.specs.Solutions.{UniquelySolves}
 use Rattle.kc_rules_model.specs.declared.values.UnitValue.{UnitValue}
 use Rattle.kc_rules_model.specs.declared.values.UserValue.{UserValue}
 use Rattle.kc_rules_model.specs.Rule.{rule}
-use Rattle.kc_rules.specs.declared.rules.Settled.{Settled}
-use Rattle.kc_rules.specs.between.SettledViews.{tree_of_settled, profile_of}
+use Rattle.kc_rules.specs.between.SettledViews.{profile_of}
 use Rattle.kc_dotconfig_model.specs.declared.format.Format.{Format}
 use Rattle.kc_dotconfig_model.specs.declared.fault.LoadFault.{LoadFault}
-use Rattle.kc_dotconfig_model.specs.declared.fault.LoadKind.TheVariants.{Read}
-use Rattle.kc_dotconfig_model.specs.between.Formats.{file_format}
 use Rattle.kc_dotconfig_model.specs.PrefixGrammar.{is_name_prefix}
 use Rattle.kc_dotconfig_model.proofs.AcceptedLines.{accepted_utf8}
-use Rattle.kc_dotconfig.specs.declared.fragment.Fragment.{Fragment}
-use Rattle.kc_dotconfig.specs.Fragments.{notice_pair, users_of}
+use Rattle.kc_dotconfig.specs.Fragments.{users_of}
 use Rattle.kc_minimal_model.specs.CanonicalText.{IsCanonicalText}
-use Rattle.kmin_disk.specs.Contents.{Content, IsOfKind, special, readable}
-use Rattle.kmin_disk.specs.Disks.{Disk, FailsOnce, MayFailOnce, content_at}
+use Rattle.kmin_disk.specs.Contents.{IsOfKind}
 use Rattle.kmin_disk.specs.Failures.{failures_of_fault}
 use Rattle.kmin_disk.specs.Replacements.{FaultLeaves, HasTakenName}
 use Rattle.kmin_disk.specs.declared.kind.FileKind.{FileKind}
 use Rattle.kmin_disk.specs.declared.kind.FileKind.TheVariants.{NotRegular as KindNotRegular}
 use Rattle.kmin_disk.specs.declared.fault.ReplaceFault.{ReplaceFault}
 use Rattle.kmin_disk.specs.declared.fault.ReplaceFault.TheVariants.{NotRegular, Unchanged, NamesTaken, Left, FolderNotSynced, OutOfMemory}
-use Rattle.kmin_tidy.specs.Options.{Settings, Notices, settings_of, refuses_notices}
-use Rattle.kc_tree_model.specs.Trees.{Tree}
 use Rattle.kc_dotconfig_model.specs.ConfigLines.{LineMeaning}
 use Rattle.kc_dotconfig_model.specs.ConfigFiles.{notices_from}
 use Rattle.kc_dotconfig_model.specs.declared.choice_line.ChoiceLine.{ChoiceLine}
 use Rattle.kc_dotconfig_model.specs.declared.notice.Notice.{Notice}
 use Rattle.kc_dotconfig_model.specs.OtherChoices.{choice_lines_from, other_choices_of}
 use Rattle.kc_minimal_model.specs.FileValues.{Loads}
-use Rattle.kmin_tidy.specs.MinimalFiles.{MayBeRead, IsReadAt, HasNotices, of_choices, choice_notices, HasMinimalFile, Minimises}
+use Rattle.kmin_tidy.specs.MinimalFiles.{HasNotices, of_choices, choice_notices, Minimises}
 use Rattle.kmin_tidy.specs.Refusals as refusals
-use Rattle.kmin_report.specs.Reports.{fault_line, not_regular_line}
-use Rattle.kmin_tidy.specs.Reports.{notice_lines, file_line}
-use Rattle.kmin_tidy.specs.Steps.{Step, refused, noticed, minimal, shown, replaced, unwritten, unsynced, call_failed, names_taken, not_regular}
-use Rattle.kmin_tidy.specs.checker.Readings.{IsFragmentOf, IsFaulty, places_noted}
+use Rattle.kmin_report.specs.Reports.{not_regular_line}
+use Rattle.kmin_tidy.specs.Steps.{refused}
 use Rattle.kmin_tidy.specs.checker.FileReports.{IsRefusedAs, IsFailedBy, IsStoppedBy}
 use Rattle.kmin_tidy.specs.checker.FileResults as results
-use Rattle.kmin_tidy.specs.checker.FileResults.{IsRewritten, IsWritten, StopsWrite, StopsRewrite, StopsFile}
-use Rattle.kmin_tidy.specs.checker.ReportLines.{report_lines, problem_lines}
-use Rattle.kmin_tidy.specs.declared.outcome.FileOutcome.TheVariants.{Refused, Failed}
+use Rattle.kmin_tidy.specs.checker.FileResults.{IsWritten, StopsWrite, StopsRewrite}
 use Rattle.kmin_tidy.specs.declared.options.TidyOptions.{TidyOptions}
-use Rattle.kmin_records.specs.declared.output_form.OutputForm.{OutputForm}
-use Rattle.kmin_tidy.specs.declared.report.Problem.{Problem}
 use Rattle.kmin_tidy.specs.declared.report.Problem.TheVariants.{Fault, Write, NotRegular as ProblemNotRegular}
-use Rattle.kmin_tidy.specs.declared.report.FileReport.{FileReport}
 use Rattle.kmin_tidy.specs.declared.file_step.FileEnd.{FileEnd}
-use Rattle.kmin_tidy.specs.declared.stop.Stop.{Stop}
 use Rattle.kmin_tidy.proofs.RefusalLemmas.{refused_by, lines_of_problem, lines_of_notices}
 
 -- bytes for which the test `==` gives `false` differ
@@ -65,7 +52,7 @@ agree least bytes test e t = (bytes_eq-Decides least bytes).0 (sym e ∙ t)
 pub kind_not_special : (content : Option Content) (kind : FileKind) → IsOfKind content kind → kind ≢ KindNotRegular → content ≢ Some special
 kind_not_special content kind k other = λ e. other (subst (λ c. IsOfKind c kind) e k)
 
-module _ (s : Settings) (a : Disk) (path : List ℕ) (report : FileReport) where
+module _ (s : TidySettings) (a : Disk) (path : List ℕ) (report : FileReport) where
   -- under `write`, the step of a path that leads to a link, a folder, a pipe or a device is its refusal
   pub not_regular_step : s.options.write ≡ true → IsOfKind (content_at a.state path) KindNotRegular → report.notices.items ≡ []
       → report.problem ≡ Some ProblemNotRegular → report.outcome ≡ Failed → Step s a a path [] (report_lines s.tree path report) report.outcome
@@ -119,7 +106,7 @@ module _ (s : Settings) (a : Disk) (path : List ℕ) (report : FileReport) where
       (lines_with noted Write n (p ∙ q)) (r ∙ o)
 
 -- a run that ends at the comparison of a file with its minimal file, or at its replacement, ends at that file
-pub stops_rewrite : (s : Settings) (a b : Disk) (path bytes least : List ℕ) (notices : Notices) (stop : Stop) → Minimises s a.state path bytes least notices
+pub stops_rewrite : (s : TidySettings) (a b : Disk) (path bytes least : List ℕ) (notices : Notices) (stop : TidyStop) → Minimises s a.state path bytes least notices
     → StopsRewrite s.options.write a b path bytes least stop → StopsFile s a b path stop
 stops_rewrite s a b path bytes least notices stop m (inl h) = inl (h.0, inl h.1)
 stops_rewrite s a b path bytes least notices stop m (inr h) =
@@ -189,7 +176,7 @@ written_by a b path least (Left new_path) end l f k t h = absurd h
 written_by a b path least FolderNotSynced end l f k t h = results.not_synced (record { replaced = l; failures = f }) h.0 h.1 h.2
 written_by a b path least OutOfMemory end l f k t h = absurd h
 
-pub stopped_by : (a b : Disk) (path least : List ℕ) (fault : ReplaceFault) (stop : Stop) → FaultLeaves a.state b.state path least fault
+pub stopped_by : (a b : Disk) (path least : List ℕ) (fault : ReplaceFault) (stop : TidyStop) → FaultLeaves a.state b.state path least fault
     → b.failures ≡ failures_of_fault a.failures fault → IsStoppedBy fault stop → StopsWrite a b path stop
 stopped_by a b path least NotRegular stop l f h = absurd h
 stopped_by a b path least Unchanged stop l f h = absurd h

@@ -1,27 +1,23 @@
 -- One place of a disk during a run.
-use Rattle.std.proofs.Common.{◌≡◌, ◌≢◌, ℕ, List, [], ◌∷◌, Option, Some, None, inl, inr, refl, sym, ap, ◌∙◌, subst}
-use Rattle.kmin_disk.specs.Contents.{Content, nothing, file}
-use Rattle.kmin_disk.specs.Disks.{History, Stays, newest, with_newest}
-use Rattle.kmin_tidy.specs.Options.{Settings, Notices}
-use Rattle.kmin_tidy.specs.MinimalFiles.{IsReadAs, HasMinimalFile, IsMinimalFile}
-use Rattle.kmin_tidy.specs.Promises.{IsMinimised, IsKept}
-use Rattle.kmin_tidy.specs.Runs.{HoldsMinimalFile}
+use Rattle.kmin_tidy.proofs.Common.{◌≡◌, ◌≢◌, ℕ, List, [], ◌∷◌, Option, Some, None, inl, inr, refl, sym, ap, ◌∙◌, subst, Content, nothing, file, History, newest, with_newest, TidySettings, Notices, IsReadAs, HasMinimalFile, IsMinimised, IsKept, HoldsMinimalFile}
+use Rattle.kmin_disk.specs.Disks.{Stays}
+use Rattle.kmin_tidy.specs.MinimalFiles.{IsMinimalFile}
 
 pub stays_same : (old new : History) → new ≡ old → Stays old new
 stays_same old new same = record { same_content = ap newest same; same_history = λ some. same }
 
 -- a file that is the minimal file of some values is its own minimal file
-pub minimal_once : (s : Settings) (bytes least : List ℕ) (notices : Notices) → IsMinimalFile s bytes → HasMinimalFile s bytes least notices → least ≡ bytes
+pub minimal_once : (s : TidySettings) (bytes least : List ℕ) (notices : Notices) → IsMinimalFile s bytes → HasMinimalFile s bytes least notices → least ≡ bytes
 minimal_once s bytes least notices own m = m.canonical.is ∙ own.1.once m.values m.loads.reads
 
 -- a file whose minimal file has other bytes isn't the minimal file of any values
-pub minimal_not : (s : Settings) (bytes read least : List ℕ) (notices : Notices) → read ≡ bytes → IsMinimalFile s bytes → HasMinimalFile s read least notices
+pub minimal_not : (s : TidySettings) (bytes read least : List ℕ) (notices : Notices) → read ≡ bytes → IsMinimalFile s bytes → HasMinimalFile s read least notices
     → least ≢ read → ⊥
 minimal_not s bytes read least notices e own m other =
     other (minimal_once s bytes least notices own (subst (λ b. HasMinimalFile s b least notices) e m) ∙ sym e)
 
 -- the minimal file of a file is the minimal file of some values
-pub written_minimal : (s : Settings) (bytes least : List ℕ) (notices : Notices) → HasMinimalFile s bytes least notices → IsMinimalFile s least
+pub written_minimal : (s : TidySettings) (bytes least : List ℕ) (notices : Notices) → HasMinimalFile s bytes least notices → IsMinimalFile s least
 written_minimal s bytes least notices m = (m.values, m.canonical)
 
 stays_stays : (a b c : History) → Stays a b → Stays b c → Stays a c
@@ -34,7 +30,7 @@ stays_stays a b c h k = record {
 read_some : (content : Option Content) (bytes : List ℕ) → IsReadAs content bytes → content ≢ Some nothing
 read_some content bytes r = λ e. let z : IsReadAs (Some nothing) bytes = subst (λ c. IsReadAs c bytes) e r in z
 
-stays_minimised : (s : Settings) (a b c : History) → Stays a b → IsMinimised s b c → IsMinimised s a c
+stays_minimised : (s : TidySettings) (a b c : History) → Stays a b → IsMinimised s b c → IsMinimised s a c
 stays_minimised s a b c h m =
     let some : newest a ≢ Some nothing = λ e. read_some (newest b) m.bytes m.read (h.same_content ∙ e) in
     subst (λ x. IsMinimised s x c) (h.same_history some) m
@@ -43,13 +39,13 @@ pub newest_written : (least : List ℕ) (history : History) → newest (with_new
 newest_written least [] = λ e. let z : None ≡ Some nothing = e in (cc)
 newest_written least (content ∷ before) = λ e. let z : Some (file least) ≡ Some nothing = e in (cc)
 
-minimised_stays : (s : Settings) (a b c : History) → IsMinimised s a b → Stays b c → IsMinimised s a c
+minimised_stays : (s : TidySettings) (a b c : History) → IsMinimised s a b → Stays b c → IsMinimised s a c
 minimised_stays s a b c m k =
     let same : c ≡ b = k.same_history (λ e. newest_written m.least a (ap newest (sym m.replaced) ∙ e)) in
     subst (λ x. IsMinimised s a x) (sym same) m
 
 -- no place is replaced twice by other bytes
-minimised_twice : (s : Settings) (a b c : History) → IsMinimised s a b → IsMinimised s b c → IsMinimised s a c
+minimised_twice : (s : TidySettings) (a b c : History) → IsMinimised s a b → IsMinimised s b c → IsMinimised s a c
 minimised_twice s [] b c m k = record {
   bytes = m.bytes;
   least = m.least;
@@ -64,27 +60,27 @@ minimised_twice s (content ∷ before) b c m k =
     absurd (minimal_not s m.least k.bytes k.least k.notices read (written_minimal s m.bytes m.least m.notices m.minimal) k.minimal k.differs)
 
 -- a place that is as it was or got its minimal file, in one part of a run and in the next, is or did so over both
-pub kept_after : (s : Settings) (a b c : History) → IsKept s a b → IsKept s b c → IsKept s a c
+pub kept_after : (s : TidySettings) (a b c : History) → IsKept s a b → IsKept s b c → IsKept s a c
 kept_after s a b c (inl h) (inl k) = inl (stays_stays a b c h k)
 kept_after s a b c (inl h) (inr k) = inr (stays_minimised s a b c h k)
 kept_after s a b c (inr h) (inl k) = inr (minimised_stays s a b c h k)
 kept_after s a b c (inr h) (inr k) = inr (minimised_twice s a b c h k)
 
-pub holds_written : (s : Settings) (history : History) (least : List ℕ) → IsMinimalFile s least → HoldsMinimalFile s (with_newest (file least) history)
+pub holds_written : (s : TidySettings) (history : History) (least : List ℕ) → IsMinimalFile s least → HoldsMinimalFile s (with_newest (file least) history)
 holds_written s [] least own = tt
 holds_written s (content ∷ before) least own = (least, refl, own)
 
-holds_some : (s : Settings) (content : Content) (before : History) → HoldsMinimalFile s (content ∷ before) → Some content ≢ Some nothing
+holds_some : (s : TidySettings) (content : Content) (before : History) → HoldsMinimalFile s (content ∷ before) → Some content ≢ Some nothing
 holds_some s content before h = read_some (Some content) h.0 h.1
 
 -- a place that holds a minimal file still does after a change that `IsKept` allows
-pub minimal_kept : (s : Settings) (old new : History) → IsKept s old new → HoldsMinimalFile s old → HoldsMinimalFile s new
+pub minimal_kept : (s : TidySettings) (old new : History) → IsKept s old new → HoldsMinimalFile s old → HoldsMinimalFile s new
 minimal_kept s [] new (inl k) h = subst (HoldsMinimalFile s) (sym (k.same_history (λ e. let z : None ≡ Some nothing = e in (cc)))) h
 minimal_kept s (content ∷ before) new (inl k) h = subst (HoldsMinimalFile s) (sym (k.same_history (holds_some s content before h))) h
 minimal_kept s old new (inr m) h =
     subst (HoldsMinimalFile s) (sym m.replaced) (holds_written s old m.least (written_minimal s m.bytes m.least m.notices m.minimal))
 
 -- a place from which the bytes of a minimal file may be read holds a minimal file
-pub holds_read : (s : Settings) (history : History) (bytes : List ℕ) → IsReadAs (newest history) bytes → IsMinimalFile s bytes → HoldsMinimalFile s history
+pub holds_read : (s : TidySettings) (history : History) (bytes : List ℕ) → IsReadAs (newest history) bytes → IsMinimalFile s bytes → HoldsMinimalFile s history
 holds_read s [] bytes r own = tt
 holds_read s (content ∷ before) bytes r own = (bytes, r, own)

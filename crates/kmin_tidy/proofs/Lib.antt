@@ -1,3 +1,4 @@
+pub mod Common
 pub mod ReadingLemmas
 pub mod ClosedFiles
 pub mod RefusalLemmas

@@ -1,26 +1,22 @@
 -- Files that are read whole or in part.
-use Rattle.std.proofs.Common.{◌≡◌, ◌≢◌, ◌<◌, ◌≤◌, ◌+◌, ◌-◌, ◌^◌, ℕ, List, [], ◌∷◌, ◌++◌, Option, Some, None, Result, Ok, Err, IfOk, OnOk, length, refl, sym, ap, ◌∙◌, subst, append-nil, append_assoc, ◌⊎◌, inl, inr, arith, length-append, lit<, take}
+use Rattle.std.proofs.Common.{◌+◌, ◌-◌, ◌^◌, OnOk, append_assoc, length-append, lit<}
 use Rattle.std.specs.Io.KnownBytes.{Consumes, IsAtEnd}
 use Rattle.std.proofs.lemmas.List.{append_cancel_right}
-use Rattle.kc_tree_model.specs.Trees.{Tree}
+use Rattle.kmin_tidy.proofs.Common.{◌≡◌, ◌≢◌, ◌<◌, ◌≤◌, ℕ, List, [], ◌∷◌, ◌++◌, Option, Some, None, Result, Ok, Err, IfOk, length, refl, sym, ap, ◌∙◌, subst, append-nil, ◌⊎◌, inl, inr, arith, take, Tree, LoadKind, Read, OutOfMemory, Fragment, MAX_CONFIG_BYTES, AtEnd, one_failure_more, AreKnownBytes}
+use Rattle.kmin_tidy.proofs.Common.{IsFragmentOf, IsFaulty, refused, unread, for_memory, whole_content}
 use Rattle.kc_dotconfig_model.specs.Formats.{FileFormat}
-use Rattle.kc_dotconfig_model.specs.declared.fault.LoadKind.{LoadKind}
-use Rattle.kc_dotconfig_model.specs.declared.fault.LoadKind.TheVariants.{Malformed, NotUtf8, LineTooLong, TooManyLines, Read, OutOfMemory, TooLarge}
+use Rattle.kc_dotconfig_model.specs.declared.fault.LoadKind.TheVariants.{Malformed, NotUtf8, LineTooLong, TooManyLines, TooLarge}
 use Rattle.kc_dotconfig_model.specs.ConfigFiles.{FileMeans}
 use Rattle.kc_dotconfig_model.specs.LoadFaults.{IsAccepted, IsConsideredAt, IsFirstFault, complete, cut_short}
-use Rattle.kc_dotconfig.specs.declared.fragment.Fragment.{Fragment}
 use Rattle.kc_dotconfig.specs.Fragments.{FitsTree}
-use Rattle.kc_dotconfig.specs.ReadResults.{IsReadAs, IsRefused, ReportsFault}
-use Rattle.kc_value.specs.declared.limits.TheConstants.{MAX_CONFIG_BYTES}
+use Rattle.kc_dotconfig.specs.ReadResults.{IsReadAs, IsFileRefused, ReportsFault}
 use Rattle.kc_value.specs.declared.reader_bytes.ReadEnd.{ReadEnd}
-use Rattle.kc_value.specs.declared.reader_bytes.ReadEnd.TheVariants.{AtEnd, AtLimit, AtFailure}
+use Rattle.kc_value.specs.declared.reader_bytes.ReadEnd.TheVariants.{AtLimit, AtFailure}
 use Rattle.kc_value.specs.Lines.{newline_count}
 use Rattle.kc_value.specs.ReaderFailures.{failures_after_reading}
-use Rattle.kc_value.specs.Streams.{one_failure_more}
 use Rattle.kmin_disk.specs.Contents.{OpensAs}
-use Rattle.kmin_report.specs.KnownBytes.{AreKnownBytes}
-use Rattle.kmin_tidy.specs.checker.Readings.{IsFragmentOf, IsFaultOf, IsFaultOfPart, in_front, at_failure, no_memory, IsFaulty, refused, unread, for_memory}
-use Rattle.kmin_report.proofs.KnownContents.{rest_of, whole_memory, whole_content}
+use Rattle.kmin_tidy.specs.checker.Readings.{IsFaultOf, IsFaultOfPart, in_front, at_failure, no_memory}
+use Rattle.kmin_report.proofs.KnownContents.{rest_of, whole_memory}
 
 -- the fragment of a file that was read to its end is that of the file's bytes
 pub fragment_of_read : (format : FileFormat) (tree : Tree) (bytes : List ℕ) (before after : Option (List ℕ)) (f : Fragment) → before ≡ Some bytes
@@ -51,7 +47,7 @@ module _ (format : FileFormat) (tree : Tree) (bytes : List ℕ) where
   whole_first None kind number known h (inr k) = absurd h
   whole_first (Some rest) kind number known h (inr k) = subst (λ b. IsFirstFault format tree complete b kind number) (sym h) (k rest)
 
-  refused_whole : (after : Option (List ℕ)) (kind : LoadKind) (number : ℕ) → kind ≢ Read → IsRefused format tree (Some bytes) after kind number
+  refused_whole : (after : Option (List ℕ)) (kind : LoadKind) (number : ℕ) → kind ≢ Read → IsFileRefused format tree (Some bytes) after kind number
       → IsFaultOf format tree bytes kind number
   refused_whole after kind number other r = inr (other, whole_first after kind number r.known r.consumed r.first)
 
@@ -86,7 +82,7 @@ module _ (format : FileFormat) (tree : Tree) (bytes : List ℕ) where
       subst (λ b. IsFirstFault format tree complete b kind number) (sym (append_assoc known rest more) ∙ ap (λ b. b ++ more) (sym e)) (k (rest ++ more))
 
   refused_part : (rest : List ℕ) (kind : LoadKind) (number : ℕ) → kind ≢ Read
-      → IsRefused format tree (Some (bytes ++ 0 ∷ [])) (Some (rest ++ 0 ∷ [])) kind number → IsFaultOfPart format tree bytes kind number
+      → IsFileRefused format tree (Some (bytes ++ 0 ∷ [])) (Some (rest ++ 0 ∷ [])) kind number → IsFaultOfPart format tree bytes kind number
   refused_part rest kind number other r =
       in_front other (part_first rest kind number r.known (part_front rest r.known r.consumed) r.first)
 

@@ -1,29 +1,14 @@
 -- Files that are refused, and what is reported of them.
-use Rattle.std.proofs.Common.{◌≡◌, ◌≢◌, ℕ, List, [], ◌∷◌, ◌++◌, Some, None, map, refl, sym, ap, ◌∙◌, append-nil, ◌⊎◌, inl, inr}
-use Rattle.kc_tree_model.specs.Trees.{Tree}
-use Rattle.kc_dotconfig.specs.Fragments.{notice_pair}
-use Rattle.kc_dotconfig_model.specs.declared.fault.LoadKind.{LoadKind}
-use Rattle.kc_dotconfig_model.specs.declared.fault.LoadKind.TheVariants.{Read, OutOfMemory}
-use Rattle.kmin_disk.specs.Contents.{readable}
-use Rattle.kmin_disk.specs.Disks.{Disk, FailsOnce, MayFailOnce, content_at}
-use Rattle.kmin_tidy.specs.Options.{Settings}
-use Rattle.kmin_tidy.specs.MinimalFiles.{MayBeRead}
-use Rattle.kmin_report.specs.Reports.{fault_line}
-use Rattle.kmin_tidy.specs.Reports.{notice_lines}
+use Rattle.kmin_tidy.proofs.Common.{◌≡◌, ◌≢◌, ℕ, List, [], ◌∷◌, ◌++◌, Some, None, map, refl, sym, ap, ◌∙◌, append-nil, ◌⊎◌, inl, inr, Tree, notice_pair, LoadKind, Read, OutOfMemory, readable, Disk, FailsOnce, MayFailOnce, content_at, TidySettings, MayBeRead, fault_line, notice_lines, IsRefused}
+use Rattle.kmin_tidy.proofs.Common.{IsFaulty, refused, unread, unopened, for_memory, problem_lines, report_lines, FileOutcome, Refused, Failed, Problem, FileReport}
 use Rattle.kmin_tidy.specs.Refusals as refusals
-use Rattle.kmin_tidy.specs.Refusals.{IsRefused}
-use Rattle.kmin_tidy.specs.checker.Readings.{IsFaulty, refused, unread, unopened, for_memory}
-use Rattle.kmin_tidy.specs.checker.ReportLines.{problem_line, problem_lines, report_lines}
-use Rattle.kmin_tidy.specs.declared.outcome.FileOutcome.{FileOutcome}
-use Rattle.kmin_tidy.specs.declared.outcome.FileOutcome.TheVariants.{Refused, Failed}
-use Rattle.kmin_tidy.specs.declared.report.Problem.{Problem}
-use Rattle.kmin_tidy.specs.declared.report.FileReport.{FileReport}
+use Rattle.kmin_tidy.specs.checker.ReportLines.{problem_line}
 
 -- a file with a fault of this kind has this outcome: `Failed` for a failed read, and `Refused` for all but lack of memory
 abbrev pub IsOutcomeOf : LoadKind → FileOutcome → Type 0
 IsOutcomeOf kind outcome = ((kind ≡ Read) × (outcome ≡ Failed)) ⊎ ((kind ≢ Read) × (kind ≢ OutOfMemory) × (outcome ≡ Refused))
 
-module _ (s : Settings) (a b : Disk) (path : List ℕ) (kind : LoadKind) (number : ℕ) (outcome : FileOutcome) (failed : kind ≡ Read → FailsOnce a b)
+module _ (s : TidySettings) (a b : Disk) (path : List ℕ) (kind : LoadKind) (number : ℕ) (outcome : FileOutcome) (failed : kind ≡ Read → FailsOnce a b)
     (once : MayFailOnce a b) where
   -- a file that can't be read or isn't accepted is refused, with the line of its fault on standard error
   pub refused_by : MayBeRead s a.state path → IsFaulty s.format s.tree (readable (content_at a.state path)) kind number → IsOutcomeOf kind outcome

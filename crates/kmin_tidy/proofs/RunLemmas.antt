@@ -1,14 +1,9 @@
 -- Runs, one file after another.
-use Rattle.std.proofs.Common.{◌≡◌, ℕ, false, List, [], ◌∷◌, ◌++◌, inl, refl, sym, ap, ◌∙◌, subst, map}
+use Rattle.kmin_tidy.proofs.Common.{◌≡◌, ℕ, false, List, [], ◌∷◌, ◌++◌, inl, refl, sym, ap, ◌∙◌, subst, map, Disk, DiskState, newest, content_at, TidySettings, IsKept, IsTidy, AreTidy, DoneFile, Run, one_more, HoldsMinimalFile, Minimal, ErrorLine}
 use Rattle.std.specs.List.{AllByRecursion}
-use Rattle.kmin_disk.specs.Disks.{Disk, DiskState, newest, content_at}
-use Rattle.kmin_tidy.specs.Options.{Settings}
-use Rattle.kmin_tidy.specs.Promises.{IsKept, IsTidy, AreTidy}
-use Rattle.kmin_tidy.specs.Runs.{DoneFile, path_of, Run, none, one_more, AreMinimal, HoldsMinimalFile}
-use Rattle.kmin_tidy.specs.declared.outcome.FileOutcome.TheVariants.{Minimal}
+use Rattle.kmin_tidy.specs.Runs.{path_of, none, AreMinimal}
 use Rattle.kmin_tidy.proofs.KeptPlaces.{stays_same, kept_after, minimal_kept}
 use Rattle.kmin_tidy.proofs.StepLemmas.{step_kept, step_places, step_unasked, step_minimal, step_tidy}
-use Rattle.kmin_report.specs.Reports.{ErrorLine}
 
 -- a property of all elements of a list is one of all elements of its front
 pub all_front : {A : Type 0} (P : A → Type 0) (xs ys : List A) → AllByRecursion P (xs ++ ys) → AllByRecursion P xs
@@ -32,7 +27,7 @@ map_last [] last = refl
 map_last (x ∷ front) last = ap (λ z. x.0 ∷ z) (map_last front last)
 
 -- after a run, each place is as before, or its file was replaced by its minimal file
-pub run_kept : (s : Settings) (a b : Disk) (files : List DoneFile) (text : List ℕ) (reports : List ErrorLine) → Run s a b files text reports
+pub run_kept : (s : TidySettings) (a b : Disk) (files : List DoneFile) (text : List ℕ) (reports : List ErrorLine) → Run s a b files text reports
     → (place : List ℕ) → IsKept s (a.state.history place) (b.state.history place)
 run_kept s a b files text reports none place = inl (stays_same (a.state.history place) (a.state.history place) refl)
 run_kept s a b files text reports (one_more between new front all path before line whole earlier own every outcome run step e w r) place =
@@ -40,14 +35,14 @@ run_kept s a b files text reports (one_more between new front all path before li
     (step_kept s between new path line own outcome step place)
 
 -- a run without `write` leaves the state of the disk unchanged
-pub run_unasked : (s : Settings) (a b : Disk) (files : List DoneFile) (text : List ℕ) (reports : List ErrorLine) → Run s a b files text reports
+pub run_unasked : (s : TidySettings) (a b : Disk) (files : List DoneFile) (text : List ℕ) (reports : List ErrorLine) → Run s a b files text reports
     → s.options.write ≡ false → b.state ≡ a.state
 run_unasked s a b files text reports none unasked = refl
 run_unasked s a b files text reports (one_more between new front all path before line whole earlier own every outcome run step e w r) unasked =
     step_unasked s between new path line own outcome step unasked ∙ run_unasked s a between front before earlier run unasked
 
 -- a run over files that are all minimal or refused already leaves the state of the disk unchanged, and has no line of standard output
-pub run_tidy : (s : Settings) (a b : Disk) (files : List DoneFile) (text : List ℕ) (reports : List ErrorLine) → Run s a b files text reports
+pub run_tidy : (s : TidySettings) (a b : Disk) (files : List DoneFile) (text : List ℕ) (reports : List ErrorLine) → Run s a b files text reports
     → AreTidy s a.state (map path_of files) → (b.state ≡ a.state) × (text ≡ [])
 run_tidy s a b files text reports none t = (refl, refl)
 run_tidy s a b files text reports (one_more between new front all path before line whole earlier own every outcome run step e w r) t =
@@ -60,7 +55,7 @@ run_tidy s a b files text reports (one_more between new front all path before li
     (it.0 ∙ before_it.0, w ∙ (ap (λ z. z ++ line) before_it.1 ∙ it.1))
 
 -- each file of a run with the outcome `Minimal` is a minimal file at the end of the run
-pub run_minimal : (s : Settings) (a b : Disk) (files : List DoneFile) (text : List ℕ) (reports : List ErrorLine) → Run s a b files text reports
+pub run_minimal : (s : TidySettings) (a b : Disk) (files : List DoneFile) (text : List ℕ) (reports : List ErrorLine) → Run s a b files text reports
     → AreMinimal s b.state files
 run_minimal s a b files text reports none = tt
 run_minimal s a b files text reports (one_more between new front all path before line whole earlier own every outcome run step e w r) =

@@ -1,9 +1,8 @@
 -- The status of a run, one file after another.
-use Rattle.std.proofs.Common.{◌≡◌, ℕ, ◌<◌, ◌≤◌, List, [], ◌∷◌, ◌++◌, refl, ap, ◌∙◌, max, arith}
-use Rattle.kmin_tidy.specs.Runs.{DoneFile, status_of, status_with}
-use Rattle.kmin_tidy.specs.checker.Statuses.{status_after, status_by}
-use Rattle.kmin_tidy.specs.declared.outcome.FileOutcome.{FileOutcome}
-use Rattle.kmin_tidy.specs.declared.outcome.FileOutcome.TheVariants.{Minimal, NotMinimal, Refused, Failed}
+use Rattle.std.proofs.Common.{max}
+use Rattle.kmin_tidy.specs.Runs.{status_of, status_with}
+use Rattle.kmin_tidy.specs.checker.Statuses.{status_by}
+use Rattle.kmin_tidy.proofs.Common.{◌≡◌, ℕ, ◌<◌, ◌≤◌, List, [], ◌∷◌, ◌++◌, refl, ap, ◌∙◌, arith, DoneFile, status_after, FileOutcome, Minimal, NotMinimal, Refused, Failed}
 use Rattle.std.proofs.lemmas.Bool.Decides.{nat_tests}
 
 first_status : (outcome : FileOutcome) → status_with outcome 0 ≡ status_after 0 outcome

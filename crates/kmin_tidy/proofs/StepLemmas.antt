@@ -1,19 +1,11 @@
 -- The disk after one file of a run.
-use Rattle.std.proofs.Common.{◌≡◌, ◌≢◌, ℕ, true, false, List, [], Option, Some, None, inl, inr, sym, ap, ◌∙◌, subst}
-use Rattle.kmin_disk.specs.Contents.{Content, nothing, file, unfinished, special}
-use Rattle.kmin_disk.specs.Disks.{Disk, DiskState, MayFailOnce, IsUnchanged, Replaces, content_at}
-use Rattle.kmin_disk.proofs.Places.{same_place_or_other}
-use Rattle.kmin_tidy.specs.Options.{Settings, Notices, refuses_notices}
-use Rattle.kmin_tidy.specs.MinimalFiles.{IsReadAs, HasMinimalFile, IsNotMinimal}
-use Rattle.kmin_tidy.specs.Steps.{Step, refused, noticed, minimal, shown, replaced, unwritten, unsynced, IsUnwritten, call_failed, names_taken, not_regular}
-use Rattle.kmin_tidy.specs.Promises.{IsMinimised, IsKept, IsTidy}
-use Rattle.kmin_tidy.specs.Runs.{HoldsMinimalFile}
-use Rattle.kmin_tidy.specs.declared.outcome.FileOutcome.{FileOutcome}
-use Rattle.kmin_tidy.specs.declared.outcome.FileOutcome.TheVariants.{Minimal, NotMinimal, Refused, Failed}
+use Rattle.kmin_tidy.proofs.Common.{◌≡◌, ◌≢◌, ℕ, true, false, List, [], Option, Some, None, inl, inr, sym, ap, ◌∙◌, subst, Content, nothing, file, unfinished, special, Disk, DiskState, MayFailOnce, content_at, same_place_or_other, TidySettings, Notices, refuses_notices, IsReadAs, HasMinimalFile}
+use Rattle.kmin_tidy.proofs.Common.{Step, noticed, minimal, shown, replaced, unwritten, unsynced, call_failed, names_taken, not_regular, IsMinimised, IsKept, IsTidy, HoldsMinimalFile, FileOutcome, Minimal, NotMinimal, Refused, Failed, IsRefused, ErrorLine}
+use Rattle.kmin_disk.specs.Disks.{IsUnchanged, Replaces}
+use Rattle.kmin_tidy.specs.MinimalFiles.{IsNotMinimal}
+use Rattle.kmin_tidy.specs.Steps.{refused, IsUnwritten}
 use Rattle.kmin_tidy.specs.Refusals as refusals
-use Rattle.kmin_tidy.specs.Refusals.{IsRefused}
 use Rattle.kmin_tidy.proofs.KeptPlaces.{stays_same, minimal_not, written_minimal, holds_read, holds_written}
-use Rattle.kmin_report.specs.Reports.{ErrorLine}
 
 same_state : (a b : Disk) → b ≡ a → b.state ≡ a.state
 same_state a b e = ap (λ (d : Disk). d.state) e
@@ -23,7 +15,7 @@ pub once_same : (a b : Disk) → MayFailOnce a b → b.state ≡ a.state
 once_same a b (inl e) = same_state a b e
 once_same a b (inr h) = h.same
 
-module _ (s : Settings) (a b : Disk) (path : List ℕ) where
+module _ (s : TidySettings) (a b : Disk) (path : List ℕ) where
   -- a file that is refused leaves the state of the disk as it was
   refused_same : (line : ErrorLine) (outcome : FileOutcome) → IsRefused s a b path outcome line → b.state ≡ a.state
   refused_same line outcome (refusals.faulty bytes kind number r first h o l) = once_same a b h
@@ -124,7 +116,7 @@ module _ (s : Settings) (a b : Disk) (path : List ℕ) where
   step_minimal line reports outcome (unsynced bytes least notices d w u l k o) m = let z : Failed ≡ Minimal = sym o ∙ m in (cc)
 
 -- a file of a tidy content has no minimal file of other bytes, and isn't accepted unless it is minimal
-tidy_content : (s : Settings) (content : Option Content) (bytes least : List ℕ) (notices : Notices) → IsTidy s content → IsReadAs content bytes
+tidy_content : (s : TidySettings) (content : Option Content) (bytes least : List ℕ) (notices : Notices) → IsTidy s content → IsReadAs content bytes
     → HasMinimalFile s bytes least notices → (refuses_notices s.options ≡ true → notices ≡ []) → least ≢ bytes → ⊥
 tidy_content s None bytes least notices t r m allowed other = t
 tidy_content s (Some nothing) bytes least notices t r m allowed other = r
@@ -135,14 +127,14 @@ tidy_content s (Some unfinished) bytes least notices t r m allowed other = t
 tidy_content s (Some special) bytes least notices t r m allowed other = t
 
 -- a path that leads to no file, or to a minimal or refused one, has no minimal file of other bytes
-pub tidy_same : (s : Settings) (disk : DiskState) (path bytes least : List ℕ) (notices : Notices) → IsTidy s (content_at disk path)
+pub tidy_same : (s : TidySettings) (disk : DiskState) (path bytes least : List ℕ) (notices : Notices) → IsTidy s (content_at disk path)
     → IsNotMinimal s disk path bytes least notices → ⊥
 tidy_same s disk path bytes least notices t d =
     tidy_content s (content_at disk path) bytes least notices t d.minimises.read.bytes_are d.minimises.minimal d.minimises.allowed d.differs
 
 -- a path that leads to no file, or to a minimal or refused one, has no line of standard output, and leaves the state of the disk
 -- unchanged
-pub step_tidy : (s : Settings) (a b : Disk) (path line : List ℕ) (reports : List ErrorLine) (outcome : FileOutcome) → Step s a b path line reports outcome
+pub step_tidy : (s : TidySettings) (a b : Disk) (path line : List ℕ) (reports : List ErrorLine) (outcome : FileOutcome) → Step s a b path line reports outcome
     → IsTidy s (content_at a.state path) → (b.state ≡ a.state) × (line ≡ [])
 step_tidy s a b path line reports outcome (refused report r l k) t = (refused_same s a b path report outcome r, l)
 step_tidy s a b path line reports outcome (noticed bytes notices r h some asked e l k o) t = (same_state a b e, l)

@@ -11,14 +11,14 @@ use Rattle.kc_dotconfig_model.specs.between.Formats.{file_format}
 use Rattle.kmin_tidy.specs.declared.options.TidyOptions.{TidyOptions}
 
 -- the settings of a run: the format of configuration files, the profile (how `imply` acts), the Kconfig tree, and the options
-pub record Settings : Type 0 where
+pub record TidySettings : Type 0 where
   pub format : FileFormat
   pub profile : Profile
   pub tree : Tree
   pub options : TidyOptions
 
 -- the settings of a run over a settled tree
-abbrev pub settings_of : Settled → Format → TidyOptions → Settings
+abbrev pub settings_of : Settled → Format → TidyOptions → TidySettings
 settings_of settled format options = record {
   format = file_format format;
   profile = profile_of settled;

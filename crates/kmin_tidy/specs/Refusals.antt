@@ -6,7 +6,7 @@ use Rattle.kc_dotconfig_model.specs.LoadFaults.{IsFirstFault, complete, cut_shor
 use Rattle.kmin_disk.specs.Contents.{IsOfKind, OpensAs, readable}
 use Rattle.kmin_disk.specs.Disks.{Disk, FailsOnce, MayFailOnce, content_at}
 use Rattle.kmin_disk.specs.declared.kind.FileKind.TheVariants.{NotRegular}
-use Rattle.kmin_tidy.specs.Options.{Settings}
+use Rattle.kmin_tidy.specs.Options.{TidySettings}
 use Rattle.kmin_tidy.specs.MinimalFiles.{MayBeRead, IsReadAt}
 use Rattle.kmin_report.specs.Reports.{ErrorLine, fault_line, not_regular_line}
 use Rattle.kmin_tidy.specs.declared.outcome.FileOutcome.{FileOutcome}
@@ -15,7 +15,7 @@ use Rattle.kmin_tidy.specs.declared.outcome.FileOutcome.TheVariants.{Refused, Fa
 -- The file at a path is refused, with this outcome and this line of standard error, and no file changes: it has a first fault, and a
 -- read after the fault may have failed; a read fails before one, or it can't be opened, and that failure is counted; or under the
 -- option `--write` it isn't a regular file.
-pub data IsRefused (s : Settings) (old new : Disk) (path : List ℕ) (outcome : FileOutcome) (line : ErrorLine) : Type 0 where
+pub data IsRefused (s : TidySettings) (old new : Disk) (path : List ℕ) (outcome : FileOutcome) (line : ErrorLine) : Type 0 where
   faulty : (bytes : List ℕ) (kind : LoadKind) (number : ℕ) → IsReadAt s old.state path bytes
       → IsFirstFault s.format s.tree complete bytes kind number → MayFailOnce old new → outcome ≡ Refused
       → line ≡ fault_line path number kind → IsRefused s old new path outcome line

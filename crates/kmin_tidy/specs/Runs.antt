@@ -3,7 +3,7 @@ use Rattle.std.specs.Prelude.{◌≡◌, ℕ, List, [], ◌∷◌, ◌++◌, map
 use Rattle.std.specs.Borrow.{Bor}
 use Rattle.std.specs.List.{AllByRecursion}
 use Rattle.kmin_disk.specs.Disks.{Disk, DiskState, History}
-use Rattle.kmin_tidy.specs.Options.{Settings}
+use Rattle.kmin_tidy.specs.Options.{TidySettings}
 use Rattle.kmin_tidy.specs.MinimalFiles.{IsMinimalFile, IsReadAs}
 use Rattle.kmin_tidy.specs.Steps.{Step}
 use Rattle.kmin_tidy.specs.declared.outcome.FileOutcome.{FileOutcome}
@@ -20,7 +20,7 @@ path_of done = done.0
 
 -- A run goes over files one after another, each on the disk that those before it left. It has this disk at the end, these files
 -- with their outcomes, this text for standard output and these lines of standard error.
-pub data Run (s : Settings) (old : Disk) : Disk → List DoneFile → (text : List ℕ) → (reports : List ErrorLine) → Type 0 where
+pub data Run (s : TidySettings) (old : Disk) : Disk → List DoneFile → (text : List ℕ) → (reports : List ErrorLine) → Type 0 where
   none : Run s old old [] [] []
   one_more : (between new : Disk) (files all : List DoneFile) (path text line whole : List ℕ) (reports own every : List ErrorLine) (outcome : FileOutcome)
       → Run s old between files text reports → Step s between new path line own outcome
@@ -40,12 +40,12 @@ status_of [] = 0
 status_of (done ∷ files) = status_with done.1 (status_of files)
 
 -- a name in a folder holds a minimal file, as far as its content is known
-abbrev pub HoldsMinimalFile : Settings → History → Type 0
+abbrev pub HoldsMinimalFile : TidySettings → History → Type 0
 HoldsMinimalFile s [] = Unit {0}
 HoldsMinimalFile s (content ∷ before) = (bytes : List ℕ) × IsReadAs (Some content) bytes × IsMinimalFile s bytes
 
 -- each file of a run with the outcome `Minimal` is a minimal file on this disk, as far as its content is known
-abbrev pub AreMinimal : Settings → DiskState → List DoneFile → Type 0
+abbrev pub AreMinimal : TidySettings → DiskState → List DoneFile → Type 0
 AreMinimal s disk files = AllByRecursion (λ done. done.1 ≡ Minimal → HoldsMinimalFile s (disk.history (disk.place done.0))) files
 
 -- the paths of a list of borrowed texts, in order
@@ -54,7 +54,7 @@ paths_of paths = map (λ (path : Bor (List ℕ)). path.now) paths
 
 -- A run goes over all files of these paths, with this text for standard output, these lines of standard error and this status. At
 -- its end each file with the outcome `Minimal` is a minimal file.
-pub record Tidies (s : Settings) (old new : Disk) (paths : List (List ℕ)) (text : List ℕ) (reports : List ErrorLine) (status : ℕ) : Type 0 where
+pub record Tidies (s : TidySettings) (old new : Disk) (paths : List (List ℕ)) (text : List ℕ) (reports : List ErrorLine) (status : ℕ) : Type 0 where
   pub files : List DoneFile
   pub paths_are : map path_of files ≡ paths
   pub run : Run s old new files text reports

@@ -5,7 +5,7 @@ use Rattle.kmin_disk.specs.Contents.{IsOfKind}
 use Rattle.kmin_disk.specs.Disks.{Disk, IsUnchanged, Replaces, content_at}
 use Rattle.kmin_disk.specs.Replacements.{HasTakenName}
 use Rattle.kmin_disk.specs.declared.kind.FileKind.TheVariants.{NotRegular}
-use Rattle.kmin_tidy.specs.Options.{Settings, Notices, refuses_notices}
+use Rattle.kmin_tidy.specs.Options.{TidySettings, Notices, refuses_notices}
 use Rattle.kmin_tidy.specs.MinimalFiles.{IsReadAt, HasNotices, Minimises, IsNotMinimal}
 use Rattle.kmin_tidy.specs.Refusals.{IsRefused}
 use Rattle.kmin_tidy.specs.Reports.{file_line, notice_lines}
@@ -29,7 +29,7 @@ pub record IsUnsynced (old new : Disk) (path least : List ℕ) : Type 0 where
 
 -- What a run does with one file, whatever its other files are: the disk after it, its line of standard output, its lines of
 -- standard error and its outcome.
-pub data Step (s : Settings) (old new : Disk) (path line : List ℕ) (reports : List ErrorLine) (outcome : FileOutcome) : Type 0 where
+pub data Step (s : TidySettings) (old new : Disk) (path line : List ℕ) (reports : List ErrorLine) (outcome : FileOutcome) : Type 0 where
   -- the file isn't accepted
   refused : (report : ErrorLine) → IsRefused s old new path outcome report → line ≡ [] → reports ≡ report ∷ []
       → Step s old new path line reports outcome

@@ -22,7 +22,7 @@ use crate::file_lines::push_file_line;
 use crate::options::TidyOptions;
 use crate::outcome::FileOutcome;
 use crate::report::{FileReport, Problem};
-use crate::stop::Stop;
+use crate::stop::TidyStop;
 use kc_config::Config;
 use kc_dotconfig::{ChoiceLine, Format, Fragment, LoadFault, LoadKind, Notice, NoticeKind};
 use kc_minimal::{add_lines, minimal_text, other_choices};
@@ -39,7 +39,7 @@ pub(crate) fn tidy_file<D: WriteDisk>(
     path: &str,
     disk: &mut D,
     text: &mut Vec<u8>,
-) -> Result<FileReport, Stop>
+) -> Result<FileReport, TidyStop>
     ensures settled { config.new.system ≡ config.old.system }
     ensures step { IfOk result (λ report. (line : List ℕ) × (text.new.items ≡ text.old.items ++ line)
         × Step (settings_of config.old.system format.now options) (D.disk disk.old)
@@ -92,12 +92,12 @@ fn report_of_problem(alloc: Global, problem: Problem, outcome: FileOutcome) -> F
 }
 
 /// The report of a file that can't be read or isn't accepted.
-fn report_fault(alloc: Global, fault: LoadFault) -> Result<FileReport, Stop>
+fn report_fault(alloc: Global, fault: LoadFault) -> Result<FileReport, TidyStop>
     ensures refused { IfOk result (IsRefusedAs fault) }
-    ensures stopped { IfErr result (λ stop. stop ≡ Stop.Memory) }
+    ensures stopped { IfErr result (λ stop. stop ≡ TidyStop.Memory) }
 {
     match fault.kind {
-        LoadKind::OutOfMemory => Err(Stop::Memory),
+        LoadKind::OutOfMemory => Err(TidyStop::Memory),
         LoadKind::Read => Ok(report_of_problem(alloc, Problem::Fault(fault), FileOutcome::Failed)),
         _ => Ok(report_of_problem(alloc, Problem::Fault(fault), FileOutcome::Refused)),
     }
@@ -113,7 +113,7 @@ fn tidy_accepted<D: WriteDisk>(
     file: AcceptedFile,
     disk: &mut D,
     text: &mut Vec<u8>,
-) -> Result<FileReport, Stop>
+) -> Result<FileReport, TidyStop>
     requires may { MayBeRead (settings_of config.old.system format.now options) (D.disk disk.old).state path.now }
     requires accepted { IsAcceptedAs (file_format format.now) (tree_in config.old) (readable (content_at (D.disk disk.old).state path.now)) file }
     ensures settled { config.new.system ≡ config.old.system }
@@ -197,11 +197,11 @@ fn tidy_allowed<D: WriteDisk>(
     bytes: &[u8],
     disk: &mut D,
     text: &mut Vec<u8>,
-) -> Result<FileEnd, Stop>
+) -> Result<FileEnd, TidyStop>
     ensures rewritten { IfOk result (λ end. (line : List ℕ) × (text.new.items ≡ text.old.items ++ line) × (least : List ℕ)
         × IsCanonicalText (file_format format.now) (profile_of config.now.system) (tree_in config.now) config.now.values least
         × IsRewritten options.output_form options.write (D.disk disk.old) (D.disk disk.new) path.now bytes.now least line end) }
-    ensures stopped { IfErr result (λ stop. ((stop ≡ Stop.Memory) × (D.disk disk.new ≡ D.disk disk.old)) ⊎ ((least : List ℕ)
+    ensures stopped { IfErr result (λ stop. ((stop ≡ TidyStop.Memory) × (D.disk disk.new ≡ D.disk disk.old)) ⊎ ((least : List ℕ)
         × IsCanonicalText (file_format format.now) (profile_of config.now.system) (tree_in config.now) config.now.values least
         × StopsRewrite options.write (D.disk disk.old) (D.disk disk.new) path.now bytes.now least stop)) }
 {
@@ -270,7 +270,7 @@ fn rewrite<D: WriteDisk>(
     least: &[u8],
     disk: &mut D,
     text: &mut Vec<u8>,
-) -> Result<FileEnd, Stop>
+) -> Result<FileEnd, TidyStop>
     ensures rewritten { IfOk result (λ end. (line : List ℕ) × (text.new.items ≡ text.old.items ++ line)
         × IsRewritten options.output_form options.write (D.disk disk.old) (D.disk disk.new) path.now bytes.now least.now line end) }
     ensures stopped { IfErr result (StopsRewrite options.write (D.disk disk.old) (D.disk disk.new) path.now bytes.now least.now) }
@@ -311,7 +311,7 @@ fn write_listed<D: WriteDisk>(
     disk: &mut D,
     text: &mut Vec<u8>,
     start: usize,
-) -> Result<FileEnd, Stop>
+) -> Result<FileEnd, TidyStop>
     ensures written { IfOk result (IsWritten (D.disk disk.old) (D.disk disk.new) path.now least.now) }
     ensures listed { IfOk result (λ end. text.new.items ≡ (if end.is_replaced then text.old.items else take start text.old.items)) }
     ensures stopped { IfErr result (StopsWrite (D.disk disk.old) (D.disk disk.new) path.now) }
@@ -329,7 +329,7 @@ fn write_file<D: WriteDisk>(
     path: &str,
     least: &[u8],
     disk: &mut D,
-) -> Result<FileEnd, Stop>
+) -> Result<FileEnd, TidyStop>
     ensures written { IfOk result (IsWritten (D.disk disk.old) (D.disk disk.new) path.now least.now) }
     ensures stopped { IfErr result (StopsWrite (D.disk disk.old) (D.disk disk.new) path.now) }
 {
@@ -344,13 +344,13 @@ fn write_file<D: WriteDisk>(
 }
 
 /// The outcome of a file that couldn't be replaced, or not for good; or the end of the run.
-fn end_of_fault(fault: ReplaceFault) -> Result<FileEnd, Stop>
+fn end_of_fault(fault: ReplaceFault) -> Result<FileEnd, TidyStop>
     ensures failed { IfOk result (IsFailedBy fault) }
     ensures stopped { IfErr result (IsStoppedBy fault) }
 {
     match fault {
-        ReplaceFault::OutOfMemory => Err(Stop::Memory),
-        ReplaceFault::Left(new_path) => Err(Stop::Left(new_path)),
+        ReplaceFault::OutOfMemory => Err(TidyStop::Memory),
+        ReplaceFault::Left(new_path) => Err(TidyStop::Left(new_path)),
         ReplaceFault::NotRegular => Ok(not_written(false)),
         ReplaceFault::Unchanged => Ok(not_written(false)),
         ReplaceFault::NamesTaken => Ok(not_written(false)),

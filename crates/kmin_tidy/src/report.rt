@@ -7,10 +7,10 @@ ghost use Rattle.kmin_report.specs.StandardError.{TakesLine, TakesLines};
 ghost use Rattle.kmin_tidy.specs.checker.ReportLines.{problem_line, problem_lines, report_lines, stop_line};
 
 use crate::outcome::FileOutcome;
-use crate::stop::Stop;
+use crate::stop::TidyStop;
 use kc_dotconfig::{LoadFault, Notice};
 use kc_tree::Tree;
-use kmin_report::{Messages, Report};
+use kmin_report::{Message, Messages};
 
 /// Why a file isn't read or replaced.
 #[derive(Clone, Copy, Debug, PartialEq, Eq)]
@@ -46,7 +46,7 @@ fn report_notices<E: Messages>(path: &str, notices: &[Notice], tree: &Tree, err:
 {
     for notice in notices {
         let Notice { line, kind } = *notice;
-        err.write_report(Report::Notice {
+        err.write_report(Message::Notice {
             path,
             line,
             kind,
@@ -66,22 +66,22 @@ fn report_problem<E: Messages>(path: &str, problem: Option<Problem>, err: &mut E
 }
 
 /// The report of a problem.
-fn report_of(path: &str, problem: Problem) -> Report<'_>
+fn report_of(path: &str, problem: Problem) -> Message<'_>
     ensures { report_line result ≡ problem_line path.now problem }
 {
     match problem {
-        Problem::Fault(LoadFault { line, kind }) => Report::FileFault { path, line, kind },
-        Problem::NotRegular => Report::NotRegular(path),
-        Problem::Write => Report::Unwritten(path),
+        Problem::Fault(LoadFault { line, kind }) => Message::FileFault { path, line, kind },
+        Problem::NotRegular => Message::NotRegular(path),
+        Problem::Write => Message::Unwritten(path),
     }
 }
 
 /// Writes the last line of standard error of a run that ends early: the reason.
-pub(crate) fn report_stop<E: Messages>(stop: &Stop, err: &mut E)
+pub(crate) fn report_stop<E: Messages>(stop: &TidyStop, err: &mut E)
     ensures { TakesLine (E.taken err.old) (E.failures err.old) (stop_line stop.now) (E.taken err.new) (E.failures err.new) }
 {
     match stop {
-        Stop::Memory => err.write_report(Report::OutOfMemory),
-        Stop::Left(new_path) => err.write_report(Report::Left(new_path)),
+        TidyStop::Memory => err.write_report(Message::OutOfMemory),
+        TidyStop::Left(new_path) => err.write_report(Message::Left(new_path)),
     }
 }

@@ -12,7 +12,7 @@ ghost use Rattle.kmin_tidy.specs.checker.Endings.{status_of_stop, IsWrittenOut};
 
 use crate::options::TidyOptions;
 use crate::report::report_stop;
-use crate::stop::Stop;
+use crate::stop::TidyStop;
 use crate::whole_run::{RunResult, tidy_all};
 use kc_dotconfig::Format;
 use kc_rules::Settled;
@@ -98,13 +98,13 @@ fn write_text<O: Sink, E: Messages>(tidied: &RunResult, out: &mut O, err: &mut E
 }
 
 /// Reports why a run ends early, and returns its status.
-fn end_early<E: Messages>(stop: &Stop, err: &mut E) -> u8
+fn end_early<E: Messages>(stop: &TidyStop, err: &mut E) -> u8
     ensures status { result ≡ status_of_stop stop.now }
     ensures reported { TakesLines (E.taken err.old) (E.failures err.old) (stop_line stop.now ∷ []) (E.taken err.new) (E.failures err.new) }
 {
     report_stop(stop, err);
     match stop {
-        Stop::Memory => 6,
-        Stop::Left(_) => 5,
+        TidyStop::Memory => 6,
+        TidyStop::Left(_) => 5,
     }
 }

@@ -9,7 +9,7 @@ ghost use Rattle.kmin_tidy.specs.checker.FileResults.{StopsRun};
 use crate::file_step::tidy_file;
 use crate::options::TidyOptions;
 use crate::report::report_file;
-use crate::stop::Stop;
+use crate::stop::TidyStop;
 use kc_config::Config;
 use kc_dotconfig::Format;
 use kc_rules::Settled;
@@ -33,7 +33,7 @@ pub(crate) fn tidy_all<D: WriteDisk, E: Messages>(
     paths: &[&str],
     disk: &mut D,
     err: &mut E,
-) -> Result<RunResult, Stop>
+) -> Result<RunResult, TidyStop>
     ensures run { IfOk result (λ tidied. (reports : List ErrorLine) × Tidies (settings_of settled.now format.now options)
         (D.disk disk.old) (D.disk disk.new)
         (paths_of paths.now) tidied.text.items reports tidied.status × TakesLines (E.taken err.old) (E.failures err.old) reports (E.taken err.new)
@@ -55,7 +55,7 @@ fn tidy_each<D: WriteDisk, E: Messages>(
     paths: &[&str],
     disk: &mut D,
     err: &mut E,
-) -> Result<RunResult, Stop>
+) -> Result<RunResult, TidyStop>
     ensures run { IfOk result (λ tidied. (reports : List ErrorLine) × Tidies (settings_of config.old.system format.now options)
         (D.disk disk.old) (D.disk disk.new)
         (paths_of paths.now) tidied.text.items reports tidied.status × TakesLines (E.taken err.old) (E.failures err.old) reports (E.taken err.new)

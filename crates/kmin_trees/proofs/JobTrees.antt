@@ -1,33 +1,23 @@
 -- The tree of a job, as it is or expanded: what its texts are, and where a run ends at it.
-use Rattle.std.proofs.Common.{◌≡◌, ℕ, ◌≤◌, List, [], ◌++◌, Some, None, Result, Ok, Err, IfOk, IfErr, map, refl, sym, ap, ◌∙◌, subst, append-nil}
-use Rattle.kc_tokens.specs.declared.language.Language.{Language}
-use Rattle.kc_tree_model.specs.TreeFiles.{Files}
+use Rattle.std.proofs.Common.{IfOk, append-nil}
+use Rattle.kmin_trees.proofs.Common.{◌≡◌, ℕ, ◌≤◌, List, [], ◌++◌, Some, None, Result, Ok, Err, IfErr, map, refl, sym, ap, ◌∙◌, subst, Language, Files, RecordedAnswers, Settings, RunError, Surroundings, AreTextsBelow, TreeTexts, AreTextsOfJob, ErrorLine, SpelledBytes, TakesLines, StopsAtTree}
+use Rattle.kmin_trees.proofs.Common.{MissesOnlyMissing, StopsExpanding, status_of, StopsAtTexts, plain_texts, rises_later}
 use Rattle.kc_macros_model.specs.Programs.{Notice}
-use Rattle.kc_macros_model.specs.AnswerFiles.{RecordedAnswers}
 use Rattle.kc_macros_model.specs.ReadingStates.{ExpandedFile}
 use Rattle.kc_expansion.specs.Expansions.{IsExpansion}
-use Rattle.kmin_options.specs.Jobs.{Expansion, Settings}
-use Rattle.kmin_report.specs.declared.run_error.RunError.{RunError}
+use Rattle.kmin_options.specs.Jobs.{Expansion}
 use Rattle.kmin_expansions.specs.declared.expanded_trees.ExpandedTexts.{ExpandedTexts}
-use Rattle.kmin_inputs.specs.FileContents.{Surroundings, AreTextsBelow}
 use Rattle.kmin_inputs.specs.JobAnswers.{AreJobAnswers}
-use Rattle.kmin_expansions.specs.JobTexts.{TreeTexts, AreExpandedTexts, AreTextsOfJob, as_they_are, expanded, expanded_texts}
+use Rattle.kmin_expansions.specs.JobTexts.{AreExpandedTexts, as_they_are, expanded, expanded_texts}
 use Rattle.kmin_report.specs.FileNames.{named_texts}
 use Rattle.kmin_expansions.specs.TreeFolders.{contents_below}
-use Rattle.kmin_report.specs.Reports.{ErrorLine, macro_notice_line}
-use Rattle.kmin_report.specs.StandardError.{SpelledBytes, TakesLines}
-use Rattle.kmin_trees.specs.Stops.{StopsInExpansion, StopsAtTree}
+use Rattle.kmin_report.specs.Reports.{macro_notice_line}
+use Rattle.kmin_trees.specs.Stops.{StopsInExpansion}
 use Rattle.kmin_trees.specs.Stops as stops
-use Rattle.kmin_trees.specs.MissingFiles.{MissesOnlyMissing}
-use Rattle.kmin_expansions.specs.between.ExpansionStops.{StopsExpanding}
 use Rattle.kmin_trees.specs.between.ExpandedStops.{StopsAtExpanded}
 use Rattle.kmin_trees.specs.between.ExpandedStops as expanded_stops
 use Rattle.kmin_expansions.specs.between.ExpansionStops as expanding
-use Rattle.kmin_report.specs.between.RunErrors.{status_of}
-use Rattle.kmin_trees.specs.between.TreeStops.{StopsAtTexts}
 use Rattle.kmin_trees.specs.between.TreeStops as tree_stops
-use Rattle.kmin_trees.specs.between.JobTrees.{plain_texts}
-use Rattle.kmin_inputs.proofs.FailureCounts.{rises_later}
 use Rattle.kmin_report.proofs.WriterLemmas.{lines_append}
 
 pub are_plain : (known : Surroundings) (settings : Settings) (texts : Files) → settings.expansion ≡ None

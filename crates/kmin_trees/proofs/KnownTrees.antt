@@ -1,6 +1,6 @@
 -- The tree of accepted texts is that of the known bytes.
-use Rattle.std.proofs.Common.{◌≡◌, ◌≢◌, ℕ, List, Option, Some, None, refl, sym, ap, ◌∙◌}
-use Rattle.kc_tree_model.specs.TreeFiles.{file_at, index_of_file}
+use Rattle.std.proofs.Common.{◌≢◌}
+use Rattle.kc_tree_model.specs.TreeFiles.{index_of_file}
 use Rattle.kc_tree_model.specs.Limits.{FileSource}
 use Rattle.kc_tree_model.specs.TreeReading.{Outcome}
 use Rattle.kc_tree_model.specs.MoreFiles.{reading_from, LacksNoFile, AreAmong}
@@ -9,8 +9,7 @@ use Rattle.kc_tree_model.specs.TreesOfFiles.{origin_of}
 use Rattle.kc_tree_model.proofs.MoreFiles.{more_files}
 use Rattle.kc_tree_model.proofs.ReadingLaws.ReadingCompleteness.{whole_read}
 use Rattle.kc_tree_model.proofs.ReadingLaws.ReadingSoundness.{whole_related, one_whole}
-use Rattle.kc_files.specs.TreeContents.{FileContent}
-use Rattle.kmin_inputs.specs.FileContents.{MatchContentStart, path_below}
+use Rattle.kmin_trees.proofs.Common.{◌≡◌, ℕ, List, Option, Some, None, refl, sym, ap, ◌∙◌, file_at, FileContent, MatchContentStart, path_below}
 use Rattle.kmin_trees.specs.KnownTrees.{known_bytes, BytesHaveOneTree, KnownFilesDetermineTheTree}
 
 -- texts that match what is known are among the known bytes

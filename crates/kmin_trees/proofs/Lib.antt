@@ -1,8 +1,9 @@
+pub mod Common
 pub mod TreeResults
 pub mod TextGrowth
 pub mod MissingFiles
 pub mod UnfailedStops
-pub mod FileNameLemmas
 pub mod JobTrees
 pub mod PathLists
 pub mod KnownTrees
+pub mod ErrorExits

@@ -1,32 +1,22 @@
 -- Files that count as missing while the files of a tree come in.
-use Rattle.std.proofs.Common.{◌≡◌, ℕ, suc, ◌+◌, ◌<◌, ◌≤◌, Bool, true, false, ◌⊎◌, inl, inr, List, [], ◌∷◌, length, get_or, take, Option, Some, None, Ok, Err, Result, refl, sym, ap, ◌∙◌, subst, map, arith}
-use Rattle.std.specs.Prelude.{◌≢◌, ◌++◌, bytes_eq, nat_lt, filter_map, is_some, not, IfOk, IfErr, IfNone, if◌then◌else◌}
-use Rattle.std.specs.List.{All}
-use Rattle.std.specs.Map.{lookup}
+use Rattle.kmin_trees.proofs.Common.{◌≡◌, ℕ, suc, ◌+◌, ◌<◌, ◌≤◌, Bool, true, false, ◌⊎◌, inl, inr, List, [], ◌∷◌, length, get_or, take, Option, Some, None, Ok, Err, Result, refl, sym, ap, ◌∙◌, arith, ◌≢◌, bytes_eq, option_map, IfOk, if◌then◌else◌, All, lookup, no_memory, Files, file_at, with_path}
+use Rattle.kmin_trees.proofs.Common.{with_file, TreeFault, OutOfMemory, TreeModel, FileContent, OpensAs, path_below, MayBeMissing, LacksOnlyMissing, MissesOnlyMissing, rises_later}
+use Rattle.std.specs.Prelude.{◌++◌, nat_lt, filter_map, is_some, not, IfErr, IfNone}
 use Rattle.std.proofs.lemmas.Bool.Decides.{nat_tests}
-use Rattle.kc_listing.specs.between.MemoryFaults.{no_memory}
 use Rattle.std.proofs.lemmas.List.Elements.{All-more, All-weaker, All-same, filter_passes}
-use Rattle.kc_value.specs.declared.reader_bytes.ReadEnd.{ReadEnd}
-use Rattle.kc_value.specs.declared.reader_bytes.ReadEnd.TheVariants.{AtFailure}
-use Rattle.kc_value.specs.ReaderFailures.{failures_after_reading}
-use Rattle.kc_tree_model.specs.TreeFiles.{Files, file_at, with_path, with_file}
 use Rattle.kc_tree_model.specs.Blocks.{Group, sourced_path}
 use Rattle.kc_tree_model.specs.Limits.{without_repeats}
 use Rattle.kc_tree_model.specs.TreeReading.{paths_or_fault}
 use Rattle.kc_tree_model.specs.TreesOfFiles.{absent_paths, AreWanted}
 use Rattle.kc_tree_model.specs.TreeFaults.{first_tree_fault}
-use Rattle.kc_tree_model.specs.declared.fault.TreeFault.{TreeFault}
-use Rattle.kc_tree_model.specs.declared.fault.TreeKind.TheVariants.{MissingFile, OutOfMemory}
+use Rattle.kc_tree_model.specs.declared.fault.TreeKind.TheVariants.{MissingFile}
 use Rattle.kc_tree_model.proofs.ReadingLaws.TreesOfRelation.{tree_related, reported_related}
-use Rattle.kc_tree.specs.TreeModel.{TreeModel}
 use Rattle.kmin_trees.specs.between.Readings.{IsReadWith}
 use Rattle.kmin_trees.specs.declared.read_trees.ReadTree.{ReadTree}
-use Rattle.kc_files.specs.TreeContents.{FileContent, HasRisen}
-use Rattle.kmin_disk.specs.Contents.{OpensAs}
-use Rattle.kmin_inputs.specs.FileContents.{path_below}
-use Rattle.kmin_trees.specs.MissingFiles.{MayBeMissing, LacksOnlyMissing, lacks_none, lacks_some, MissesOnlyMissing}
-use Rattle.kmin_trees.specs.between.InsertedFiles.{AreTried, AreInserted}
-use Rattle.kmin_inputs.proofs.FailureCounts.{rises_earlier, rises_later, closed_rises}
+use Rattle.kc_files.specs.TreeContents.{HasRisen}
+use Rattle.kmin_trees.specs.MissingFiles.{lacks_none, lacks_some}
+use Rattle.kmin_trees.specs.between.InsertedFiles.{AreTried}
+use Rattle.kmin_inputs.proofs.FailureCounts.{rises_earlier, closed_rises}
 
 -- a file that can't be opened isn't known to be there
 pub unopened : (content : FileContent) (a b : ℕ) → OpensAs content None → MayBeMissing content a b
@@ -45,10 +35,6 @@ pub missing_over : (content : FileContent) (a b c d : ℕ) → a ≤ b → b ≤
 missing_over None a b c d l m n h = tt
 missing_over (Some None) a b c d l m n h = tt
 missing_over (Some (Some bytes)) a b c d l m n h = rises_earlier a c d n (rises_later a b c l m h)
-
--- the count of a reader's failures rises where reading ends at a failure
-pub rose_at_failure : (before after : ℕ) (end : ReadEnd) → end ≡ AtFailure → after ≡ failures_after_reading before end → HasRisen before after
-rose_at_failure before after end e h = λ lt. omega (arith, h ∙ ap (failures_after_reading before) e)
 
 -- texts of which each missing file may count as missing
 pub lacks_over : (content_of : List ℕ → FileContent) (root first : List ℕ) (texts : Files) (a b c d : ℕ) → a ≤ b → b ≤ c → c ≤ d
@@ -174,3 +160,14 @@ lacks_by_fault content_of root first texts a b fault (inr w) k = lacks_none faul
 pub any_err : {T E : Type 0} (r : Result T E) (P : E → Type 0) → ((e : E) → P e) → IfErr r P
 any_err (Ok x) P h = tt
 any_err (Err e) P h = h e
+
+-- by the test of its look-up a path has a text, or none
+pub has_text : {B : Type 0} (f : B → List ℕ) (found : Option B) (test : Bool) (text : Option (List ℕ)) → test ≡ is_some found → test ≡ true
+    → option_map f found ≡ text → text ≢ None
+has_text f None test text e t m = λ none. cc
+has_text f (Some x) test text e t m = λ none. cc
+
+pub lacks_text : {B : Type 0} (f : B → List ℕ) (found : Option B) (test : Bool) (text : Option (List ℕ)) → test ≡ is_some found → test ≡ false
+    → option_map f found ≡ text → text ≡ None
+lacks_text f None test text e t m = sym m
+lacks_text f (Some x) test text e t m = cc

@@ -1,8 +1,7 @@
 -- The names of a tree's files, one after the other.
-use Rattle.std.proofs.Common.{◌≡◌, ℕ, zero, suc, ◌+◌, ◌<◌, List, [], ◌∷◌, ◌++◌, length, map, take, Option, Some, None, refl, sym, ap, ◌∙◌, arith}
-use Rattle.std.specs.Prelude.{option_map, slice_get, unwrap_or}
-use Rattle.kc_tree_model.specs.TreeFiles.{Files}
-use Rattle.kmin_trees.specs.LinedTrees.{name_text, names_by_number}
+use Rattle.std.proofs.Common.{zero}
+use Rattle.std.specs.Prelude.{slice_get}
+use Rattle.kmin_trees.proofs.Common.{◌≡◌, ℕ, suc, ◌+◌, ◌<◌, List, [], ◌∷◌, ◌++◌, length, map, take, Option, Some, None, refl, sym, ap, ◌∙◌, arith, option_map, unwrap_or, Files, name_text, names_by_number}
 use Rattle.kmin_trees.specs.between.FileNames.{text_at}
 
 -- the name of a file

@@ -1,19 +1,15 @@
 -- The texts of a tree, as they come in.
-use Rattle.std.proofs.Common.{◌≡◌, ◌≤◌, ℕ, Bool, true, false, List, [], ◌∷◌, ◌++◌, Option, Some, None, Result, Ok, Err, Vec, length, take, ◌⊎◌, inl, inr, refl, sym, ap, ◌∙◌, Decides}
+use Rattle.std.proofs.Common.{Vec, Decides}
 use Rattle.std.proofs.lemmas.Slice.Eq.{bytes_eq-Decides}
-use Rattle.std.proofs.lemmas.List.{append-nil, take_all}
+use Rattle.std.proofs.lemmas.List.{append-nil}
 use Rattle.std.proofs.Math.Seq.{take-append_seam}
-use Rattle.std.specs.Prelude.{bytes_eq, IfOk, IfSome, if◌then◌else◌}
+use Rattle.std.specs.Prelude.{IfSome}
 use Rattle.std.specs.Io.KnownBytes.{Consumes, IsAtEnd}
 use Rattle.std.specs.declared.alloc.Global.{Global}
 use Rattle.std.specs.declared.alloc.AllocError.{AllocError}
-use Rattle.std.specs.Map.{lookup}
+use Rattle.kmin_trees.proofs.Common.{◌≡◌, ◌≤◌, ℕ, Bool, true, false, List, [], ◌∷◌, ◌++◌, Option, Some, None, Result, Ok, Err, length, take, ◌⊎◌, inl, inr, refl, sym, ap, ◌∙◌, take_all, bytes_eq, IfOk, if◌then◌else◌, lookup, Language, Files, file_at, with_path, with_file, FileContent}
+use Rattle.kmin_trees.proofs.Common.{MatchContentStart, AreTextsBelow, path_below, OpensAs}
 use Rattle.kc_value.specs.declared.limits.TheConstants.{MAX_FILE_BYTES}
-use Rattle.kc_tokens.specs.declared.language.Language.{Language}
-use Rattle.kc_tree_model.specs.TreeFiles.{Files, file_at, with_path, with_file}
-use Rattle.kc_files.specs.TreeContents.{FileContent}
-use Rattle.kmin_inputs.specs.FileContents.{MatchContentStart, AreTextsBelow, path_below}
-use Rattle.kmin_disk.specs.Contents.{OpensAs}
 
 -- bytes that were read up to the end, or up to the limit, begin a file
 front_of : (b : List ℕ) (after : Option (List ℕ)) (bytes : List ℕ) → Consumes (Some b) after bytes → length bytes ≤ MAX_FILE_BYTES

@@ -1,23 +1,17 @@
 -- The result of reading and settling texts.
-use Rattle.std.proofs.Common.{◌≡◌, ℕ, List, length, ◌≢◌, ap, ◌⊎◌, inl, inr, Result, Ok, Err, IfOk, IfErr, refl, sym, subst}
-use Rattle.kc_tree_model.specs.TreeFiles.{Files}
+use Rattle.std.proofs.Common.{◌≢◌, IfOk}
+use Rattle.kmin_trees.proofs.Common.{◌≡◌, ℕ, List, length, ap, ◌⊎◌, inl, inr, Result, Ok, Err, IfErr, refl, sym, subst, Files, TreeFault, TreeModel, OutOfMemory, no_memory, RunError, status_of, StopsAtTexts, at_texts, for_memory}
 use Rattle.kc_tree_model.specs.Trees.{Tree}
 use Rattle.kc_tree_model.specs.TreesOfFiles.{IsTreeOfFiles, IsReportedFault}
-use Rattle.kc_tree_model.specs.declared.fault.TreeFault.{TreeFault}
 use Rattle.kc_rules_model.specs.Dependencies.{dependencies}
 use Rattle.kc_rules_model.specs.SettledTrees.{IsSettledTree}
 use Rattle.kc_rules.specs.declared.fault.SettleFault.{SettleFault}
 use Rattle.kc_rules.specs.declared.fault.SettleFault.TheVariants.{Cycle, OutOfMemory as SettleMemory}
 use Rattle.kc_rules.specs.SettleFaults.{ReportsTreeCycle}
-use Rattle.kc_tree.specs.TreeModel.{TreeModel}
-use Rattle.kc_tree_model.specs.declared.fault.TreeKind.TheVariants.{OutOfMemory}
-use Rattle.kc_listing.specs.between.MemoryFaults.{no_memory}
-use Rattle.kmin_report.specs.declared.run_error.RunError.{RunError}
 use Rattle.kmin_trees.specs.AcceptedTrees.{AreAccepted}
 use Rattle.kmin_trees.specs.Stops.{cyclic}
 use Rattle.kmin_trees.specs.between.Readings.{IsRead}
-use Rattle.kmin_report.specs.between.RunErrors.{status_of}
-use Rattle.kmin_trees.specs.between.TreeStops.{StopsAtTexts, at_texts, for_memory, settle_status, settle_lines}
+use Rattle.kmin_trees.specs.between.TreeStops.{settle_status, settle_lines}
 
 -- a tree that is read and settled is accepted
 pub accepted : (texts : Files) (first : List ℕ) (settled read : TreeModel) → settled ≡ read → IsTreeOfFiles texts first read.tree → IsSettledTree read.tree

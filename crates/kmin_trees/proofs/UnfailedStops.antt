@@ -1,11 +1,6 @@
 -- Ends of a run that don't have the status of a failure.
-use Rattle.std.proofs.Common.{◌≡◌, ℕ, List, arith}
-use Rattle.kc_tree_model.specs.TreeFiles.{Files}
-use Rattle.kc_macros_model.specs.AnswerFiles.{RecordedAnswers}
+use Rattle.kmin_trees.proofs.Common.{◌≡◌, ℕ, List, arith, Files, RecordedAnswers, ErrorLine, StopsAtTexts, at_texts, for_memory, StopsExpanding}
 use Rattle.kc_files.specs.TreeContents.{TreeContents}
-use Rattle.kmin_report.specs.Reports.{ErrorLine}
-use Rattle.kmin_trees.specs.between.TreeStops.{StopsAtTexts, at_texts, for_memory}
-use Rattle.kmin_expansions.specs.between.ExpansionStops.{StopsExpanding}
 use Rattle.kmin_expansions.specs.between.ExpansionStops as expanding
 
 -- texts that end a run don't end it with the status of a failure

@@ -3,7 +3,7 @@ use Rattle.std.specs.Prelude.{ℕ, List, length}
 use Rattle.kc_tree_model.specs.TreeFiles.{Files}
 use Rattle.kc_tree_model.specs.Trees.{Tree}
 use Rattle.kc_tree_model.specs.TreesOfFiles.{IsTreeOfFiles}
-use Rattle.kc_system.specs.Dependencies.{HasNoCycle}
+use Rattle.kc_solver.specs.Dependencies.{HasNoCycle}
 use Rattle.kc_rules_model.specs.Dependencies.{dependencies}
 
 -- Texts are accepted as this tree: they are read as it without a fault, and no symbol or choice depends on itself ("Kconfig

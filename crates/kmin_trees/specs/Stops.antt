@@ -5,7 +5,7 @@ use Rattle.kc_tree_model.specs.TreeFiles.{Files}
 use Rattle.kc_tree_model.specs.Trees.{Tree}
 use Rattle.kc_tree_model.specs.TreesOfFiles.{IsTreeOfFiles, IsReportedFault}
 use Rattle.kc_tree_model.specs.declared.fault.TreeFault.{TreeFault}
-use Rattle.kc_system.specs.Dependencies.{IsCycle, IsNamedCycle}
+use Rattle.kc_solver.specs.Dependencies.{IsCycle, IsNamedCycle}
 use Rattle.kc_rules_model.specs.Dependencies.{dependencies}
 use Rattle.kc_macros_model.specs.Programs.{Fault, Notice}
 use Rattle.kc_macros_model.specs.AnswerFiles.{RecordedAnswers}

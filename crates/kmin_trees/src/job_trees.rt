@@ -22,14 +22,14 @@ ghost use Rattle.kmin_trees.specs.between.TreeStops.{StopsAtTexts};
 
 use crate::file_names::FileNames;
 use crate::read_trees::{KeptLines, ReadTree};
-use crate::tree_files::{TreeReading, gather};
+use crate::tree_files::{GatheredFiles, gather};
 use crate::trees::settled_read;
 use kc_expansion::ExpandedTree;
 use kc_rules::{Profile, Settled};
 use kc_tree::{Texts, TreeFault};
 use kmin_expansions::{ExpandedTexts, expanded_tree};
 use kmin_inputs::{Files, job_answers};
-use kmin_options::{Expansion, Settings};
+use kmin_options::{ExpansionOptions, Settings};
 use kmin_report::{Messages, RunError};
 use std::alloc::Global;
 
@@ -80,12 +80,12 @@ pub(crate) fn kept_tree<L: KeptLines, F: Files, E: Messages>(
 {
     match &settings.expansion {
         Some(expansion) => expanded(alloc, settings, expansion, files, err),
-        None => as_it_is(alloc, settings, files, err),
+        None => unexpanded_tree(alloc, settings, files, err),
     }
 }
 
 /// The settled tree of a job without the expansion of macros. Reports why it is refused.
-fn as_it_is<L: KeptLines, F: Files, E: Messages>(
+fn unexpanded_tree<L: KeptLines, F: Files, E: Messages>(
     alloc: Global,
     settings: &Settings<'_>,
     files: &mut F,
@@ -99,7 +99,7 @@ fn as_it_is<L: KeptLines, F: Files, E: Messages>(
     ensures rising { F.failures files.old ≤ F.failures files.new }
     ensures failed { IfErr result (λ stop. status_of stop ≡ 5 → HasRisen (F.failures files.old) (F.failures files.new)) }
 {
-    let TreeReading { texts, read } = gather::<L, F>(
+    let GatheredFiles { texts, read } = gather::<L, F>(
         alloc,
         settings.root,
         settings.tree,
@@ -121,7 +121,7 @@ fn as_it_is<L: KeptLines, F: Files, E: Messages>(
 fn expanded<L: KeptLines, F: Files, E: Messages>(
     alloc: Global,
     settings: &Settings<'_>,
-    expansion: &Expansion<'_>,
+    expansion: &ExpansionOptions<'_>,
     files: &mut F,
     err: &mut E,
 ) -> Result<JobTree<L>, RunError>
@@ -140,7 +140,7 @@ fn expanded<L: KeptLines, F: Files, E: Messages>(
 fn expanded_files<F: Files, E: Messages>(
     alloc: Global,
     settings: &Settings<'_>,
-    expansion: &Expansion<'_>,
+    expansion: &ExpansionOptions<'_>,
     files: &mut F,
     err: &mut E,
 ) -> Result<ExpandedTexts, RunError>

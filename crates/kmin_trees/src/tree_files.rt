@@ -21,22 +21,22 @@ use std::alloc::{AllocError, Global};
 
 /// The texts of a tree's files, and the result of reading them as a tree, with what is kept of their lines.
 #[derive(Drop)]
-pub(crate) struct TreeReading<L> {
+pub(crate) struct GatheredFiles<L> {
     pub(crate) texts: Texts,
     pub(crate) read: Result<ReadTree<L>, TreeFault>,
 }
 
 /// The room that is left for the files of a tree: their number and their bytes.
 #[derive(Drop)]
-struct Room {
+struct Budget {
     files: u32,
     bytes: usize,
 }
 
-impl Room {
+impl Budget {
     /// Room for a whole tree.
-    fn whole() -> Room {
-        Room {
+    fn whole() -> Budget {
+        Budget {
             files: MAX_FILES as u32,
             bytes: MAX_FILE_BYTES,
         }
@@ -62,7 +62,7 @@ pub(crate) fn gather<L: KeptLines, F: Files>(
     first: &str,
     language: Language,
     files: &mut F,
-) -> Result<TreeReading<L>, AllocError>
+) -> Result<GatheredFiles<L>, AllocError>
     ensures same { F.surroundings files.new ≡ F.surroundings files.old }
     ensures below { IfOk result (λ g. AreTextsBelow (F.surroundings files.old).content root.now language g.texts) }
     ensures read { IfOk result (λ g. IsReadWith L L.are_of g.texts first.now g.read) }
@@ -76,7 +76,7 @@ pub(crate) fn gather<L: KeptLines, F: Files>(
         drop(read);
         return gather_wanted::<L, F>(alloc, root, first, files, texts);
     }
-    Ok(TreeReading { texts, read })
+    Ok(GatheredFiles { texts, read })
 }
 
 /// Inserts the first file of a tree, and the files that the lines of its files seem to source.
@@ -92,7 +92,7 @@ fn open_first<F: Files>(
     ensures below { AreTextsBelow (F.surroundings files.old).content root.now texts.old.language texts.new }
     ensures rising { F.failures files.old ≤ F.failures files.new }
 {
-    let mut room = Room::whole();
+    let mut room = Budget::whole();
     insert_one(alloc, root, first, &mut room, files, texts)?;
     open_ahead(alloc, root, &mut room, files, texts)
 }
@@ -105,7 +105,7 @@ fn gather_wanted<L: KeptLines, F: Files>(
     first: &str,
     files: &mut F,
     mut texts: Texts,
-) -> Result<TreeReading<L>, AllocError>
+) -> Result<GatheredFiles<L>, AllocError>
     requires below { AreTextsBelow (F.surroundings files.old).content root.now texts.language texts }
     ensures same { F.surroundings files.new ≡ F.surroundings files.old }
     ensures below { IfOk result (λ g. AreTextsBelow (F.surroundings files.old).content root.now texts.language g.texts) }
@@ -115,7 +115,7 @@ fn gather_wanted<L: KeptLines, F: Files>(
 {
     open_wanted(alloc, root, first, files, &mut texts)?;
     let read = L::read(alloc, &texts, first);
-    Ok(TreeReading { texts, read })
+    Ok(GatheredFiles { texts, read })
 }
 
 /// Whether a reading missed a file.
@@ -133,7 +133,7 @@ fn lacks_file<T>(read: &Result<T, TreeFault>) -> bool
 fn open_ahead<F: Files>(
     alloc: Global,
     root: &str,
-    room: &mut Room,
+    room: &mut Budget,
     files: &mut F,
     texts: &mut Texts,
 ) -> Result<(), AllocError>
@@ -191,7 +191,7 @@ fn open_round<F: Files>(
     let count = texts.len();
     match wanted(alloc, texts, first) {
         Ok(paths) => {
-            insert_all(alloc, root, &paths, &mut Room::whole(), files, texts)?;
+            insert_all(alloc, root, &paths, &mut Budget::whole(), files, texts)?;
             Ok(texts.len() > count)
         }
         Err(fault) if fault.kind == TreeKind::OutOfMemory => Err(AllocError),
@@ -204,7 +204,7 @@ fn insert_all<F: Files>(
     alloc: Global,
     root: &str,
     paths: &[String],
-    room: &mut Room,
+    room: &mut Budget,
     files: &mut F,
     texts: &mut Texts,
 ) -> Result<(), AllocError>
@@ -228,7 +228,7 @@ fn insert_one<F: Files>(
     alloc: Global,
     root: &str,
     path: &str,
-    room: &mut Room,
+    room: &mut Budget,
     files: &mut F,
     texts: &mut Texts,
 ) -> Result<bool, AllocError>

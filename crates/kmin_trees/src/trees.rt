@@ -17,7 +17,7 @@ use crate::read_trees::{KeptLines, ReadTree};
 use kc_builder::read_tree;
 use kc_rules::{Profile, SettleFault, Settled, settle};
 use kc_tree::{Texts, Tree, TreeFault, TreeKind, Unit};
-use kmin_report::{Messages, Report, RunError};
+use kmin_report::{Message, Messages, RunError};
 use std::alloc::Global;
 
 /// The result of reading texts as a tree, from the file at the path `first` on.
@@ -137,7 +137,7 @@ fn report_tree_fault<'a, E: Messages>(
         None => first.as_bytes(),
     };
     let TreeFault { file, line, kind } = fault;
-    err.write_report(Report::TreeFault {
+    err.write_report(Message::TreeFault {
         path,
         line,
         kind,
@@ -187,7 +187,7 @@ fn report_cycle<'a, E: Messages>(
 {
     let (file, line) = place_of_cycle(tree, units);
     let path = path_of_file(names, first, file);
-    err.write_report(Report::Cycle {
+    err.write_report(Message::Cycle {
         path,
         line,
         tree,

@@ -10,7 +10,7 @@ use Rattle.kc_tree_model.specs.ReadingRelation.{IsWholeReading}
 use Rattle.kc_tree_model.specs.TreeFaults.{tree_faults}
 use Rattle.kc_tree_model.specs.TreeFiles.{Files}
 use Rattle.kc_tree_model.specs.TreesOfFiles.{origin_of}
-use Rattle.kc_listing.specs.between.ListingView.{RepresentsGroups, LineNodesExist}
+use Rattle.kc_parser.specs.between.ListingView.{RepresentsGroups, LineNodesExist}
 use Rattle.kc_tree.specs.TreeModel.{TreeModel}
 use Rattle.kc_builder.specs.declared.tree_lines.TreeLines.{TreeLines}
 

@@ -7,9 +7,9 @@ use Rattle.kc_tree_model.specs.declared.fault.TreeFault.{TreeFault}
 use Rattle.kc_tree_model.specs.TreeFiles.{Files}
 use Rattle.kc_tree_model.specs.TreeReading.{reading}
 use Rattle.kc_tree_model.specs.TreeFaults.{first_tree_fault, tree_faults}
-use Rattle.kc_listing.specs.declared.listing.Listing.{Listing}
-use Rattle.kc_listing.specs.between.ListingView.{RepresentsListing}
-use Rattle.kc_listing.specs.between.MemoryFaults.{no_memory}
+use Rattle.kc_parser.specs.declared.listing.Listing.{Listing}
+use Rattle.kc_parser.specs.between.ListingView.{RepresentsListing}
+use Rattle.kc_parser.specs.between.MemoryFaults.{no_memory}
 use Rattle.kc_builder.specs.between.TreeLines.{HasLines}
 use Rattle.kc_builder.specs.checker.ChoiceDefaults.{IsWalkOf}
 use Rattle.kc_tree.specs.between.GatheredFits.{GatheredFit}

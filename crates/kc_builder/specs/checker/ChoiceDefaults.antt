@@ -5,13 +5,13 @@ use Rattle.kc_tokens.specs.declared.language.Language.{Language}
 use Rattle.kc_expr.specs.between.Arena.{node_expr}
 use Rattle.kc_expr.specs.between.Names.{name_alone}
 use Rattle.kc_statements.specs.declared.statement.Attribute.{Attribute as CodeAttribute}
-use Rattle.kc_statements.specs.declared.statement.Attribute.TheVariants as attributes
-use Rattle.kc_listing.specs.declared.listing.Line.{Line as CodeLine}
-use Rattle.kc_listing.specs.declared.listing.Listing.{Listing}
-use Rattle.kc_listing.specs.declared.listing.SymbolTable.{SymbolTable}
-use Rattle.kc_listing.specs.declared.listing.GroupHead.{GroupHead as CodeHead}
-use Rattle.kc_listing.specs.between.SymbolTable.{number_in}
-use Rattle.kc_listing.specs.between.ListingView.{RepresentsListing}
+use Rattle.kc_statements.specs.between.StatementViews.{default_given}
+use Rattle.kc_parser.specs.declared.listing.Line.{Line as CodeLine}
+use Rattle.kc_parser.specs.declared.listing.Listing.{Listing}
+use Rattle.kc_parser.specs.declared.listing.SymbolTable.{SymbolTable}
+use Rattle.kc_parser.specs.declared.listing.GroupHead.{GroupHead as CodeHead}
+use Rattle.kc_parser.specs.between.SymbolTable.{number_in}
+use Rattle.kc_parser.specs.between.ListingView.{RepresentsListing}
 use Rattle.kc_tree_model.specs.Trees as tree
 use Rattle.kc_tree_model.specs.Statements.{default_of}
 use Rattle.kc_tree_model.specs.Blocks.{Group, opens_choice}
@@ -33,9 +33,7 @@ pub record IsWalkOf (language : Language) (l : Listing) (groups : List GroupCond
 
 -- the number of the value's expression in a default, with or without a type; `None` for any other attribute
 abbrev pub default_value_view : CodeAttribute → Option ℕ
-default_value_view (attributes.Default d) = Some d.value
-default_value_view (attributes.TypedDefault k d) = Some d.value
-default_value_view a = None
+default_value_view a = option_map (λ d. d.value) (default_given a)
 
 -- the number of the symbol whose bare name an expression is, by the expression's number; `None` if there is none
 abbrev pub symbol_bare : SymbolTable → ℕ → Option ℕ

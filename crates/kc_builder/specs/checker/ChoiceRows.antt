@@ -6,9 +6,9 @@ use Rattle.kc_expr.specs.between.Arena.{Exprs, node_expr}
 use Rattle.kc_tree_model.specs.Blocks.{opens_choice}
 use Rattle.kc_tree_model.specs.Conditions.{GroupInContext, context_of, prompts_of}
 use Rattle.kc_tree_model.specs.Contents.{is_optional_group}
-use Rattle.kc_listing.specs.declared.listing.Group.{Group as CodeGroup}
-use Rattle.kc_listing.specs.declared.listing.Line.{Line as CodeLine}
-use Rattle.kc_checks.specs.between.Attributes.{is_optional_code}
+use Rattle.kc_parser.specs.declared.listing.Group.{Group as CodeGroup}
+use Rattle.kc_parser.specs.declared.listing.Line.{Line as CodeLine}
+use Rattle.kc_statements.specs.between.StatementViews.{is_optional_code}
 use Rattle.kc_checks.specs.between.Summaries.{is_choice_code}
 use Rattle.kc_conditions.specs.between.Firsts.{first_prompt}
 use Rattle.kc_tree.specs.declared.parts.ChoiceRow.{ChoiceRow}

@@ -1,19 +1,45 @@
 -- The attributes that definitions give symbols, by the conditions of groups and of their attributes.
-use Rattle.std.specs.Prelude.{◌≡◌, ℕ, ◌<◌, List, [], ◌∷◌, ◌++◌, length, map, All, Some, slice_get}
+use Rattle.std.specs.Prelude.{◌≡◌, ℕ, ◌<◌, List, [], ◌∷◌, ◌++◌, length, map, All, Option, Some, option_to_list, slice_get}
 use Rattle.kc_tokens.specs.declared.language.Language.{Language}
 use Rattle.kc_expr.specs.between.Arena.{Exprs, node_expr}
 use Rattle.kc_tree_model.specs.Conditions.{GroupInContext, context_of, dependency_of}
 use Rattle.kc_tree_model.specs.Contents.{Contents, definitions_of, symbol_of}
-use Rattle.kc_listing.specs.declared.listing.GroupHead.{GroupHead as CodeHead}
-use Rattle.kc_listing.specs.declared.listing.GroupHead.TheVariants as codes
-use Rattle.kc_listing.specs.declared.listing.Line.{Line as CodeLine}
-use Rattle.kc_listing.specs.declared.listing.SymbolTable.{SymbolTable}
+use Rattle.kc_parser.specs.declared.listing.GroupHead.{GroupHead as CodeHead}
+use Rattle.kc_parser.specs.declared.listing.GroupHead.TheVariants as codes
+use Rattle.kc_parser.specs.declared.listing.Line.{Line as CodeLine}
+use Rattle.kc_parser.specs.declared.listing.SymbolTable.{SymbolTable}
 use Rattle.kc_tree.specs.between.Views.{default_view, range_view, reverse_dependency_view, DefaultFits, RangeFits, HasOperands, ReverseDependencyFits}
 use Rattle.kc_tree.specs.between.GatheredAttributes.{HaveKeys}
 use Rattle.kc_builder.specs.checker.GatheredItems.{gathered_prompt, gathered_default, gathered_range, own_key, target_key, gathered_reverse_dependency, HasAppended}
 use Rattle.kc_tree.specs.between.GroupedItems.{items_of}
-use Rattle.kc_builder.specs.declared.definition_attributes.ReverseKind.TheVariants.{Select, Imply}
+use Rattle.kc_statements.specs.declared.statement.ReverseKind.TheVariants.{Select, Imply}
+use Rattle.kc_tree.specs.declared.items_with_keys.ItemsWithKeys.{ItemsWithKeys}
 use Rattle.kc_tree.specs.declared.tree_lists.Attributes.{Attributes}
+
+-- `new` is `old` with the key and the item that one attribute line gives appended, if it gives them
+pub record HasItem {T : Type 0} (key : CodeLine → ℕ → Option ℕ) (item : CodeLine → ℕ → Option T) (old new : ItemsWithKeys T) (l : CodeLine) (c : ℕ) : Type 0 where
+  pub keys : new.keys.items ≡ old.keys.items ++ option_to_list (key l c)
+  pub items : new.items.items ≡ old.items.items ++ option_to_list (item l c)
+
+-- `new` has the selectors, the impliers and the dependencies of `old`
+pub record HasSame (old new : Attributes) : Type 0 where
+  pub selectors : new.selectors ≡ old.selectors
+  pub impliers : new.impliers ≡ old.impliers
+  pub direct : new.direct ≡ old.direct
+
+-- `new` is `old` with the prompt, the default or the range that one attribute line gives symbol `s` appended
+pub record HasLine (s : ℕ) (old new : Attributes) (l : CodeLine) (c : ℕ) : Type 0 where
+  pub prompts : HasItem (own_key s gathered_prompt) gathered_prompt old.prompts new.prompts l c
+  pub defaults : HasItem (own_key s gathered_default) gathered_default old.defaults new.defaults l c
+  pub ranges : HasItem (own_key s gathered_range) gathered_range old.ranges new.ranges l c
+  pub others : HasSame old new
+
+-- `new` is `old` with the prompts, defaults and ranges that the attribute lines of a definition give symbol `s` appended
+pub record HasOwn (s : ℕ) (old new : Attributes) (lines : List CodeLine) (conditions : List ℕ) : Type 0 where
+  pub prompts : HasAppended (own_key s gathered_prompt) gathered_prompt old.prompts new.prompts lines conditions
+  pub defaults : HasAppended (own_key s gathered_default) gathered_default old.defaults new.defaults lines conditions
+  pub ranges : HasAppended (own_key s gathered_range) gathered_range old.ranges new.ranges lines conditions
+  pub others : HasSame old new
 
 -- `new` is `old` with the attributes and the dependency that one definition of symbol `s` gives appended
 pub record HasDefinition (names : SymbolTable) (s : ℕ) (old new : Attributes) (lines : List CodeLine) (conditions : List ℕ) (dependency : ℕ) : Type 0 where

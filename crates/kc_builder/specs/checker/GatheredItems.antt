@@ -3,12 +3,12 @@ use Rattle.std.specs.Prelude.{◌≡◌, ℕ, Bool, ◌||◌, is_some, List, [],
 use Rattle.std.specs.List.{cons_option}
 use Rattle.kc_statements.specs.declared.statement.Attribute.{Attribute as CodeAttribute}
 use Rattle.kc_statements.specs.declared.statement.Attribute.TheVariants as attributes
-use Rattle.kc_listing.specs.declared.listing.Line.{Line as CodeLine}
-use Rattle.kc_listing.specs.declared.listing.SymbolTable.{SymbolTable}
-use Rattle.kc_listing.specs.between.SymbolTable.{number_in, text_of_name}
-use Rattle.kc_checks.specs.between.Attributes.{is_prompt}
-use Rattle.kc_builder.specs.declared.definition_attributes.ReverseKind.{ReverseKind}
-use Rattle.kc_builder.specs.declared.definition_attributes.ReverseKind.TheVariants.{Select, Imply}
+use Rattle.kc_statements.specs.between.StatementViews.{is_prompt, default_given, target_given}
+use Rattle.kc_parser.specs.declared.listing.Line.{Line as CodeLine}
+use Rattle.kc_parser.specs.declared.listing.SymbolTable.{SymbolTable}
+use Rattle.kc_parser.specs.between.SymbolTable.{number_in, text_of_name}
+use Rattle.kc_statements.specs.declared.statement.ReverseKind.{ReverseKind}
+use Rattle.kc_statements.specs.declared.statement.ReverseKind.TheVariants.{Select, Imply}
 use Rattle.kc_tree.specs.declared.items_with_keys.ItemsWithKeys.{ItemsWithKeys}
 use Rattle.kc_tree.specs.declared.symbol.Default.{Default}
 use Rattle.kc_tree.specs.declared.symbol.Range.{Range}
@@ -20,9 +20,7 @@ gathered_prompt l c = if is_prompt l.attribute then Some c else None
 
 -- the default that an attribute is, with the given condition in place of its `if`; `None` if it is no default
 abbrev pub default_by : CodeAttribute → ℕ → Option Default
-default_by (attributes.Default d) c = Some (record { value = d.value; condition = c; from_environment = d.from_environment })
-default_by (attributes.TypedDefault k d) c = Some (record { value = d.value; condition = c; from_environment = d.from_environment })
-default_by a c = None
+default_by a c = option_map (λ d. record { value = d.value; condition = c; from_environment = d.from_environment }) (default_given a)
 
 -- the default that an attribute line gives, with the given condition in place of its `if`; `None` if it gives no default
 abbrev pub gathered_default : CodeLine → ℕ → Option Default
@@ -37,20 +35,13 @@ range_by a c = None
 abbrev pub gathered_range : CodeLine → ℕ → Option Range
 gathered_range l c = range_by l.attribute c
 
--- the number of the name that a `select` or an `imply`, as the first argument asks, targets; `None` for any other attribute
-abbrev pub gathered_target_name : ReverseKind → CodeAttribute → Option ℕ
-gathered_target_name Select (attributes.Select a) = Some a.name
-gathered_target_name Select a = None
-gathered_target_name Imply (attributes.Imply a) = Some a.name
-gathered_target_name Imply a = None
-
 -- whether an attribute line selects or implies a name
 abbrev pub has_target : CodeLine → Bool
-has_target l = is_some (gathered_target_name Select l.attribute) || is_some (gathered_target_name Imply l.attribute)
+has_target l = is_some (target_given Select l.attribute) || is_some (target_given Imply l.attribute)
 
 -- the number of the symbol that an attribute line selects or implies; `None` if there is no such symbol
 abbrev pub gathered_target : SymbolTable → ReverseKind → CodeLine → Option ℕ
-gathered_target n f l = option_and_then (λ id. number_in n.arena.names n.numbers.items (text_of_name n.arena id)) (gathered_target_name f l.attribute)
+gathered_target n f l = option_and_then (λ id. number_in n.arena.names n.numbers.items (text_of_name n.arena id)) (target_given f l.attribute)
 
 -- the number of the symbol that a line selects or implies, whatever the condition (the last number); `None` if there is none
 abbrev pub target_key : SymbolTable → ReverseKind → CodeLine → ℕ → Option ℕ

@@ -4,10 +4,10 @@ use Rattle.kc_tokens.specs.declared.language.Language.{Language}
 use Rattle.kc_tree_model.specs.Blocks.{Group}
 use Rattle.kc_tree_model.specs.Conditions.{groups_in_context}
 use Rattle.kc_tree_model.specs.Contents.{contents_of, tree_of_groups}
-use Rattle.kc_listing.specs.declared.listing.Group.{Group as CodeGroup}
-use Rattle.kc_listing.specs.declared.listing.Line.{Line as CodeLine}
-use Rattle.kc_listing.specs.declared.listing.Listing.{Listing}
-use Rattle.kc_listing.specs.declared.listing.SymbolTable.{SymbolTable}
+use Rattle.kc_parser.specs.declared.listing.Group.{Group as CodeGroup}
+use Rattle.kc_parser.specs.declared.listing.Line.{Line as CodeLine}
+use Rattle.kc_parser.specs.declared.listing.Listing.{Listing}
+use Rattle.kc_parser.specs.declared.listing.SymbolTable.{SymbolTable}
 use Rattle.kc_checks.specs.between.Summaries.{group_at, own_lines}
 use Rattle.kc_conditions.specs.between.GroupConditions.{conditions_at, own_conditions}
 use Rattle.kc_conditions.specs.declared.group_walk.GroupConditions.{GroupConditions}

@@ -5,8 +5,8 @@ use Rattle.kc_tree_model.specs.Blocks.{Group}
 use Rattle.kc_tree_model.specs.Conditions.{groups_in_context}
 use Rattle.kc_tree_model.specs.Contents.{Contents, contents_of}
 use Rattle.kc_tree_model.specs.TreeFaults.{faults_of_group, tree_faults}
-use Rattle.kc_listing.specs.declared.listing.Listing.{Listing}
-use Rattle.kc_listing.specs.between.ListingView.{RepresentsListing}
+use Rattle.kc_parser.specs.declared.listing.Listing.{Listing}
+use Rattle.kc_parser.specs.between.ListingView.{RepresentsListing}
 use Rattle.kc_tree.specs.between.GroupedItems.{IsGrouped}
 use Rattle.kc_checks.specs.declared.search.Checks.{Checks}
 use Rattle.kc_checks.specs.between.Summaries.{read_before, enclosing_choice, member_keys_at, members_at}

@@ -2,9 +2,9 @@
 use Rattle.std.specs.Prelude.{ℕ, Bool, not, ◌∷◌, ◌++◌, [], List, Option, None, Some, is_some, map, slice_get, string_bytes, if◌then◌else◌}
 use Rattle.kc_tree_model.specs.TreeFiles.{Files, file_at}
 use Rattle.kc_tree_model.specs.Limits.{is_in_list}
-use Rattle.kc_listing.specs.declared.listing.Group.{Group}
-use Rattle.kc_listing.specs.declared.listing.GroupHead.{GroupHead}
-use Rattle.kc_listing.specs.declared.listing.GroupHead.TheVariants.{Source}
+use Rattle.kc_parser.specs.declared.listing.Group.{Group}
+use Rattle.kc_parser.specs.declared.listing.GroupHead.{GroupHead}
+use Rattle.kc_parser.specs.declared.listing.GroupHead.TheVariants.{Source}
 use Rattle.kc_checks.specs.declared.paths.Paths.{Paths}
 
 -- the paths of a list of paths without repeats, as bytes, in order of first insertion

@@ -1,39 +1,19 @@
 -- The conditions of attributes, by the numbers of their expressions.
-use Rattle.std.specs.Prelude.{◌≡◌, ℕ, ◌<◌, List, [], ◌∷◌, ◌++◌, length, map, All, Option, Some, None, if◌then◌else◌}
+use Rattle.std.specs.Prelude.{◌≡◌, ℕ, ◌<◌, List, [], ◌∷◌, ◌++◌, length, map, All, if◌then◌else◌}
 use Rattle.kc_expr.specs.between.Arena.{Exprs, node_expr}
 use Rattle.kc_expr.specs.Expr.{Expr}
 use Rattle.kc_statements.specs.declared.statement.Attribute.{Attribute as CodeAttribute}
-use Rattle.kc_statements.specs.declared.statement.Attribute.TheVariants as attributes
-use Rattle.kc_listing.specs.declared.listing.Line.{Line as CodeLine}
+use Rattle.kc_statements.specs.between.StatementViews.{is_prompt, if_given, conjunct_given}
+use Rattle.kc_parser.specs.declared.listing.Line.{Line as CodeLine}
 use Rattle.kc_tree_model.specs.Conditions.{conjunction_of, visible_conjunct}
-use Rattle.kc_checks.specs.between.Attributes.{is_prompt}
 use Rattle.kc_conditions.specs.checker.Conjunctions.{Conjoins, conjunct}
-use Rattle.kc_conditions.specs.declared.conditions.Conjuncts.{Conjuncts}
-use Rattle.kc_conditions.specs.declared.conditions.Conjuncts.TheVariants.{Dependencies, Visibles}
+use Rattle.kc_statements.specs.declared.statement.Conjuncts.{Conjuncts}
 use Rattle.kc_conditions.specs.declared.conditions.EntryConditions.{EntryConditions}
-
--- the number of the expression after an attribute's `if`; `None` for an attribute without an `if`
-abbrev pub if_view : CodeAttribute → Option ℕ
-if_view (attributes.TypedPrompt k c) = c
-if_view (attributes.TypedDefault k d) = d.condition
-if_view (attributes.Prompt c) = c
-if_view (attributes.Default d) = d.condition
-if_view (attributes.Select s) = s.condition
-if_view (attributes.Imply s) = s.condition
-if_view (attributes.Range r) = r.condition
-if_view a = None
-
--- the expression number of a `depends on` or of a `visible if`, as the first argument asks; `None` for any other attribute
-abbrev pub conjunct_view : Conjuncts → CodeAttribute → Option ℕ
-conjunct_view Dependencies (attributes.Depends id) = Some id
-conjunct_view Dependencies a = None
-conjunct_view Visibles (attributes.Visible id) = Some id
-conjunct_view Visibles a = None
 
 -- the expressions of all `depends on`s or of all `visible if`s among attribute lines, in order
 abbrev pub conjunct_views : Conjuncts → Exprs → List CodeLine → List Expr
 conjunct_views w exprs [] = []
-conjunct_views w exprs (l ∷ ls) = conjunct exprs (conjunct_view w l.attribute) ++ conjunct_views w exprs ls
+conjunct_views w exprs (l ∷ ls) = conjunct exprs (conjunct_given w l.attribute) ++ conjunct_views w exprs ls
 
 -- an entry's joined conditions are made of its dependencies, the enclosing `visible if`s (`visibles`) and its own `visible if`s
 pub record AreJoined (exprs : Exprs) (e : EntryConditions) (dependencies visibles own : List Expr) : Type 0 where
@@ -44,8 +24,8 @@ pub record AreJoined (exprs : Exprs) (e : EntryConditions) (dependencies visible
 -- an attribute's joined condition: its entry's dependencies, for a prompt the enclosing `visible if`s, and its own `if`
 abbrev pub condition_view : Exprs → List Expr → List Expr → CodeAttribute → Expr
 condition_view exprs dependencies visibles a =
-    if is_prompt a then conjunction_of (dependencies ++ (visible_conjunct visibles ++ conjunct exprs (if_view a)))
-    else conjunction_of (dependencies ++ conjunct exprs (if_view a))
+    if is_prompt a then conjunction_of (dependencies ++ (visible_conjunct visibles ++ conjunct exprs (if_given a)))
+    else conjunction_of (dependencies ++ conjunct exprs (if_given a))
 
 -- an attribute line's joined condition: its entry's dependencies, for a prompt the enclosing `visible if`s, and its own `if`
 abbrev pub line_condition : Exprs → List Expr → List Expr → CodeLine → Expr

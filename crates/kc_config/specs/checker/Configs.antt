@@ -1,6 +1,6 @@
 -- The invariant of a configuration.
 use Rattle.std.specs.Prelude.{◌≡◌, ℕ, ◌<◌, List, Option, Some, None, length, map, Contains}
-use Rattle.kc_system.specs.Solutions.{user_of}
+use Rattle.kc_solver.specs.Solutions.{user_of}
 use Rattle.kc_rules_model.specs.declared.values.UserValue.{UserValue}
 use Rattle.kc_dotconfig_model.specs.ConfigFiles.{over}
 use Rattle.kc_rules.specs.declared.rules.Settled.{Settled}

@@ -1,11 +1,12 @@
 -- The dependencies as they are stored, and the names that are visited on the way to them.
-use Rattle.std.specs.Prelude.{◌≡◌, ℕ, ◌+◌, ◌-◌, ◌<◌, ◌≤◌, Bool, false, ◌&&◌, ◌||◌, ◌==◌, List, length, take, drop, All, Option, Some, None, slice_index, if◌then◌else◌}
+use Rattle.std.specs.Prelude.{◌≡◌, ℕ, ◌+◌, ◌-◌, ◌<◌, ◌≤◌, Bool, false, ◌&&◌, ◌||◌, ◌==◌, List, [], length, take, drop, All, Option, Some, None, slice_index, if◌then◌else◌}
 use Rattle.std.specs.List.{list_any}
 use Rattle.std.specs.Option.{option_map}
 use Rattle.kc_value.specs.declared.value.Kind.{Kind}
 use Rattle.kc_tokens.specs.Languages.{is_linux_6_12}
 use Rattle.kc_expr.specs.between.Arena.{Exprs, node_expr}
-use Rattle.kc_expr.specs.between.Visits.{mentions}
+use Rattle.kc_expr.specs.between.Visits.{mentions, HasFound}
+use Rattle.kc_dependencies.specs.declared.dependencies.Needs.{Needs}
 use Rattle.kc_tree.specs.declared.symbol.Default.{Default as KeptDefault}
 use Rattle.kc_tree.specs.declared.symbol.Range.{Range as KeptRange}
 use Rattle.kc_tree.specs.declared.symbol.ReverseDependency.{ReverseDependency as KeptReverseDependency}
@@ -31,6 +32,12 @@ pub record LinksBelow (tree : Tree) (unit : ℕ) (starts links : List ℕ) : Typ
 abbrev pub AreLinks : Tree → List ℕ → List ℕ → Type 0
 AreLinks tree starts links = LinksBelow tree (length tree.units) starts links
 
+-- nothing was gathered yet for the dependencies of a unit
+pub record HasBegun (exprs : Exprs) (needs : Needs) : Type 0 where
+  pub found : HasFound exprs needs.found.visited needs.found.names.items
+  pub no_names : needs.found.names.items ≡ []
+  pub no_units : needs.units.items ≡ []
+
 -- all numbers of a list are numbers of units of the tree
 abbrev pub AreUnits : Tree → List ℕ → Type 0
 AreUnits tree units = All (λ u. u < length tree.units) units
@@ -52,29 +59,49 @@ is_of tree d name = is_at d (option_map (unit_of tree) (symbol_named tree name))
 abbrev pub in_exprs : Exprs → (List ℕ → Bool) → List ℕ → Bool
 in_exprs exprs p ids = list_any (λ i. mentions p (node_expr exprs i)) ids
 
--- whether some name in the values and conditions of these defaults of a symbol passes a test of names
-abbrev pub in_defaults : Exprs → (List ℕ → Bool) → List KeptDefault → Bool
-in_defaults exprs p ds = list_any (λ (d : KeptDefault). mentions p (node_expr exprs d.value) || mentions p (node_expr exprs d.condition)) ds
+-- whether some name in the value or condition of this default of a symbol passes a test of names
+abbrev pub in_default : Exprs → (List ℕ → Bool) → KeptDefault → Bool
+in_default exprs p d = mentions p (node_expr exprs d.value) || mentions p (node_expr exprs d.condition)
 
--- whether some name in the bounds and conditions of these ranges passes a test of names
+-- whether some name in these defaults of a symbol passes a test of names
+abbrev pub in_defaults : Exprs → (List ℕ → Bool) → List KeptDefault → Bool
+in_defaults exprs p ds = list_any (in_default exprs p) ds
+
+-- whether some name in the bounds or condition of this range passes a test of names
+abbrev pub in_range : Exprs → (List ℕ → Bool) → KeptRange → Bool
+in_range exprs p r = mentions p (node_expr exprs r.low) || mentions p (node_expr exprs r.high) || mentions p (node_expr exprs r.condition)
+
+-- whether some name in these ranges passes a test of names
 abbrev pub in_ranges : Exprs → (List ℕ → Bool) → List KeptRange → Bool
-in_ranges exprs p rs = list_any (λ (r : KeptRange). mentions p (node_expr exprs r.low) || mentions p (node_expr exprs r.high) || mentions p (node_expr exprs r.condition)) rs
+in_ranges exprs p rs = list_any (in_range exprs p) rs
+
+-- whether some name in the condition of this select or imply passes a test of names
+abbrev pub in_reverse_dependency : Exprs → (List ℕ → Bool) → KeptReverseDependency → Bool
+in_reverse_dependency exprs p f = mentions p (node_expr exprs f.condition)
 
 -- whether some name in the conditions of these selects or implies passes a test of names
 abbrev pub in_reverse_dependencies : Exprs → (List ℕ → Bool) → List KeptReverseDependency → Bool
-in_reverse_dependencies exprs p fs = list_any (λ (f : KeptReverseDependency). mentions p (node_expr exprs f.condition)) fs
+in_reverse_dependencies exprs p fs = list_any (in_reverse_dependency exprs p) fs
 
 -- whether some name in a symbol's attributes, or in the conditions by which others select or imply it, passes a test of names
 abbrev pub in_symbol : Exprs → (List ℕ → Bool) → KeptSymbol → Bool
 in_symbol exprs p k = in_exprs exprs p k.prompts.now || in_defaults exprs p k.defaults.now || in_ranges exprs p k.ranges.now || in_exprs exprs p k.direct.now || in_reverse_dependencies exprs p k.selectors.now || in_reverse_dependencies exprs p k.impliers.now
 
--- whether some name in the conditions of these defaults of a choice, or of their members' prompts, passes a test of names
-abbrev pub in_member_defaults : Tree → Exprs → (List ℕ → Bool) → List KeptMemberDefault → Bool
-in_member_defaults tree exprs p ds = list_any (λ (d : KeptMemberDefault). mentions p (node_expr exprs d.condition) || list_any p (names_in_member_prompts tree d.member)) ds
+-- whether some name in the conditions of the prompts of this member of a choice passes a test of names
+abbrev pub in_member : Tree → (List ℕ → Bool) → ℕ → Bool
+in_member tree p s = list_any p (names_in_member_prompts tree s)
 
 -- whether some name in the conditions of the prompts of these members of a choice passes a test of names
 abbrev pub in_members : Tree → (List ℕ → Bool) → List ℕ → Bool
-in_members tree p ms = list_any (λ s. list_any p (names_in_member_prompts tree s)) ms
+in_members tree p ms = list_any (in_member tree p) ms
+
+-- whether some name in the condition of this default of a choice, or of its member's prompts, passes a test of names
+abbrev pub in_member_default : Tree → Exprs → (List ℕ → Bool) → KeptMemberDefault → Bool
+in_member_default tree exprs p d = mentions p (node_expr exprs d.condition) || in_member tree p d.member
+
+-- whether some name in these defaults of a choice passes a test of names
+abbrev pub in_member_defaults : Tree → Exprs → (List ℕ → Bool) → List KeptMemberDefault → Bool
+in_member_defaults tree exprs p ds = list_any (in_member_default tree exprs p) ds
 
 -- whether some name in the condition of a choice's prompt passes a test of names; false without a prompt
 abbrev pub in_prompt : Exprs → (List ℕ → Bool) → Option ℕ → Bool

@@ -1,6 +1,6 @@
 -- The state accumulated while a configuration file is read.
 use Rattle.std.specs.Prelude.{◌≡◌, ℕ, ◌+◌, ◌<◌, ◌≤◌, List, ◌++◌, Some, None, length, map}
-use Rattle.kc_system.specs.Solutions.{user_of}
+use Rattle.kc_solver.specs.Solutions.{user_of}
 use Rattle.kc_rules_model.specs.declared.values.UserValue.{UserValue}
 use Rattle.kc_tree_model.specs.Trees.{Tree}
 use Rattle.kc_dotconfig_model.specs.Formats.{FileFormat}
@@ -11,7 +11,7 @@ use Rattle.kc_dotconfig_model.specs.ConfigFiles.{FileMeans, file_assignment, not
 use Rattle.kc_dotconfig_model.specs.OtherChoices.{choice_lines_from}
 use Rattle.kc_value.specs.declared.limits.TheConstants.{MAX_CONFIG_BYTES}
 use Rattle.kc_dotconfig_model.specs.LoadFaults.{complete, IsFirstFault, IsAccepted}
-use Rattle.kc_dotconfig_model.specs.between.PartialFiles.{IsCut}
+use Rattle.kc_dotconfig_model.specs.between.PartialFiles.{IsCutFile}
 use Rattle.kc_dotconfig.specs.declared.accumulator.Accumulator.{Accumulator}
 use Rattle.kc_dotconfig.specs.declared.fragment.Fragment.{Fragment}
 use Rattle.kc_dotconfig.specs.Fragments.{users_of, notice_pair}
@@ -36,18 +36,18 @@ fault_line _ lines = lines + 1
 
 -- the bytes read so far end with this incomplete line, and the accumulator has the meanings of the complete lines before it
 abbrev pub Holds : FileFormat → Tree → List ℕ → List ℕ → Accumulator → Type 0
-Holds format tree known line g = (meanings : List LineMeaning) × IsCut format tree known line meanings × IsGathered tree meanings g
+Holds format tree known line g = (meanings : List LineMeaning) × IsCutFile format tree known line meanings × IsGathered tree meanings g
 
 -- the third list, a piece without a fault, extends the incomplete line from the first list to the second, after this number of
 -- complete lines
 abbrev pub GoesOn : List ℕ → List ℕ → List ℕ → ℕ → Type 0
-GoesOn old new piece lines = (format : FileFormat) (tree : Tree) (known : List ℕ) (meanings : List LineMeaning) → IsCut format tree known old meanings
-    → length meanings ≡ lines → length known + length piece ≤ MAX_CONFIG_BYTES → IsCut format tree (known ++ piece) new meanings
+GoesOn old new piece lines = (format : FileFormat) (tree : Tree) (known : List ℕ) (meanings : List LineMeaning) → IsCutFile format tree known old meanings
+    → length meanings ≡ lines → length known + length piece ≤ MAX_CONFIG_BYTES → IsCutFile format tree (known ++ piece) new meanings
 
 -- the second list, a piece after the incomplete line in the first, has the file's first fault, of this kind, in the line after
 -- this number of complete lines
 abbrev pub StopsIn : List ℕ → List ℕ → ℕ → LoadKind → Type 0
-StopsIn old piece lines kind = (format : FileFormat) (tree : Tree) (known rest : List ℕ) (meanings : List LineMeaning) → IsCut format tree known old meanings
+StopsIn old piece lines kind = (format : FileFormat) (tree : Tree) (known rest : List ℕ) (meanings : List LineMeaning) → IsCutFile format tree known old meanings
     → length meanings ≡ lines → length known + length piece ≤ MAX_CONFIG_BYTES
     → IsFirstFault format tree complete (known ++ (piece ++ rest)) kind (lines + 1)
 

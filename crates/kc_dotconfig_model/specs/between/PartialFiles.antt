@@ -18,7 +18,7 @@ pub record IsSound (format : FileFormat) (tree : Tree) (line : List ℕ) (meanin
 
 -- `known` is the first part of a file, within all limits: complete lines without a fault, which have these meanings,
 -- and after them `line`, which is empty or has no newline yet
-pub record IsCut (format : FileFormat) (tree : Tree) (known line : List ℕ) (meanings : List LineMeaning) : Type 0 where
+pub record IsCutFile (format : FileFormat) (tree : Tree) (known line : List ℕ) (meanings : List LineMeaning) : Type 0 where
   pub front : List ℕ
   pub whole : known ≡ front ++ line
   pub ended : HasWholeLines front

@@ -25,12 +25,12 @@ use Rattle.kc_files.specs.between.KnownFiles.{FileRead, whole, AreBytes}
 use Rattle.kc_expansion.specs.between.Reads.{FileRun, file_run}
 use Rattle.kc_files.specs.checker.FileViews.{known_of}
 use Rattle.kc_macros.specs.between.SliceTexts.{texts_of_slices}
-use Rattle.kc_expansion.specs.declared.source_faults.ReadCounts.{ReadCounts}
+use Rattle.kc_expansion.specs.declared.read_counts.ReadCounts.{ReadCounts}
 use Rattle.kc_expansion.specs.declared.line_steps.LineState.{LineState}
 use Rattle.kc_expansion.specs.declared.line_steps.LineStep.{LineStep}
 use Rattle.kc_expansion.specs.declared.line_steps.LineStep.TheVariants as steps
 use Rattle.kc_expansion.specs.declared.open_files.OpenFiles.{OpenFiles}
-use Rattle.kc_expansion.specs.declared.reading_state.Reading.{Reading}
+use Rattle.kc_expansion.specs.declared.tree_expander.TreeExpander.{TreeExpander}
 use Rattle.kc_expansion.specs.declared.written_file.WrittenFile.{WrittenFile}
 use Rattle.kc_expansion.specs.declared.line_places.LineStart.{LineStart}
 
@@ -43,11 +43,11 @@ abbrev pub with_lines : LineState → ReadingState → ReadingState
 with_lines l s = record s { bindings = bindings_of l.bindings; choices = l.choices }
 
 -- the state of the code's reading of a tree, as a state of `kc_macros_model`
-abbrev pub state_of : Reading → ReadingState
+abbrev pub state_of : TreeExpander → ReadingState
 state_of r = record { bindings = bindings_of r.lines.bindings; choices = r.lines.choices; expanded = r.expanded; files = r.counts.files; bytes = r.counts.bytes; listed = r.listed }
 
 -- the run of the code's reading of a tree, with the files that the reading has read
-abbrev pub file_run_of : TreeContents → Reading → FileRun
+abbrev pub file_run_of : TreeContents → TreeExpander → FileRun
 file_run_of contents r = file_run contents (known_of r.store) r.lines.run
 
 -- how the files of a `source` line are read while the files of these paths are open within each other

@@ -7,7 +7,7 @@ use Rattle.kc_tokens.specs.declared.fault.ExprKind.TheVariants.{Malformed}
 use Rattle.kc_tokens.specs.MemoryFaults.{IsOutOfMemory}
 use Rattle.kc_expr.specs.declared.node.Leaf.{Leaf}
 use Rattle.kc_expr.specs.declared.node.Leaf.TheVariants.{Constant, Name, Quoted as Text}
-use Rattle.kc_expr.specs.declared.store.Store.{Store}
+use Rattle.kc_expr.specs.declared.node_store.NodeStore.{NodeStore}
 use Rattle.kc_tokens.specs.declared.token.Relop.{Relop}
 use Rattle.kc_tokens.specs.declared.token.TokenKind.{TokenKind}
 use Rattle.kc_tokens.specs.declared.token.TokenKind.TheVariants.{Word, Quoted, Relation, Not, And, Or, Open, Close}
@@ -74,7 +74,7 @@ read_all_tokens d ts = read_to_end (read_ors (read_factor d) ts)
 
 -- an expression was read from an index of the tokens on, a node represents it as a condition or as it is, and `next` is the index
 -- after its last token
-pub record IsParsed (s : Store) (all : List Lexeme) (condition : Bool) (at : ℕ) (read : Read) (id next : ℕ) : Type 0 where
+pub record IsParsed (s : NodeStore) (all : List Lexeme) (condition : Bool) (at : ℕ) (read : Read) (id next : ℕ) : Type 0 where
   pub expr : Expr
   pub reads : read ≡ Ok (expr, drop next all)
   pub forward : at ≤ next
@@ -82,13 +82,13 @@ pub record IsParsed (s : Store) (all : List Lexeme) (condition : Bool) (at : ℕ
   pub represents : Represents (exprs_in s) id (as_condition condition expr)
 
 -- a fault that the parser returns is out of memory, or the fault that reading the tokens gives
-abbrev pub IsRefused : List Lexeme → Read → ExprFault → Type 0
-IsRefused all read e = IsOutOfMemory e ⊎ ((f : ExprKind × List Lexeme) × (read ≡ Err f) × (e ≡ fault_of all f))
+abbrev pub IsExpressionRefused : List Lexeme → Read → ExprFault → Type 0
+IsExpressionRefused all read e = IsOutOfMemory e ⊎ ((f : ExprKind × List Lexeme) × (read ≡ Err f) × (e ≡ fault_of all f))
 
 -- what the parser returns is right: a node of the expression that was read and the index after its last token, or a fault
-abbrev pub Parses : Store → List Lexeme → Bool → ℕ → Read → Result (ℕ × ℕ) ExprFault → Type 0
+abbrev pub Parses : NodeStore → List Lexeme → Bool → ℕ → Read → Result (ℕ × ℕ) ExprFault → Type 0
 Parses s all condition at read (Ok r) = IsParsed s all condition at read r.0 r.1
-Parses s all condition at read (Err e) = IsRefused all read e
+Parses s all condition at read (Err e) = IsExpressionRefused all read e
 
 -- whether a leaf is the constant `m`
 abbrev pub is_m : Leaf → Bool
@@ -99,7 +99,7 @@ is_m (Name i) = false
 is_m (Text i) = false
 
 -- all tokens were read as an expression, and a node represents it as a condition or as it is
-pub record IsParsedToEnd (s : Store) (condition : Bool) (read : Result Expr (ExprKind × List Lexeme)) (id : ℕ) : Type 0 where
+pub record IsParsedToEnd (s : NodeStore) (condition : Bool) (read : Result Expr (ExprKind × List Lexeme)) (id : ℕ) : Type 0 where
   pub expr : Expr
   pub reads : read ≡ Ok expr
   pub represents : Represents (exprs_in s) id (as_condition condition expr)

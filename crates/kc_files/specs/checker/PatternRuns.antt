@@ -40,6 +40,6 @@ abbrev pub slashed : Program FoundPaths → Program FoundPaths
 slashed p = p >>= λ f. returns (found (map (λ path. path ++ 47 ∷ []) f.paths) f.listed)
 
 -- a path is cut at its first slash: `piece` comes before the slash, and `tail` after it
-pub record IsCut (path piece tail : List ℕ) : Type 0 where
+pub record IsCutPattern (path piece tail : List ℕ) : Type 0 where
   pub pieces : path_pieces path ≡ piece ∷ path_pieces tail
   pub shorter : length tail < length path

@@ -1,7 +1,4 @@
 -- Lists of parts as the code has them.
-use Rattle.std.specs.Prelude.{Bool}
-use Rattle.std.specs.Global.{Vec}
-use Rattle.kc_reasons_model.specs.Reasons.{is_empty}
 use Rattle.kc_reasons.specs.declared.low_parts.LowPart.{LowPart}
 use Rattle.kc_symbol_lines.specs.declared.located.Position.{Position}
 use Rattle.kc_located_reasons.specs.declared.located_parts.LocatedPart.{LocatedPart}
@@ -9,7 +6,3 @@ use Rattle.kc_located_reasons.specs.declared.located_parts.LocatedPart.{LocatedP
 -- a part on the line at a place
 abbrev pub part_at : Position → LowPart → LocatedPart
 part_at at p = record { part = p; at = at }
-
--- whether a list is empty
-abbrev pub is_empty_vec : Vec LocatedPart → Bool
-is_empty_vec v = is_empty v.items

@@ -4,12 +4,12 @@ use Rattle.std.specs.List.{list_any}
 use Rattle.kc_macros_model.specs.Programs.{Place, Program, returns, ◌>>=◌}
 use Rattle.kc_macros_model.specs.References.{Item, items}
 use Rattle.kc_macros_model.specs.Variables.{Bindings}
-use Rattle.kc_macros_model.specs.WrittenTokens.{WrittenBody, WrittenToken, joined_bodies, written_items, token_of_body}
-use Rattle.kc_macro_lines.specs.declared.token_values.Body.{Body}
+use Rattle.kc_macros_model.specs.WrittenTokens.{WrittenQuotedText, WrittenToken, joined_bodies, written_items, token_of_body}
+use Rattle.kc_macro_lines.specs.declared.token_values.QuotedText.{QuotedText}
 use Rattle.kc_macros.specs.checker.PartialValues.{value_if_known}
 
--- a `Body` of the code (bytes written between two quotes, and their meaning) as one of `kc_macros_model`
-abbrev pub body_of_code : Body → WrittenBody
+-- a `QuotedText` of the code (bytes written between two quotes, and their meaning) as one of `kc_macros_model`
+abbrev pub body_of_code : QuotedText → WrittenQuotedText
 body_of_code b = record { bytes = b.bytes.items; meaning = value_if_known b.known b.meaning.items }
 
 -- whether a text has a `$` or a `\`
@@ -17,7 +17,7 @@ abbrev pub has_dollar_or_backslash : List ℕ → Bool
 has_dollar_or_backslash text = list_any (λ c. c == 36 || (c == 92)) text
 
 -- the program that writes the remaining items between two quotes, and appends them to the bytes written before them
-abbrev pub bodies_left : Place → Bindings → (quote : ℕ) → WrittenBody → List Item → Program WrittenBody
+abbrev pub bodies_left : Place → Bindings → (quote : ℕ) → WrittenQuotedText → List Item → Program WrittenQuotedText
 bodies_left at b quote so_far is = written_items at b quote is >>= λ rest. returns (joined_bodies so_far rest)
 
 -- the program that writes a quoted token, given its quote and the bytes between its quotes

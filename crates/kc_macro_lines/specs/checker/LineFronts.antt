@@ -7,8 +7,8 @@ use Rattle.kc_macros_model.specs.WrittenTokens.{WrittenToken}
 use Rattle.kc_macros_model.specs.Assignments.{AssignedText, assigned, LineContent, assigns, tokens, line_content}
 use Rattle.kc_macro_lines.specs.declared.assignment_syntax.FoundAssignment.{FoundAssignment}
 use Rattle.kc_macro_lines.specs.declared.line_content.LineFront.{LineFront}
-use Rattle.kc_macro_lines.specs.declared.line_content.LineStep.{LineStep}
-use Rattle.kc_macro_lines.specs.declared.line_content.LineStep.TheVariants as steps
+use Rattle.kc_macro_lines.specs.declared.line_content.ContentStep.{ContentStep}
+use Rattle.kc_macro_lines.specs.declared.line_content.ContentStep.TheVariants as steps
 use Rattle.kc_macro_forms.specs.between.WrittenTokens.{tokens_of}
 
 -- the token `run` with this text, which may be the name of an assignment
@@ -33,11 +33,11 @@ abbrev pub front_left : Place → Bindings → LineFront → List LineToken → 
 front_left at b front ts = content_left at b (tokens_of front.tokens.items) front.may_assign ts
 
 -- the program that gives the content of a line after a step of the code along the line
-abbrev pub step_left : Place → Bindings → LineFront → LineStep → Program LineContent
+abbrev pub step_left : Place → Bindings → LineFront → ContentStep → Program LineContent
 step_left at b front (steps.Rest after) = front_left at b front (line_tokens 0 after.now)
 step_left at b front (steps.Assigns a) = returns (assigns a.name (assigned a.operator a.text))
 
 -- after a step of the code along a line, fewer bytes than this number are left to read, or the line is an assignment
-abbrev pub IsShorter : LineStep → ℕ → Type 0
+abbrev pub IsShorter : ContentStep → ℕ → Type 0
 IsShorter (steps.Rest after) n = length after.now < n
 IsShorter (steps.Assigns a) n = Unit {0}

@@ -20,7 +20,7 @@ first_token_of (c ∷ s) = first_token c s
 -- a token of a line of the code as one of `kc_macros_model`
 abbrev pub token_view : CodeToken → LineToken
 token_view (kinds.Gap s) = gap s.now
-token_view (kinds.Run s) = run s.now
+token_view (kinds.Word s) = run s.now
 token_view (kinds.Quoted quote s) = quoted quote s.now
 token_view (kinds.Other s) = other s.now
 token_view (kinds.Broken s) = broken s.now

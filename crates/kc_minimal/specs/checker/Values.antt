@@ -1,7 +1,7 @@
 -- The values of a tree's units, and the user values that give them.
 use Rattle.std.specs.Prelude.{List, Option, length, IsTrue}
 use Rattle.kc_tree_model.specs.Trees.{Tree}
-use Rattle.kc_system.specs.Solutions.{Solves, FitsUsers, FitsValues}
+use Rattle.kc_solver.specs.Solutions.{Solves, FitsUsers, FitsValues}
 use Rattle.kc_rules_model.specs.declared.profile.Profile.{Profile}
 use Rattle.kc_rules_model.specs.declared.values.UnitValue.{UnitValue}
 use Rattle.kc_rules_model.specs.declared.values.UserValue.{UserValue}

@@ -4,7 +4,7 @@ use Rattle.kc_value.specs.declared.tri.Tri.{Tri}
 use Rattle.kc_value.specs.declared.tri.Tri.TheVariants.{M}
 use Rattle.kc_expr.specs.Expr.{Expr, alone, related, negated, both, either, shown, Environment, value}
 use Rattle.kc_rules_model.specs.Kinds.{is_n}
-use Rattle.kc_reasons_model.specs.Conjuncts.{Part, below, lacks}
+use Rattle.kc_reasons_model.specs.Conjuncts.{Part, below}
 
 -- a part, if it is too low
 abbrev pub if_low : Environment → Tri → Expr → List Part

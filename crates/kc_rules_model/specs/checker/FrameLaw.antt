@@ -14,7 +14,7 @@ use Rattle.kc_tree_model.specs.Trees.{Tree, Symbol, Choice, Default, Range, Reve
 use Rattle.kc_tree_model.specs.declared.ids.Unit.{Unit as TreeUnit}
 use Rattle.kc_tree_model.specs.declared.ids.Unit.TheVariants.{Symbol as of_symbol, Choice as of_choice}
 use Rattle.kc_tree_model.specs.TreeLookup.{unit_of, unit_of_symbol, unit_in, index_of_unit, symbol_named}
-use Rattle.kc_system.specs.Solutions.{KeepsFrame}
+use Rattle.kc_solver.specs.Solutions.{KeepsFrame}
 use Rattle.kc_rules_model.specs.declared.profile.Profile.{Profile}
 use Rattle.kc_rules_model.specs.declared.profile.Profile.TheVariants.{Present, Classic}
 use Rattle.kc_rules_model.specs.declared.values.UnitValue.{UnitValue}

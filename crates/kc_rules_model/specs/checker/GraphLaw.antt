@@ -5,7 +5,7 @@ use Rattle.std.specs.List.Sorted.{IsStrictlyIncreasing}
 use Rattle.std.proofs.lemmas.List.Kept.{IsStrictlyIncreasing-filter}
 use Rattle.std.proofs.lemmas.List.Elements.{All-filter, All-contains, All-cons, All-nil, All-weaker}
 use Rattle.kc_tree_model.specs.Trees.{Tree}
-use Rattle.kc_system.specs.Dependencies.{IsGraph}
+use Rattle.kc_solver.specs.Dependencies.{IsGraph}
 use Rattle.kc_rules_model.specs.Dependencies.{dependencies}
 
 range_at : (a n k : ℕ) → k < n → get_or (range_with_len a n) k 0 ≡ a + k

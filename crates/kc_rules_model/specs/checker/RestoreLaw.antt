@@ -11,7 +11,7 @@ use Rattle.kc_value.specs.Tri.{tri_and, tri_or}
 use Rattle.kc_tree_model.specs.Trees.{Tree, Symbol, Choice, Range, MemberDefault}
 use Rattle.kc_tree_model.specs.declared.ids.Unit.{Unit as TreeUnit}
 use Rattle.kc_tree_model.specs.declared.ids.Unit.TheVariants.{Symbol as of_symbol, Choice as of_choice}
-use Rattle.kc_system.specs.Solutions.{Restores}
+use Rattle.kc_solver.specs.Solutions.{Restores}
 use Rattle.kc_rules_model.specs.declared.profile.Profile.{Profile}
 use Rattle.kc_rules_model.specs.declared.values.UnitValue.{UnitValue}
 use Rattle.kc_rules_model.specs.declared.values.UnitValue.TheVariants.{Tri as TriValue, Text as TextValue, Member as MemberValue}

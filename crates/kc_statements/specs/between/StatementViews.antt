@@ -1,6 +1,6 @@
 -- The statements that the code reads, as the definitions have them: with expressions and names in place of their numbers in an
--- arena.
-use Rattle.std.specs.Prelude.{◌≡◌, ◌⊎◌, ℕ, ◌<◌, [], length, Option, Some, None, option_map, unwrap_or, slice_index_or, Result, Ok, Err}
+-- arena. And what the attributes that the code has read are and give.
+use Rattle.std.specs.Prelude.{◌≡◌, ◌⊎◌, ℕ, ◌<◌, Bool, true, false, List, [], length, Option, Some, None, option_map, unwrap_or, slice_index_or, Result, Ok, Err}
 use Rattle.kc_value.specs.declared.tri.Tri.TheVariants.{N}
 use Rattle.kc_expr.specs.between.Arena.{Exprs, Represents, node_expr}
 use Rattle.kc_expr.specs.Expr.{Expr, Operand, alone, constant}
@@ -15,6 +15,10 @@ use Rattle.kc_statements.specs.declared.statement.TargetAttribute.{TargetAttribu
 use Rattle.kc_statements.specs.declared.statement.RangeAttribute.{RangeAttribute as CodeRangeAttribute}
 use Rattle.kc_statements.specs.declared.statement.Attribute.{Attribute as CodeAttribute}
 use Rattle.kc_statements.specs.declared.statement.Attribute.TheVariants as attributes
+use Rattle.kc_statements.specs.declared.statement.Conjuncts.{Conjuncts}
+use Rattle.kc_statements.specs.declared.statement.Conjuncts.TheVariants.{Dependencies, Visibles}
+use Rattle.kc_statements.specs.declared.statement.ReverseKind.{ReverseKind}
+use Rattle.kc_statements.specs.declared.statement.ReverseKind.TheVariants as kinds
 use Rattle.kc_statements.specs.declared.statement.Statement.{Statement as CodeStatement}
 use Rattle.kc_statements.specs.declared.statement.Statement.TheVariants as statements
 
@@ -128,3 +132,62 @@ HeadNodesExist e h = Unit {0}
 abbrev pub StatementNodesExist : Exprs → CodeStatement → Type 0
 StatementNodesExist e (statements.Head h) = HeadNodesExist e h
 StatementNodesExist e (statements.Attribute a) = AttributeNodesExist e a
+
+-- the `if` of a prompt, with or without a type; `None` for any other attribute
+abbrev pub prompt_given : CodeAttribute → Option (Option ℕ)
+prompt_given (attributes.TypedPrompt k c) = Some c
+prompt_given (attributes.Prompt c) = Some c
+prompt_given a = None
+
+-- whether an attribute is a prompt, with or without a type
+abbrev pub is_prompt : CodeAttribute → Bool
+is_prompt (attributes.TypedPrompt k c) = true
+is_prompt (attributes.Prompt c) = true
+is_prompt a = false
+
+-- the value and the `if` of a default, with or without a type; `None` for any other attribute
+abbrev pub default_given : CodeAttribute → Option CodeDefaultAttribute
+default_given (attributes.Default d) = Some d
+default_given (attributes.TypedDefault k d) = Some d
+default_given a = None
+
+-- whether an attribute is a range
+abbrev pub is_range : CodeAttribute → Bool
+is_range (attributes.Range r) = true
+is_range a = false
+
+-- whether an attribute is `optional`
+abbrev pub is_optional_code : CodeAttribute → Bool
+is_optional_code attributes.Optional = true
+is_optional_code a = false
+
+-- the number of the expression after an attribute's `if`; `None` for an attribute without an `if`
+abbrev pub if_given : CodeAttribute → Option ℕ
+if_given (attributes.TypedPrompt k c) = c
+if_given (attributes.TypedDefault k d) = d.condition
+if_given (attributes.Prompt c) = c
+if_given (attributes.Default d) = d.condition
+if_given (attributes.Select s) = s.condition
+if_given (attributes.Imply s) = s.condition
+if_given (attributes.Range r) = r.condition
+if_given a = None
+
+-- the expression number of a `depends on` or of a `visible if`, as the first argument asks; `None` for any other attribute
+abbrev pub conjunct_given : Conjuncts → CodeAttribute → Option ℕ
+conjunct_given Dependencies (attributes.Depends id) = Some id
+conjunct_given Dependencies a = None
+conjunct_given Visibles (attributes.Visible id) = Some id
+conjunct_given Visibles a = None
+
+-- the number of the name that a `select` or an `imply`, as the first argument asks, targets; `None` for any other attribute
+abbrev pub target_given : ReverseKind → CodeAttribute → Option ℕ
+target_given kinds.Select (attributes.Select s) = Some s.name
+target_given kinds.Select a = None
+target_given kinds.Imply (attributes.Imply s) = Some s.name
+target_given kinds.Imply a = None
+
+-- the name of the symbol that a `select` or `imply` targets; `None` for any other attribute
+abbrev pub target_of : Attribute → Option (List ℕ)
+target_of (select s) = Some s.name
+target_of (imply s) = Some s.name
+target_of a = None

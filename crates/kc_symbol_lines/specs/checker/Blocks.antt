@@ -1,7 +1,7 @@
 -- The blocks that are open at each group, as the code has them.
 use Rattle.std.specs.Prelude.{◌≡◌, ℕ, ◌+◌, ◌<◌, List, [], ◌∷◌, length, map, Option, Some, None, option_and_then, slice_get, unwrap_or, IfSome}
-use Rattle.kc_listing.specs.declared.listing.GroupHead.{GroupHead}
-use Rattle.kc_listing.specs.declared.listing.GroupHead.TheVariants.{Choice, Menu, Condition, Source, Ends, FileEnd}
+use Rattle.kc_parser.specs.declared.listing.GroupHead.{GroupHead}
+use Rattle.kc_parser.specs.declared.listing.GroupHead.TheVariants.{Choice, Menu, Condition, Source, Ends, FileEnd}
 use Rattle.kc_tree_model.specs.Blocks.{Group, open_blocks}
 use Rattle.kc_checks.specs.between.Summaries.{read_before}
 

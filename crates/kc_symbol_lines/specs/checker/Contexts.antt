@@ -1,11 +1,11 @@
 -- The conditions that enclose what is inside blocks, as the code has them.
 use Rattle.std.specs.Prelude.{ℕ, Bool, true, false, List, [], ◌∷◌, ◌++◌, map, Option, Some, None, slice_get, slice_range, if◌then◌else◌}
-use Rattle.kc_listing.specs.declared.listing.Group.{Group}
-use Rattle.kc_listing.specs.declared.listing.Line.{Line}
-use Rattle.kc_listing.specs.declared.listing.GroupHead.{GroupHead}
-use Rattle.kc_listing.specs.declared.listing.GroupHead.TheVariants.{Choice, Menu, Condition}
+use Rattle.kc_parser.specs.declared.listing.Group.{Group}
+use Rattle.kc_parser.specs.declared.listing.Line.{Line}
+use Rattle.kc_parser.specs.declared.listing.GroupHead.{GroupHead}
+use Rattle.kc_parser.specs.declared.listing.GroupHead.TheVariants.{Choice, Menu, Condition}
 use Rattle.kc_checks.specs.between.Summaries.{group_at, attributes_end}
-use Rattle.kc_symbol_lines.specs.declared.attributes.Part.TheVariants.{Visibility}
+use Rattle.kc_statements.specs.declared.statement.Conjuncts.TheVariants.{Visibles}
 use Rattle.kc_symbol_lines.specs.declared.located.Position.{Position}
 use Rattle.kc_symbol_lines.specs.declared.located.LocatedExpr.{LocatedExpr}
 use Rattle.kc_symbol_lines.specs.declared.contexts.Enclosing.{Enclosing}
@@ -25,7 +25,7 @@ shown_parts off at (Some parts) = map as_choice_part parts
 
 -- the conditions inside a menu of a file with these lines
 abbrev pub inside_menu : EnclosingLists → ℕ → List Line → EnclosingLists
-inside_menu a file ls = record { dependencies = dependency_parts a file ls; visibles = a.visibles ++ parts_in Visibility file ls }
+inside_menu a file ls = record { dependencies = dependency_parts a file ls; visibles = a.visibles ++ parts_in Visibles file ls }
 
 -- those inside a choice that the outer conditions don't go through
 abbrev pub inside_choice : (off : ℕ) → EnclosingLists → (file line : ℕ) → List Line → EnclosingLists

@@ -5,8 +5,8 @@ use Rattle.kc_tree_model.specs.Blocks.{Group as ModelGroup}
 use Rattle.kc_builder.specs.between.TreeLines.{HasLines}
 use Rattle.kc_builder.specs.declared.tree_lines.TreeLines.{TreeLines}
 use Rattle.kc_checks.specs.between.Summaries.{group_at}
-use Rattle.kc_listing.specs.declared.listing.Line.{Line}
-use Rattle.kc_symbol_lines.specs.declared.attributes.Given.TheVariants.{Default, Range}
+use Rattle.kc_parser.specs.declared.listing.Line.{Line}
+use Rattle.kc_symbol_lines.specs.declared.own_lines.Given.TheVariants.{Default, Range}
 use Rattle.kc_symbol_lines.specs.declared.located.Position.{Position}
 use Rattle.kc_symbol_lines.specs.declared.located.LocatedExpr.{LocatedExpr}
 use Rattle.kc_symbol_lines.specs.declared.symbol.DefinitionLines.{DefinitionLines}

@@ -1,12 +1,14 @@
 -- What stands on the attribute lines of a group, as the code has it.
-use Rattle.std.specs.Prelude.{ℕ, false, List, [], ◌∷◌, ◌++◌, Option, Some, None, if◌then◌else◌}
-use Rattle.kc_listing.specs.declared.listing.Line.{Line}
-use Rattle.kc_symbol_lines.specs.declared.attributes.Part.{Part}
-use Rattle.kc_symbol_lines.specs.declared.attributes.Part.TheVariants.{Dependency}
-use Rattle.kc_symbol_lines.specs.declared.attributes.Given.{Given}
+use Rattle.std.specs.Prelude.{ℕ, Bool, false, is_some, List, [], ◌∷◌, ◌++◌, Option, Some, None, if◌then◌else◌}
+use Rattle.kc_parser.specs.declared.listing.Line.{Line}
+use Rattle.kc_statements.specs.declared.statement.Conjuncts.{Conjuncts}
+use Rattle.kc_statements.specs.declared.statement.Conjuncts.TheVariants.{Dependencies}
+use Rattle.kc_symbol_lines.specs.declared.own_lines.Given.{Given}
+use Rattle.kc_symbol_lines.specs.declared.own_lines.Given.TheVariants as given
 use Rattle.kc_symbol_lines.specs.declared.located.Position.{Position}
 use Rattle.kc_symbol_lines.specs.declared.located.LocatedExpr.{LocatedExpr}
-use Rattle.kc_symbol_lines.specs.checker.Attributes.{part_of, prompt_of, is_given}
+use Rattle.kc_statements.specs.between.StatementViews.{conjunct_given, default_given, is_range, prompt_given}
+use Rattle.kc_statements.specs.declared.statement.Attribute.{Attribute}
 
 abbrev pub position_at : (file line : ℕ) → Position
 position_at file line = record { file = file; line = line }
@@ -16,10 +18,15 @@ abbrev pub located_if : Position → Option ℕ → List LocatedExpr
 located_if at None = []
 located_if at (Some e) = record { expr = e; at = at; of_choice = false } ∷ []
 
--- the parts of conditions among lines of a file
-abbrev pub parts_in : Part → ℕ → List Line → List LocatedExpr
-parts_in part file [] = []
-parts_in part file (l ∷ ls) = located_if (position_at file l.number) (part_of part l.attribute) ++ parts_in part file ls
+-- the conditions of the `depends on`, or of the `visible if`, among lines of a file
+abbrev pub parts_in : Conjuncts → ℕ → List Line → List LocatedExpr
+parts_in which file [] = []
+parts_in which file (l ∷ ls) = located_if (position_at file l.number) (conjunct_given which l.attribute) ++ parts_in which file ls
+
+-- whether an attribute is a default, or a range
+abbrev pub is_given : Given → Attribute → Bool
+is_given given.Default a = is_some (default_given a)
+is_given given.Range a = is_range a
 
 -- the places of defaults, or of ranges
 abbrev pub places_in : Given → ℕ → List Line → List Position
@@ -33,7 +40,7 @@ pub record EnclosingLists : Type 0 where
 
 -- the dependencies of an entry with these lines
 abbrev pub dependency_parts : EnclosingLists → ℕ → List Line → List LocatedExpr
-dependency_parts a file ls = a.dependencies ++ parts_in Dependency file ls
+dependency_parts a file ls = a.dependencies ++ parts_in Dependencies file ls
 
 -- what is needed for its prompt on a line with this `if`
 abbrev pub prompt_parts : EnclosingLists → ℕ → List Line → ℕ → Option ℕ → List LocatedExpr
@@ -47,4 +54,4 @@ prompt_at a file ls line (Some c) = prompt_parts a file ls line c ∷ []
 -- for each prompt among some of its lines
 abbrev pub prompts_in : EnclosingLists → ℕ → List Line → List Line → List (List LocatedExpr)
 prompts_in a file all [] = []
-prompts_in a file all (l ∷ ls) = prompt_at a file all l.number (prompt_of l.attribute) ++ prompts_in a file all ls
+prompts_in a file all (l ∷ ls) = prompt_at a file all l.number (prompt_given l.attribute) ++ prompts_in a file all ls

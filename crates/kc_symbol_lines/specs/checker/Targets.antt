@@ -10,26 +10,26 @@ use Rattle.kc_tree_model.specs.Contents.{contents_of, definitions_of}
 use Rattle.kc_tree_model.specs.Limits.{names_defined}
 use Rattle.kc_reasons_model.specs.SymbolLines.{target_positions}
 use Rattle.kc_statements.specs.declared.statement.Attribute.{Attribute}
-use Rattle.kc_listing.specs.declared.listing.Line.{Line}
-use Rattle.kc_symbol_lines.specs.declared.attributes.Force.{Force}
-use Rattle.kc_symbol_lines.specs.declared.attributes.Force.TheVariants.{Select, Imply}
+use Rattle.kc_parser.specs.declared.listing.Line.{Line}
+use Rattle.kc_statements.specs.declared.statement.ReverseKind.{ReverseKind}
+use Rattle.kc_statements.specs.declared.statement.ReverseKind.TheVariants.{Select, Imply}
 use Rattle.kc_symbol_lines.specs.declared.located.Position.{Position}
 use Rattle.kc_symbol_lines.specs.declared.targets.GatheredLines.{GatheredLines}
 use Rattle.kc_symbol_lines.specs.between.LinesView.{position_view}
-use Rattle.kc_symbol_lines.specs.checker.Attributes.{target_of}
+use Rattle.kc_statements.specs.between.StatementViews.{target_given}
 use Rattle.kc_symbol_lines.specs.checker.OwnLines.{position_at}
 
 -- the number of the symbol that an attribute selects, or implies, if an entry defines it
-abbrev pub target_symbol : TreeModel → Force → Attribute → Option ℕ
-target_symbol t force a = option_and_then (symbol_of_name_id t.tree t.exprs.names) (target_of force a)
+abbrev pub target_symbol : TreeModel → ReverseKind → Attribute → Option ℕ
+target_symbol t which a = option_and_then (symbol_of_name_id t.tree t.exprs.names) (target_given which a)
 
-abbrev pub target_keys : TreeModel → Force → List Line → List ℕ
-target_keys t force [] = []
-target_keys t force (l ∷ ls) = option_to_list (target_symbol t force l.attribute) ++ target_keys t force ls
+abbrev pub target_keys : TreeModel → ReverseKind → List Line → List ℕ
+target_keys t which [] = []
+target_keys t which (l ∷ ls) = option_to_list (target_symbol t which l.attribute) ++ target_keys t which ls
 
-abbrev pub target_places : TreeModel → Force → ℕ → List Line → List Position
-target_places t force file [] = []
-target_places t force file (l ∷ ls) = option_to_list (option_map (λ _. position_at file l.number) (target_symbol t force l.attribute)) ++ target_places t force file ls
+abbrev pub target_places : TreeModel → ReverseKind → ℕ → List Line → List Position
+target_places t which file [] = []
+target_places t which file (l ∷ ls) = option_to_list (option_map (λ _. position_at file l.number) (target_symbol t which l.attribute)) ++ target_places t which file ls
 
 -- `new` is `old` with a definition by the group with number `number` of a file, with these lines
 pub record HasDefinition (t : TreeModel) (symbol number file : ℕ) (ls : List Line) (old new : GatheredLines) : Type 0 where

@@ -1,24 +1,15 @@
 -- A tree that is read without a fault is consistent.
-use Rattle.kc_tokens.specs.declared.language.Language.{Language}
-use Rattle.kc_tree_model.specs.Statements.{DefaultAttribute, default_of}
-use Rattle.std.proofs.Common.{◌≡◌, ◌&&◌, ℕ, ◌<◌, true, List, [], Option, Some, None, refl, ap, sym, ◌∙◌, subst, length, filter, not, cond, Bool, false}
-use Rattle.std.specs.Prelude.{slice_get, filter_map, flat_map, ◌==◌, option_map, option_and_then}
-use Rattle.std.specs.Option.{option_or}
-use Rattle.std.specs.List.{list_any, list_all}
+use Rattle.kc_tree_model.proofs.Common.{Language, DefaultAttribute, default_of, ◌≡◌, ◌&&◌, ℕ, ◌<◌, true, List, [], Option, Some, None, refl, ap, sym, ◌∙◌, subst, length, filter, not, cond, Bool, false, slice_get, filter_map, flat_map, ◌==◌, option_map, option_and_then, option_or, list_any, list_all}
+use Rattle.kc_tree_model.proofs.Common.{TreeFault, Symbol, Choice, Default, has_newline, IsConsistent, is_name_byte, own_text, Files, defined_name, Line, context_of, GroupInContext, attribute_condition, attribute_values, Contents, contents_of, choice_number, symbol_of, type_given, is_member_of}
+use Rattle.kc_tree_model.proofs.Common.{is_first_definition, choice_of, definitions_of, defines, faults_of_group}
 use Rattle.kc_value.specs.declared.value.Kind.TheVariants.{Bool as Boolean}
 use Rattle.kc_expr.specs.Lookup.{index_of_name}
-use Rattle.kc_tree_model.specs.declared.fault.TreeFault.{TreeFault}
-use Rattle.kc_tree_model.specs.Trees.{Symbol, Choice, Default, MemberDefault}
+use Rattle.kc_tree_model.specs.Trees.{MemberDefault}
 use Rattle.kc_tree_model.specs.declared.ids.Unit.{Unit as TreeUnit}
 use Rattle.kc_tree_model.specs.declared.ids.Unit.TheVariants.{Symbol as of_symbol, Choice as of_choice}
-use Rattle.kc_value.specs.Lines.{has_newline}
-use Rattle.kc_tree_model.specs.TreeLookup.{IsConsistent, is_name_byte, own_text}
-use Rattle.kc_tree_model.specs.TreeFiles.{Files}
-use Rattle.kc_tree_model.specs.Blocks.{defined_name, Line}
-use Rattle.kc_tree_model.specs.Conditions.{context_of, GroupInContext, attribute_condition, attribute_values}
 use Rattle.kc_tree_model.specs.TreeReading.{reading}
-use Rattle.kc_tree_model.specs.Contents.{Contents, contents_of, choice_number, symbol_of, kind_in_tree, type_given, is_member_of, member_names, own_member_names, begins_symbol, is_first_definition, choice_of, tree_of_groups, tree_of_files, defaults_at, bare_name, name_among, member_named, member_default, definitions_of, defines}
-use Rattle.kc_tree_model.specs.TreeFaults.{faults_of_group, tree_faults, first_tree_fault}
+use Rattle.kc_tree_model.specs.Contents.{kind_in_tree, member_names, own_member_names, begins_symbol, tree_of_groups, tree_of_files, defaults_at, bare_name, name_among, member_named, member_default}
+use Rattle.kc_tree_model.specs.TreeFaults.{tree_faults, first_tree_fault}
 use Rattle.kc_tree_model.proofs.Consistency.Lists.{Has, has-at, has-filter, filter-has, has-filter_map, filter_map-has, has-any, any-has, place-get, number-get, at_most_once, all_pass, has_flat_map}
 use Rattle.kc_tree_model.proofs.Consistency.Places.{IsWord, is_read, value_of_group}
 use Rattle.kc_tree_model.proofs.Consistency.Definitions.{IsSound, choice_places, choices_of, no_first, nothing_at, sound_contents, symbols_of, unit_at, units_of}

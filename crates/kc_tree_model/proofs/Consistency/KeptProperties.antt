@@ -1,19 +1,10 @@
 -- A property that every step of reading keeps holds of all that is read.
-use Rattle.std.proofs.Common.{◌≡◌, ℕ, suc, zero, Bool, true, false, cond, List, [], ◌∷◌, Option, Some, None, Result, Ok, Err, refl, length}
-use Rattle.std.specs.Prelude.{nat_lt}
-use Rattle.kc_tokens.specs.declared.language.Language.{Language}
-use Rattle.kc_tree_model.specs.declared.fault.TreeKind.{TreeKind}
-use Rattle.kc_tree_model.specs.declared.fault.TreeFault.{TreeFault}
-use Rattle.kc_tree_model.specs.TreeFiles.{Files, file_at, index_of_file}
-use Rattle.kc_tree_model.specs.LogicalLines.{LogicalLine, lines_of}
-use Rattle.kc_tree_model.specs.Statements.{Statement}
-use Rattle.kc_tree_model.specs.declared.keyword.Block.{Block}
-use Rattle.kc_tree_model.specs.Blocks.{Group, Position, file_end, innermost}
-use Rattle.kc_tree_model.specs.Limits.{FileSource, bytes_in, source_fault}
-use Rattle.kc_value.specs.declared.limits.TheConstants.{MAX_TREE_BYTES, MAX_OPEN_FILES}
-use Rattle.kc_value.specs.Lines.{has_newline}
+use Rattle.kc_tree_model.proofs.Common.{◌≡◌, ℕ, suc, zero, Bool, true, false, cond, List, [], ◌∷◌, Option, Some, None, Result, Ok, Err, refl, length, nat_lt, Language, TreeKind, TreeFault, Files, file_at, index_of_file, LogicalLine, Statement, Block, Group, Position, file_end, innermost, FileSource}
+use Rattle.kc_tree_model.proofs.Common.{bytes_in, MAX_TREE_BYTES, MAX_OPEN_FILES, has_newline, with_statement, with_group, path_to_read, Outcome, at_file_end, continue_after_file, continue_after_source, continue_after_statement, continue_after_line, read_lines, read_file, read_root}
+use Rattle.kc_tree_model.specs.LogicalLines.{lines_of}
+use Rattle.kc_tree_model.specs.Limits.{source_fault}
 use Rattle.kc_tree_model.proofs.Consistency.OneLine.{AreOneLine, lines_are_one}
-use Rattle.kc_tree_model.specs.TreeReading.{statement_on_line, with_statement, with_group, path_to_read, Outcome, at_file_end, continue_after_file, continue_after_source, continue_after_statement, continue_after_line, read_lines, read_file, read_root, reading}
+use Rattle.kc_tree_model.specs.TreeReading.{statement_on_line, reading}
 
 -- the property `P` of the groups read (newest first) is kept by each line without a fault and by each end of a sourced file
 pub record IsKept (P : List Group → Type 0) : Type 0 where
@@ -25,13 +16,14 @@ module _ (P : List Group → Type 0) (kept : IsKept P) where
   unfoldable pub Keeps : (List Group → Outcome) → Type 0
   Keeps f = (read : List Group) → P read → P (f read).read
 
-  file_kept : (rest : List Group → Outcome) (at : Position) (o : Outcome) (f : Option TreeFault) → Keeps rest → P o.read
+  pub file_kept : (rest : List Group → Outcome) (at : Position) (o : Outcome) (f : Option TreeFault) → Keeps rest → P o.read
       → P (continue_after_file rest at o f).read
   unfolding Keeps
   file_kept rest at o (Some f) g h = h
   file_kept rest at o None g h = g (with_group at file_end o.read) (kept.by_end o.read at h)
 
-  source_kept : (sub : List ℕ → List Group → Outcome) (rest : List Group → Outcome) (at : Position) (path : List ℕ) (read : List Group) (k : Option TreeKind)
+  pub source_kept : (sub : List ℕ → List Group → Outcome) (rest : List Group
+      → Outcome) (at : Position) (path : List ℕ) (read : List Group) (k : Option TreeKind)
       → ((p : List ℕ) → Keeps (sub p)) → Keeps rest → P read → P (continue_after_source sub rest at path read k).read
   unfolding Keeps
   source_kept sub rest at path read (Some k) subs g h = h

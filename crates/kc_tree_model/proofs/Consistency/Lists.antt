@@ -1,12 +1,9 @@
 -- Elements of lists, by their indices and through the functions that make lists.
-use Rattle.std.proofs.Common.{◌≡◌, inl, inr, ◌⊎◌, ℕ, zero, suc, Bool, true, false, cond, List, [], ◌∷◌, ◌++◌, Option, Some, None, refl, ap, sym, ◌∙◌, subst, map, filter, length, ◌<◌, arith}
-use Rattle.std.specs.Prelude.{slice_get, filter_map, flat_map, option_map, bytes_eq, ◌==◌, ◌||◌, ◌&&◌}
-use Rattle.std.specs.List.{list_any, list_all, cons_option, position_or_len}
-use Rattle.std.proofs.lemmas.Slice.Eq.{bytes_eq-Decides}
-use Rattle.std.proofs.lemmas.Bool.{eqb-true, eq-eqb}
+use Rattle.kc_tree_model.proofs.Common.{◌≡◌, inl, inr, ◌⊎◌, ℕ, zero, suc, Bool, true, false, cond, List, [], ◌∷◌, ◌++◌, Option, Some, None, refl, ap, sym, ◌∙◌, subst, map, filter, length, ◌<◌, arith, slice_get, filter_map, flat_map, option_map, bytes_eq, ◌==◌, list_any, list_all, cons_option}
+use Rattle.kc_tree_model.proofs.Common.{position_or_len, bytes_eq-Decides, eqb-true, eq-eqb, is_in_list, without_repeats}
+use Rattle.std.specs.Prelude.{◌||◌, ◌&&◌}
 use Rattle.kc_expr.proofs.Places.{place_by as place_after_one, place_of_more, place_of_none}
 use Rattle.kc_expr.specs.Lookup.{index_of_name}
-use Rattle.kc_tree_model.specs.Limits.{is_in_list, without_repeats}
 use Rattle.kc_tree_model.specs.Contents.{index_of_number}
 
 -- a value is an element of a list

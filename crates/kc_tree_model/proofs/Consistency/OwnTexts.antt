@@ -1,19 +1,9 @@
 -- A property that each token of a line has, also without its quotes, holds of the own text of a default's value.
-use Rattle.std.proofs.Common.{◌≡◌, ℕ, Bool, true, false, cond, ◌||◌, ◌&&◌, ◌==◌, List, [], ◌∷◌, ◌++◌, Option, Some, None, Result, Ok, Err, refl, ap, ◌∙◌, subst, length, drop}
+use Rattle.std.proofs.Common.{◌==◌}
 use Rattle.kc_value.specs.declared.tri.Tri.{Tri}
-use Rattle.kc_expr.specs.Expr.{Expr, Operand, named, quoted, alone}
-use Rattle.kc_tokens.specs.Token.{Lexeme}
-use Rattle.kc_tokens.specs.QuotedTexts.{quoted_text}
-use Rattle.kc_expr.specs.Grammar.{Level, IsExpr, one_and, more_ors, one_factor, more_ands, operand, relation, negation, parentheses, letter_value, constant_else, operand_of_kind, is_operand_kind, is_close, extent, read_expr}
-use Rattle.kc_tokens.specs.declared.fault.ExprKind.{ExprKind}
-use Rattle.kc_tokens.specs.declared.fault.ExprFault.{ExprFault}
-use Rattle.kc_tokens.specs.declared.token.TokenKind.{TokenKind}
-use Rattle.kc_tokens.specs.declared.token.TokenKind.TheVariants.{Word, Quoted, Relation, Not, And, Or, Open, Close}
-use Rattle.kc_expr.proofs.GrammarLaws.{expr_sound}
-use Rattle.kc_expr.proofs.TokenTexts.{AllTexts}
-use Rattle.kc_tree_model.specs.declared.fault.TreeKind.{TreeKind}
-use Rattle.kc_tree_model.specs.TreeLookup.{own_text}
-use Rattle.kc_tree_model.specs.Forms.{ParsedExpr, kind_of_fault}
+use Rattle.kc_tree_model.proofs.Common.{◌≡◌, ℕ, Bool, true, false, cond, ◌||◌, ◌&&◌, List, [], ◌∷◌, ◌++◌, Option, Some, None, Result, Ok, Err, refl, ap, ◌∙◌, subst, length, drop, Expr, Operand, named, quoted, alone, Lexeme, quoted_text, Level, IsExpr, one_and, more_ors, one_factor, more_ands}
+use Rattle.kc_tree_model.proofs.Common.{operand, relation, negation, parentheses, operand_of_kind, is_operand_kind, is_close, extent, ExprKind, ExprFault, TokenKind, Word, Quoted, expr_sound, AllTexts, TreeKind, own_text, ParsedExpr, kind_of_fault}
+use Rattle.kc_expr.specs.Grammar.{letter_value, constant_else, read_expr}
 use Rattle.kc_tree_model.proofs.NestedTrees.LineFits.{IsValueOf}
 
 taken_same : (y z : ParsedExpr) (r : Result ParsedExpr TreeKind) → r ≡ Ok y → r ≡ Ok z → y ≡ z
@@ -64,12 +54,7 @@ module _ (P : List ℕ → Type 0) (nothing : P []) (unquoted : (text : List ℕ
   of_operand Quoted text a h e =
       let same : constant_else (letter_value (quoted_text text)) (quoted (quoted_text text)) ≡ a = cc in subst (λ x. P (own_text (alone x))) same
       (of_quoted (letter_value (quoted_text text)) (quoted_text text) (unquoted text h))
-  of_operand (Relation op) text a h e = cc
-  of_operand Not text a h e = cc
-  of_operand And text a h e = cc
-  of_operand Or text a h e = cc
-  of_operand Open text a h e = cc
-  of_operand Close text a h e = cc
+  of_operand w text a h e = cc
 
   of_expr : {l : Level} {d : ℕ} {ts : List Lexeme} {e : Expr} → IsExpr l d ts e → AllTexts P ts → P (own_text e)
   of_expr (one_and h) a = of_expr h a

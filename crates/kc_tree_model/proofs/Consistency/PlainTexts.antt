@@ -1,13 +1,5 @@
 -- Titles and the own texts of defaults are one line of UTF-8.
-use Rattle.std.proofs.Common.{◌≡◌, ℕ, false, List, [], ◌∷◌, IsUtf8, Ok, refl}
-use Rattle.std.proofs.lemmas.Str.{IsUtf8-nil}
-use Rattle.kc_expr.specs.Expr.{Expr}
-use Rattle.kc_tokens.specs.QuotedTexts.{quoted_text}
-use Rattle.kc_tokens.specs.Token.{Lexeme, lexemes_from}
-use Rattle.kc_expr.proofs.TokenTexts.{AllTexts}
-use Rattle.kc_tokens.specs.declared.language.Language.{Language}
-use Rattle.kc_value.specs.Lines.{has_newline}
-use Rattle.kc_tree_model.specs.TreeLookup.{own_text}
+use Rattle.kc_tree_model.proofs.Common.{◌≡◌, ℕ, false, List, [], ◌∷◌, IsUtf8, Ok, refl, IsUtf8-nil, Expr, quoted_text, Lexeme, lexemes_from, AllTexts, Language, has_newline, own_text}
 use Rattle.kc_tree_model.proofs.NestedTrees.LineFits.{IsValueOf}
 use Rattle.kc_tree_model.proofs.Consistency.OneLine.{one_lexed, one_quoted, OneText}
 use Rattle.kc_tree_model.proofs.Consistency.OwnTexts.{own_text_of_value}

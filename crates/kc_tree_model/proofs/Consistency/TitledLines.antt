@@ -1,17 +1,7 @@
 -- The title of a line's statement is the text of one of its tokens.
-use Rattle.std.proofs.Common.{ap, ◌∙◌, ◌≡◌, Bool, true, false, cond, List, [], ◌∷◌, Option, Some, None, Result, Ok, Err, ℕ, refl, sym}
-use Rattle.kc_tokens.specs.Token.{Lexeme, lexemes_from}
-use Rattle.kc_tokens.specs.QuotedTexts.{quoted_text}
-use Rattle.kc_tokens.specs.declared.language.Language.{Language}
-use Rattle.kc_tree_model.specs.declared.fault.TreeKind.{TreeKind}
-use Rattle.kc_tree_model.specs.declared.fault.TreeKind.TheVariants.{Malformed}
-use Rattle.kc_tree_model.specs.LogicalLines.{LogicalLine}
-use Rattle.kc_tree_model.specs.Statements.{Head, choice, menu, condition, comment, source, mainmenu, Statement, head}
-use Rattle.kc_tree_model.specs.Keywords.{is_quoted_kind}
-use Rattle.kc_tree_model.specs.declared.keyword.Keyword.{Keyword}
+use Rattle.kc_tree_model.proofs.Common.{ap, ◌∙◌, ◌≡◌, Bool, true, false, cond, List, [], ◌∷◌, Option, Some, None, Result, Ok, Err, ℕ, refl, sym, Lexeme, lexemes_from, quoted_text, Language, TreeKind, Malformed, LogicalLine, Head, choice, menu, condition, comment, source, mainmenu, Statement, head}
+use Rattle.kc_tree_model.proofs.Common.{is_quoted_kind, Keyword, statement_of, titled_line, path_of, no_more, last_condition, Group}
 use Rattle.kc_tree_model.specs.declared.keyword.Keyword.TheVariants as words
-use Rattle.kc_tree_model.specs.Forms.{statement_of, titled_line, path_of, no_more, last_condition}
-use Rattle.kc_tree_model.specs.Blocks.{Group}
 use Rattle.kc_tree_model.specs.TreeReading.{statement_on_line}
 use Rattle.kc_tree_model.proofs.NestedTrees.LineFits.{bind_ok, sort_of_head, sort_of_word, other_sort, line_given}
 

@@ -1,24 +1,16 @@
 -- The tokens of a line that is UTF-8 are UTF-8, and so is the text that a quoted one represents.
-use Rattle.std.proofs.Common.{◌≡◌, ℕ, ◌+◌, ◌-◌, ◌<◌, ◌≤◌, Bool, true, false, ◌&&◌, eqb, cond, List, [], ◌∷◌, ◌++◌, length, take, drop, get_or, IsUtf8, Ok, refl, ap, sym, ◌∙◌, subst, append_assoc, length-append, length-drop, take_at, drop_at, arith}
-use Rattle.std.specs.Prelude.{nat_le, slice_index}
-use Rattle.std.specs.List.{list_all}
-use Rattle.std.proofs.lemmas.Bool.{and_parts, eqb-true, eqb-false, leb-true}
-use Rattle.std.proofs.lemmas.Bool.Decides.{nat_tests}
+use Rattle.std.proofs.Common.{eqb, length-drop, take_at, drop_at}
+use Rattle.std.specs.Prelude.{slice_index}
+use Rattle.kc_tree_model.proofs.Common.{◌≡◌, ℕ, ◌+◌, ◌-◌, ◌<◌, ◌≤◌, Bool, true, false, ◌&&◌, cond, List, [], ◌∷◌, ◌++◌, length, take, drop, get_or, IsUtf8, Ok, refl, ap, sym, ◌∙◌, subst, append_assoc, length-append, arith, nat_le, list_all, and_parts, eqb-true, eqb-false, leb-true, nat_tests}
+use Rattle.kc_tree_model.proofs.Common.{IsUtf8-nil, Language, unescaped, TokenKind, Word, Quoted, Relation, Not, And, Or, Open, Close, between_quotes, quoted_text, Lexeme, lexemes_from, read_cut, AllTexts}
 use Rattle.std.proofs.lemmas.Grind.{get_or_after_one}
-use Rattle.std.proofs.lemmas.Str.{IsUtf8-append, IsUtf8-nil, IsUtf8-encode, IsUtf8-take, IsUtf8-drop, IsCharBoundary-after_ascii, IsCharBoundary-before_ascii}
+use Rattle.std.proofs.lemmas.Str.{IsUtf8-append, IsUtf8-encode, IsUtf8-take, IsUtf8-drop, IsCharBoundary-after_ascii, IsCharBoundary-before_ascii}
 use Rattle.std.proofs.Math.Seq.{get_or-append_seam}
 use lib.Utf8.{scalar, scalars, encode, encodes}
-use Rattle.kc_tokens.specs.declared.language.Language.{Language}
-use Rattle.kc_value.specs.QuotedTexts.{unescaped}
 use Rattle.kc_value.proofs.EscapeSteps.{escaped_char, plain_char, backslash}
 use Rattle.kc_tokens.specs.declared.token.Relop.TheVariants.{Equal, NotEqual, Less, Greater, LessEqual, GreaterEqual}
-use Rattle.kc_tokens.specs.declared.token.TokenKind.{TokenKind}
-use Rattle.kc_tokens.specs.declared.token.TokenKind.TheVariants.{Word, Quoted, Relation, Not, And, Or, Open, Close}
-use Rattle.kc_tokens.specs.QuotedTexts.{between_quotes, quoted_text}
-use Rattle.kc_tokens.specs.Token.{is_quote, Lexeme, is_white_byte, is_word_byte, lexemes_from}
+use Rattle.kc_tokens.specs.Token.{is_quote, is_white_byte, is_word_byte}
 use Rattle.kc_tokens.specs.TokenGrammar.{IsToken, IsCut, ends, comment, white, token}
-use Rattle.kc_tokens.proofs.CutLaws.{read_cut}
-use Rattle.kc_expr.proofs.TokenTexts.{AllTexts}
 
 -- a text that ends in a byte below 128
 record EndsLow (text : List ℕ) : Type 0 where

@@ -1,18 +1,10 @@
 -- The symbols, choices and units of a tree, by their numbers and groups.
-use Rattle.std.proofs.Common.{◌≡◌, ◌⊎◌, inl, inr, ℕ, zero, suc, Bool, true, false, cond, ◌&&◌, List, [], ◌∷◌, Option, Some, None, refl, ap, sym, ◌∙◌, subst, map, filter}
-use Rattle.std.specs.Prelude.{slice_get, filter_map, option_map, option_and_then, is_none, ◌==◌}
-use Rattle.std.specs.List.{cons_option}
-use Rattle.std.proofs.lemmas.Bool.{eqb-true, eq-eqb}
-use Rattle.kc_tokens.specs.declared.language.Language.{Language}
+use Rattle.kc_tree_model.proofs.Common.{◌≡◌, ◌⊎◌, inl, inr, ℕ, zero, suc, Bool, true, false, cond, ◌&&◌, List, [], ◌∷◌, Option, Some, None, refl, ap, sym, ◌∙◌, subst, map, filter, slice_get, filter_map, option_map, option_and_then, is_none, ◌==◌, cons_option, eqb-true, eq-eqb, Language, Symbol}
+use Rattle.kc_tree_model.proofs.Common.{Choice, config, choice, name_of_head, GroupHead, of_head, from_head, defined_name, opens_choice, GroupInContext, Contents, choice_number, defines, definitions_of, choice_of_symbol, symbol_of, is_member_of, choice_of, is_first_definition}
+use Rattle.kc_tree_model.proofs.Common.{choice_of_first_definition, unit_of_head, faults_of_group}
 use Rattle.kc_expr.specs.Lookup.{index_of_name}
-use Rattle.kc_tree_model.specs.Trees.{Symbol, Choice}
 use Rattle.kc_tree_model.specs.declared.ids.Unit.{Unit as TreeUnit}
 use Rattle.kc_tree_model.specs.declared.ids.Unit.TheVariants.{Symbol as of_symbol, Choice as of_choice}
-use Rattle.kc_tree_model.specs.Statements.{config, choice, menu, condition, comment, source, mainmenu, ends, name_of_head}
-use Rattle.kc_tree_model.specs.Blocks.{GroupHead, of_head, file_end, from_head, defined_name, opens_choice}
-use Rattle.kc_tree_model.specs.Conditions.{GroupInContext}
-use Rattle.kc_tree_model.specs.Contents.{Contents, choice_number, defines, definitions_of, first_definition, choice_of_symbol, symbol_of, is_member_of, choice_of, is_first_definition, choice_of_first_definition, unit_of_head}
-use Rattle.kc_tree_model.specs.TreeFaults.{faults_of_group}
 use Rattle.kc_tree_model.proofs.Consistency.Lists.{Has, has-at, at-has, get-map, map-get, has-filter, filter-has, has-filter_map, filter_map-has, first_of_filter_map, first_of_some, place-get, has-place, number-get, has-number, Differ, at_most_once}
 use Rattle.kc_tree_model.proofs.Consistency.Places.{NumbersDiffer, same_place, what_of_name, what_of_choice}
 use Rattle.kc_tree_model.proofs.Consistency.Definitions.{IsSound, choice_places, choices_of, defined, defining, is_first_or_again, one_number, symbols_of, unit_at, units_of}
@@ -135,13 +127,7 @@ symbol_unit c p (of_head (config name)) s e h =
     record { name = name; names_it = ap (from_head name_of_head) e; first = b.0; alone = is_nothing (choice_of_symbol c name) b.1; number = d.1 ∙ ap Some same }
 symbol_unit c p (of_head choice) s e h =
     let d = mapped_some of_choice (choice_number c p.group.number) (of_symbol s) h in let k : of_choice d.0 ≡ of_symbol s = d.2 in cc
-symbol_unit c p (of_head (menu title)) s e h = cc
-symbol_unit c p (of_head (condition x)) s e h = cc
-symbol_unit c p (of_head (comment title)) s e h = cc
-symbol_unit c p (of_head (source path)) s e h = cc
-symbol_unit c p (of_head mainmenu) s e h = cc
-symbol_unit c p (of_head (ends b)) s e h = cc
-symbol_unit c p file_end s e h = cc
+symbol_unit c p w s e h = cc
 
 pub choice_unit : (c : Contents) (p : GroupInContext) (w : GroupHead) (k : ℕ) → p.group.head ≡ w → from_head (unit_of_head c p) w ≡ Some (of_choice k)
     → choice_number c p.group.number ≡ Some k
@@ -150,13 +136,7 @@ choice_unit c p (of_head (config name)) k e h =
     let d = mapped_some of_symbol (index_of_name name c.names) (of_choice k) a.1 in cc
 choice_unit c p (of_head choice) k e h =
     let d = mapped_some of_choice (choice_number c p.group.number) (of_choice k) h in let same : d.0 ≡ k = cc in d.1 ∙ ap Some same
-choice_unit c p (of_head (menu title)) k e h = cc
-choice_unit c p (of_head (condition x)) k e h = cc
-choice_unit c p (of_head (comment title)) k e h = cc
-choice_unit c p (of_head (source path)) k e h = cc
-choice_unit c p (of_head mainmenu) k e h = cc
-choice_unit c p (of_head (ends b)) k e h = cc
-choice_unit c p file_end k e h = cc
+choice_unit c p w k e h = cc
 
 -- two groups at which the same unit begins have the same number
 pub same_unit : (c : Contents) (s : IsSound c) (v : TreeUnit) (p q : GroupInContext) → unit_at c p ≡ Some v → unit_at c q ≡ Some v

@@ -1,8 +1,6 @@
 -- Bytes are cut into their physical lines.
-use Rattle.std.proofs.Common.{◌≡◌, ℕ, ◌<◌, Bool, true, false, ◌||◌, ◌==◌, cond, List, [], ◌∷◌, ◌++◌, length, refl, ap, sym, ◌∙◌, subst, arith}
-use Rattle.std.proofs.lemmas.Bool.{eqb-true}
-use Rattle.kc_value.specs.Lines.{has_newline}
-use Rattle.kc_tree_model.specs.LogicalLines.{PhysicalLine, with_first_byte, split_at_newlines}
+use Rattle.std.proofs.Common.{◌==◌}
+use Rattle.kc_tree_model.proofs.Common.{◌≡◌, ℕ, ◌<◌, Bool, true, false, ◌||◌, cond, List, [], ◌∷◌, ◌++◌, length, refl, ap, sym, ◌∙◌, subst, arith, eqb-true, has_newline, PhysicalLine, with_first_byte, split_at_newlines}
 use Rattle.kc_tree_model.specs.LineGrammar.{AreLines}
 use Rattle.kc_tree_model.specs.LineGrammar.AreLines.{none, last, line}
 

@@ -1,11 +1,10 @@
 -- Help texts end by indentation.
-use Rattle.std.proofs.Common.{◌≡◌, ℕ, zero, suc, ◌+◌, ◌<◌, Bool, true, false, ◌||◌, ◌&&◌, ◌==◌, cond, List, [], ◌∷◌, ◌++◌, length, refl, ap, sym, ◌∙◌, subst, arith}
-use Rattle.std.specs.Prelude.{nat_le, take_while}
-use Rattle.std.specs.List.{list_all}
-use Rattle.std.proofs.lemmas.Bool.{and_parts, lt-ltb, eqb-true, eqb-false}
+use Rattle.std.proofs.Common.{◌==◌}
+use Rattle.std.specs.Prelude.{take_while}
+use Rattle.kc_tree_model.proofs.Common.{◌≡◌, ℕ, zero, suc, ◌+◌, ◌<◌, Bool, true, false, ◌||◌, ◌&&◌, cond, List, [], ◌∷◌, ◌++◌, length, refl, ap, sym, ◌∙◌, subst, arith, nat_le, list_all, and_parts, lt-ltb, eqb-true, eqb-false, PhysicalLine, help_line_count, logical_lines_from, help_lines}
 use Rattle.std.proofs.lemmas.List.Sums.{take_while-cons}
-use Rattle.kc_tree_model.specs.LogicalLines.{PhysicalLine, is_blank, indentation, first_indentation, help_line_count, logical_lines_from}
-use Rattle.kc_tree_model.specs.LineGrammar.{is_of_help, begins_of_help, IsHelpText, help_lines}
+use Rattle.kc_tree_model.specs.LogicalLines.{is_blank, indentation, first_indentation}
+use Rattle.kc_tree_model.specs.LineGrammar.{is_of_help, begins_of_help, IsHelpText}
 
 -- the test of the lines, where the column isn't 0
 abbrev reaches : ℕ → PhysicalLine → Bool

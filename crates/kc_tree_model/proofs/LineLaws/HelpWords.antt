@@ -1,15 +1,7 @@
 -- A line begins a help text where its one token is the word of one.
-use Rattle.std.proofs.Common.{◌≡◌, ℕ, true, false, List, [], ◌∷◌, Option, Some, Result, Ok, Err, refl, ap, sym, ◌∙◌, length, arith}
+use Rattle.kc_tree_model.proofs.Common.{◌≡◌, ℕ, true, false, List, [], ◌∷◌, Option, Some, Result, Ok, Err, refl, ap, sym, ◌∙◌, length, arith, ExprFault, Strict, Lexeme, lexemes_from, read_cut, cut_read, keyword_of, Keyword, is_help_word, is_help_or_fault, begins_help}
 use Rattle.std.proofs.lemmas.Bool.{false_from_ne_true}
-use Rattle.kc_tokens.specs.declared.fault.ExprFault.{ExprFault}
-use Rattle.kc_tokens.specs.declared.language.Language.TheVariants.{Strict}
-use Rattle.kc_tokens.specs.Token.{Lexeme, lexemes_from}
-use Rattle.kc_tokens.proofs.CutLaws.{read_cut}
-use Rattle.kc_tokens.proofs.TokenLaws.{cut_read}
-use Rattle.kc_tree_model.specs.Keywords.{keyword_of}
-use Rattle.kc_tree_model.specs.declared.keyword.Keyword.{Keyword}
 use Rattle.kc_tree_model.specs.declared.keyword.Keyword.TheVariants as words
-use Rattle.kc_tree_model.specs.LogicalLines.{is_help_word, is_help_or_fault, begins_help}
 use Rattle.kc_tree_model.specs.LineGrammar.{BeginsHelp}
 
 help_word : (k : Option Keyword) → is_help_word k ≡ true → k ≡ Some words.Help

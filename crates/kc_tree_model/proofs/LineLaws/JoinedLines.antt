@@ -1,7 +1,6 @@
 -- Lines that go on are joined.
-use Rattle.std.proofs.Common.{◌≡◌, ℕ, suc, ◌<◌, Bool, true, false, cond, List, [], ◌∷◌, ◌++◌, length, refl, ap, ◌∙◌, append-nil, arith}
-use Rattle.kc_tree_model.specs.LogicalLines.{PhysicalLine, without_last, is_continued, joined_bytes, continuation_count}
-use Rattle.kc_tree_model.specs.LineGrammar.{IsJoined, alone, at_end, joins}
+use Rattle.kc_tree_model.proofs.Common.{◌≡◌, ℕ, suc, ◌<◌, Bool, true, false, cond, List, [], ◌∷◌, ◌++◌, length, refl, ap, ◌∙◌, append-nil, arith, PhysicalLine, without_last, is_continued, joined_bytes, continuation_count, IsJoined}
+use Rattle.kc_tree_model.specs.LineGrammar.{alone, at_end, joins}
 
 pub some_joined : {rest ls : List PhysicalLine} {text : List ℕ} → IsJoined rest ls text → 0 < length ls
 some_joined (alone e) = omega arith

@@ -1,18 +1,10 @@
 -- No file is left unread: a `source` after as many open files as may be is TooDeep before.
-use Rattle.std.proofs.Common.{◌≡◌, ℕ, zero, suc, ◌+◌, ◌<◌, ◌≤◌, Bool, true, false, not, cond, List, [], ◌∷◌, ◌++◌, Option, Some, None, Result, Ok, Err, refl, ap, sym, ◌∙◌, length, drop, arith}
-use Rattle.std.specs.Prelude.{filter_map, is_some, nat_le}
-use Rattle.std.specs.List.{cons_option}
-use Rattle.std.proofs.lemmas.Bool.{leb-false}
-use Rattle.kc_tree_model.specs.declared.fault.TreeKind.{TreeKind}
-use Rattle.kc_tree_model.specs.declared.fault.TreeKind.TheVariants.{SourceLoop, MissingFile, TooDeep}
-use Rattle.kc_tree_model.specs.declared.fault.TreeFault.{TreeFault}
-use Rattle.kc_tree_model.specs.LogicalLines.{LogicalLine, lines_of}
-use Rattle.kc_tree_model.specs.Statements.{Head, config, choice, menu, condition, comment, source, mainmenu, ends, Statement, head, attribute, block_of_head, path_of_head}
-use Rattle.kc_tree_model.specs.declared.keyword.Block.{Block}
-use Rattle.kc_tree_model.specs.Blocks.{Group, Position, GroupHead, of_head, file_end, from_head, open_blocks, sourced_path, innermost}
-use Rattle.kc_tree_model.specs.Limits.{FileSource, bytes_in, is_in_list, open_files, source_fault}
-use Rattle.kc_value.specs.declared.limits.TheConstants.{MAX_OPEN_FILES}
-use Rattle.kc_tree_model.specs.TreeReading.{statement_on_line, with_statement, with_group, path_to_read, Outcome, continue_after_file, continue_after_source, continue_after_statement, continue_after_line, read_lines, read_file}
+use Rattle.kc_tree_model.proofs.Common.{◌≡◌, ℕ, zero, suc, ◌+◌, ◌<◌, ◌≤◌, Bool, true, false, not, cond, List, [], ◌∷◌, ◌++◌, Option, Some, None, Result, Ok, Err, refl, ap, sym, ◌∙◌, length, drop, arith, filter_map, is_some, nat_le, cons_option, leb-false, TreeKind, SourceLoop, MissingFile, TooDeep}
+use Rattle.kc_tree_model.proofs.Common.{TreeFault, LogicalLine, Head, config, choice, menu, condition, comment, source, Statement, head, attribute, block_of_head, path_of_head, Block, Group, Position, GroupHead, of_head, file_end, from_head, open_blocks, sourced_path, innermost, FileSource}
+use Rattle.kc_tree_model.proofs.Common.{bytes_in, is_in_list, open_files, MAX_OPEN_FILES, with_statement, with_group, path_to_read, Outcome, continue_after_file, continue_after_source, continue_after_statement, continue_after_line, read_lines, read_file}
+use Rattle.kc_tree_model.specs.LogicalLines.{lines_of}
+use Rattle.kc_tree_model.specs.Limits.{source_fault}
+use Rattle.kc_tree_model.specs.TreeReading.{statement_on_line}
 use Rattle.kc_tree_model.proofs.NestedTrees.OpenTrees.{EndsMatch, ends_first}
 use Rattle.kc_tree_model.proofs.NestedTrees.LineFits.{Fits, line_fits}
 use Rattle.kc_tree_model.proofs.NestedTrees.OpenBlocks.{popped}
@@ -26,9 +18,7 @@ no_file (of_head (menu title)) b e = refl
 no_file (of_head (condition c)) b e = refl
 no_file (of_head (comment title)) b e = refl
 no_file (of_head (source path)) b e = cc
-no_file (of_head mainmenu) b e = refl
-no_file (of_head (ends c)) b e = refl
-no_file file_end b e = refl
+no_file x b e = refl
 
 no_files : (gs hs : List Group) → AllBlocks gs → filter_map sourced_path (gs ++ hs) ≡ filter_map sourced_path hs
 no_files [] hs own = refl

@@ -1,31 +1,16 @@
 -- A line's statement fits the groups read before: an end matches the innermost block, and an attribute has an open entry.
-use Rattle.std.proofs.Common.{ap, ◌∙◌, ◌≡◌, ℕ, Bool, true, false, not, cond, List, [], ◌∷◌, ◌++◌, Option, Some, None, Result, Ok, Err, IsUtf8, refl, sym, subst, length}
-use Rattle.std.specs.Prelude.{nat_lt, codes}
+use Rattle.kc_tree_model.proofs.Common.{ap, ◌∙◌, ◌≡◌, ℕ, Bool, true, false, not, cond, List, [], ◌∷◌, ◌++◌, Option, Some, None, Result, Ok, Err, IsUtf8, refl, sym, subst, length, nat_lt, codes, Language, Kind, Expr, Operand, alone, Lexeme, lexemes_from, quoted_text, operand_of_lexeme, one_and}
+use Rattle.kc_tree_model.proofs.Common.{one_factor, operand, ExprFault, TreeKind, Malformed, LeftOut, Misplaced, StrayEnd, TooDeep, TooMany, LineTooLong, NotUtf8, LogicalLine, Head, config, choice, menu, condition, comment, source, mainmenu, ends, DefaultAttribute, environment_default}
+use Rattle.kc_tree_model.proofs.Common.{TargetAttribute, Attribute, typed_prompt, typed_default, prompt, default, depends, select, imply, range, visible, help, modules, optional, default_of, Statement, head, attribute, Block, keyword_of, is_name, is_quoted_kind, is_the_word, Keyword, ParsedExpr}
+use Rattle.kc_tree_model.proofs.Common.{leading_expr, ◌>>=◌, statement_of, config_line, titled_line, source_line, path_of, prompt_line, type_line, default_line, target_line, range_of_operands, range_line, condition_line, environment_of_operand, environment_line, option_line, no_more, last_condition}
+use Rattle.kc_tree_model.proofs.Common.{optional_if, Group, is_stray, open_entry, is_allowed, is_left_out, is_stray_end, OpenEntry, is_too_deep, is_too_many, MAX_LINE_BYTES, fault_if, statement_by_keyword, statement_of_tokens, statement_by_word, statement_or_fault}
 use Rattle.std.specs.Str.{is_utf8}
 use Rattle.std.proofs.lemmas.Str.{IsUtf8-from_is_utf8}
-use Rattle.kc_tokens.specs.declared.language.Language.{Language}
-use Rattle.kc_value.specs.declared.value.Kind.{Kind}
-use Rattle.kc_expr.specs.Expr.{Expr, Operand, alone}
-use Rattle.kc_tokens.specs.Token.{Lexeme, lexemes_from}
-use Rattle.kc_tokens.specs.QuotedTexts.{quoted_text}
-use Rattle.kc_expr.specs.Grammar.{operand_of_lexeme, one_and, one_factor, operand}
-use Rattle.kc_tokens.specs.declared.fault.ExprFault.{ExprFault}
-use Rattle.kc_tree_model.specs.declared.fault.TreeKind.{TreeKind}
-use Rattle.kc_tree_model.specs.declared.fault.TreeKind.TheVariants.{Malformed, LeftOut, Misplaced, StrayEnd, TooDeep, TooMany, LineTooLong, NotUtf8}
-use Rattle.kc_tree_model.specs.LogicalLines.{LogicalLine}
-use Rattle.kc_tree_model.specs.Statements.{Head, config, choice, menu, condition, comment, source, mainmenu, ends, DefaultAttribute, environment_default, TargetAttribute, Attribute, typed_prompt, typed_default, prompt, default, depends, select, imply, range, visible, help, modules, optional, default_of, Statement, head, attribute}
-use Rattle.kc_tree_model.specs.declared.keyword.Block.{Block}
-use Rattle.kc_tree_model.specs.Keywords.{keyword_of, is_name, is_quoted_kind, is_the_word}
-use Rattle.kc_tree_model.specs.declared.keyword.Keyword.{Keyword}
 use Rattle.kc_tree_model.specs.declared.keyword.Keyword.TheVariants as words
-use Rattle.kc_tree_model.specs.Forms.{ParsedExpr, leading_expr, ◌>>=◌, statement_of, config_line, choice_line, titled_line, source_line, path_of, prompt_line, type_line, default_line, target_line, range_of_operands, range_line, condition_line, environment_of_operand, environment_line, option_line, no_more, last_condition, optional_if}
-use Rattle.kc_tree_model.specs.Blocks.{Group, is_stray}
-use Rattle.kc_tree_model.specs.Placement.{open_entry, allows_attribute, open_entry_allows, is_allowed, is_left_out, is_stray_end}
-use Rattle.kc_tree_model.specs.declared.keyword.OpenEntry.{OpenEntry}
-use Rattle.kc_tree_model.specs.Limits.{is_too_deep, is_too_many}
+use Rattle.kc_tree_model.specs.Forms.{choice_line}
+use Rattle.kc_tree_model.specs.Placement.{allows_attribute, open_entry_allows}
 use Rattle.kc_tree_model.proofs.ReadingLaws.FormLaws.{front_read}
-use Rattle.kc_value.specs.declared.limits.TheConstants.{MAX_LINE_BYTES}
-use Rattle.kc_tree_model.specs.TreeReading.{fault_if, statement_by_keyword, statement_of_tokens, statement_by_word, statement_or_fault, statement_on_line}
+use Rattle.kc_tree_model.specs.TreeReading.{statement_on_line}
 
 -- the sort of a statement: a `config`, a default, the end of a block, an option, another attribute, or any other statement
 pub data Sort : Type 0 where
@@ -256,7 +241,7 @@ pub not_false : (b : Bool) → not b ≡ false → b ≡ true
 not_false true h = refl
 not_false false h = cc
 
--- a line with these tokens, the first of them a keyword, is the statement `s`, which is allowed after these groups
+-- a line with these tokens, the first of them a keyword, is the statement `s`, which is allowed after these groups and passes no limit
 pub record IsKeywordStatement (read : List Group) (tokens : Result (List Lexeme) ExprFault) (s : Statement) : Type 0 where
   pub keyword : Keyword
   pub first : Lexeme
@@ -266,6 +251,7 @@ pub record IsKeywordStatement (read : List Group) (tokens : Result (List Lexeme)
   pub matched : is_stray_end read keyword ≡ false
   pub form : statement_of keyword rest ≡ Ok s
   pub sort : sort_of s ≡ sort_of_word keyword
+  pub few : is_too_many read s ≡ false
 
 abbrev pub IsKeywordStatementIfSome : List Group → Result (List Lexeme) ExprFault → Option Statement → Type 0
 IsKeywordStatementIfSome read tokens None = Unit {0}
@@ -290,6 +276,7 @@ statement_keyword language read k t ts o h =
       matched = c.0;
       form = d.1;
       sort = subst (Gives (sort_of_word k)) d.1 (gives_statement k ts);
+      few = f.0;
     })
 
 keyword_statement_if_some : (language : Language) (read : List Group) (w : Option Keyword) (t : Lexeme) (ts : List Lexeme) (o : Option Statement)

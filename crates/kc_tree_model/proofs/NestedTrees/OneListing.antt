@@ -1,7 +1,5 @@
 -- Two nested trees with one listing are equal.
-use Rattle.std.proofs.Common.{◌≡◌, List, [], ◌∷◌, ◌++◌, refl, ap, sym, ◌∙◌, append_assoc, append-nil}
-use Rattle.kc_tree_model.specs.Blocks.{Group, side_of, opening, closing, inside}
-use Rattle.kc_tree_model.specs.NestedTrees.{Items, none, entry, block, listing, IsNested}
+use Rattle.kc_tree_model.proofs.Common.{◌≡◌, List, [], ◌∷◌, ◌++◌, refl, ap, sym, ◌∙◌, append_assoc, append-nil, Group, side_of, opening, closing, inside, Items, none, entry, block, listing, IsNested}
 use Rattle.kc_tree_model.proofs.NestedTrees.OpenBlocks.{ends_closing, ends_opening}
 
 -- a list that begins with the end of a block, or is empty

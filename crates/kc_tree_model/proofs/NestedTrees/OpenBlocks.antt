@@ -1,9 +1,8 @@
 -- The open blocks as a stack: an opening pushes, and a closing pops.
-use Rattle.std.proofs.Common.{◌≡◌, ℕ, suc, zero, true, false, List, [], ◌∷◌, Option, None, refl, ap, sym, ◌∙◌, drop, drop-drop, arith, ◌+◌}
-use Rattle.kc_tree_model.specs.Statements.{config, choice, menu, condition, comment, source, mainmenu, ends, block_of_head}
-use Rattle.kc_tree_model.specs.declared.keyword.Block.{Block}
-use Rattle.kc_tree_model.specs.Blocks.{Group, GroupHead, of_head, file_end, Side, side_of, opening, closing, inside, open_blocks}
-use Rattle.kc_tree_model.specs.NestedTrees.{is_ended_by, ends_block, is_file_end}
+use Rattle.std.proofs.Common.{drop-drop}
+use Rattle.kc_tree_model.proofs.Common.{◌≡◌, ℕ, suc, zero, true, false, List, [], ◌∷◌, Option, None, refl, ap, sym, ◌∙◌, drop, arith, ◌+◌, config, choice, menu, condition, comment, source, mainmenu, ends, block_of_head, Block, Group, GroupHead, of_head, file_end, Side, side_of, opening, closing}
+use Rattle.kc_tree_model.proofs.Common.{inside, open_blocks, is_ended_by}
+use Rattle.kc_tree_model.specs.NestedTrees.{ends_block, is_file_end}
 
 -- what ends a block closes it, and what it ends opens it
 no_end : (e : GroupHead) → ends_block None e ≡ false

@@ -1,7 +1,5 @@
 -- A list in which each end matches the innermost open block is the listing of a nested tree with open ends.
-use Rattle.std.proofs.Common.{◌≡◌, Bool, true, false, List, [], ◌∷◌, ◌++◌, refl, ap, sym, ◌∙◌, append_assoc}
-use Rattle.kc_tree_model.specs.Blocks.{Group, GroupHead, Side, side_of, opening, closing, inside, open_blocks}
-use Rattle.kc_tree_model.specs.NestedTrees.{Items, none, entry, block, listing, IsNested, is_ended_by}
+use Rattle.kc_tree_model.proofs.Common.{◌≡◌, Bool, true, false, List, [], ◌∷◌, ◌++◌, refl, ap, sym, ◌∙◌, append_assoc, Group, GroupHead, Side, side_of, opening, closing, inside, open_blocks, Items, none, entry, block, listing, IsNested, is_ended_by}
 use Rattle.kc_tree_model.proofs.NestedTrees.OpenBlocks.{pushed}
 use Rattle.kc_tree_model.proofs.NestedTrees.Walks.{onto, onto-append, open-listing}
 

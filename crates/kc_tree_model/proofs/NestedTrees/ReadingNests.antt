@@ -1,20 +1,14 @@
 -- The groups that are read without a fault are the listing of just one nested tree.
-use Rattle.std.proofs.Common.{◌≡◌, ℕ, suc, zero, Bool, true, false, not, cond, List, [], ◌∷◌, ◌++◌, Option, Some, None, Result, Ok, Err, refl, ap, sym, ◌∙◌, length, drop, reverse}
-use Rattle.std.specs.Prelude.{nat_lt, option_map}
-use Rattle.kc_tree_model.specs.declared.fault.TreeKind.{TreeKind}
-use Rattle.kc_tree_model.specs.declared.fault.TreeFault.{TreeFault}
-use Rattle.kc_tree_model.specs.TreeFiles.{Files, file_at, index_of_file}
-use Rattle.kc_tree_model.specs.LogicalLines.{LogicalLine, lines_of}
-use Rattle.kc_tree_model.specs.Statements.{Head, config, choice, menu, condition, comment, source, mainmenu, ends, Attribute, Statement, head, attribute, block_of_head, path_of_head}
-use Rattle.kc_tree_model.specs.declared.keyword.Block.{Block}
-use Rattle.kc_tree_model.specs.Blocks.{Group, Position, GroupHead, of_head, file_end, side_of, opening, inside, from_head, open_blocks, opened_block, innermost, innermost_of, is_stray, is_some_block}
-use Rattle.kc_tree_model.specs.Placement.{open_entry, opened_by}
-use Rattle.kc_tree_model.specs.declared.keyword.OpenEntry.{OpenEntry}
-use Rattle.kc_tree_model.specs.Limits.{FileSource, bytes_in, source_fault}
-use Rattle.kc_value.specs.declared.limits.TheConstants.{MAX_TREE_BYTES, MAX_OPEN_FILES}
-use Rattle.kc_tree_model.specs.Conditions.{groups_in_context}
-use Rattle.kc_tree_model.specs.TreeReading.{statement_on_line, with_statement, with_group, with_attribute, path_to_read, Outcome, at_file_end, continue_after_file, continue_after_source, continue_after_statement, continue_after_line, read_lines, read_file, read_root, reading}
-use Rattle.kc_tree_model.specs.NestedTrees.{Items, listing, IsTreeOf, is_ended_by}
+use Rattle.kc_tree_model.proofs.Common.{◌≡◌, ℕ, suc, zero, Bool, true, false, not, cond, List, [], ◌∷◌, ◌++◌, Option, Some, None, Result, Ok, Err, refl, ap, sym, ◌∙◌, length, drop, reverse, nat_lt, option_map, TreeKind, TreeFault, Files, file_at, index_of_file, LogicalLine, Head, config, choice}
+use Rattle.kc_tree_model.proofs.Common.{menu, condition, comment, source, mainmenu, ends, Attribute, Statement, head, attribute, block_of_head, path_of_head, Block, Group, Position, GroupHead, of_head, file_end, side_of, opening, inside, from_head, open_blocks, innermost, is_stray, is_some_block}
+use Rattle.kc_tree_model.proofs.Common.{open_entry, OpenEntry, FileSource, bytes_in, MAX_TREE_BYTES, MAX_OPEN_FILES, groups_in_context, with_statement, with_group, with_attribute, path_to_read, Outcome, at_file_end, continue_after_file, continue_after_source, continue_after_statement}
+use Rattle.kc_tree_model.proofs.Common.{continue_after_line, read_lines, read_file, read_root, Items, listing, is_ended_by}
+use Rattle.kc_tree_model.specs.LogicalLines.{lines_of}
+use Rattle.kc_tree_model.specs.Blocks.{opened_block, innermost_of}
+use Rattle.kc_tree_model.specs.Placement.{opened_by}
+use Rattle.kc_tree_model.specs.Limits.{source_fault}
+use Rattle.kc_tree_model.specs.TreeReading.{statement_on_line, reading}
+use Rattle.kc_tree_model.specs.NestedTrees.{IsTreeOf}
 use Rattle.kc_tree_model.proofs.NestedTrees.OpenBlocks.{open_inside, pushed, popped}
 use Rattle.kc_tree_model.proofs.NestedTrees.Walks.{listed_of, placed-listing}
 use Rattle.kc_tree_model.proofs.NestedTrees.OneListing.{only_tree}
@@ -151,10 +145,7 @@ attribute_by start before g (of_head (menu title)) line a o e k i s =
     attribute_opening start before s.blocks g line a _ i (ap side_of e) (ap (from_head block_of_head) e) s.own s.opened s.matched
 attribute_by start before g (of_head (condition x)) line a o e k i s = cc
 attribute_by start before g (of_head (comment title)) line a o e k i s = attribute_inside start before g line a (ap side_of e) s
-attribute_by start before g (of_head (source path)) line a o e k i s = cc
-attribute_by start before g (of_head mainmenu) line a o e k i s = cc
-attribute_by start before g (of_head (ends b)) line a o e k i s = cc
-attribute_by start before g file_end line a o e k i s = cc
+attribute_by start before g x line a o e k i s = cc
 
 after_attribute : (start read : List Group) (line : ℕ) (a : Attribute) (o : OpenEntry) → open_entry read ≡ Some o → innermost start ≡ None → Since start read
     → Since start (with_attribute line a read)

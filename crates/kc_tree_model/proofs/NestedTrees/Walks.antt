@@ -1,9 +1,7 @@
 -- The context of each place of a nested tree is that of the blocks open there.
-use Rattle.std.proofs.Common.{◌≡◌, ℕ, suc, List, [], ◌∷◌, ◌++◌, reverse, refl, ap, sym, ◌∙◌, append_assoc, append-nil}
+use Rattle.kc_tree_model.proofs.Common.{◌≡◌, ℕ, suc, List, [], ◌∷◌, ◌++◌, reverse, refl, ap, sym, ◌∙◌, append_assoc, append-nil, Group, side_of, opening, closing, open_blocks, GroupInContext, group_in_context, groups_in_context, Items, none, entry, block, listing, IsNested}
 use Rattle.std.proofs.lemmas.List.{reverse-append, reverse-reverse}
-use Rattle.kc_tree_model.specs.Blocks.{Group, side_of, opening, closing, open_blocks}
-use Rattle.kc_tree_model.specs.Conditions.{GroupInContext, group_in_context, groups_in_context}
-use Rattle.kc_tree_model.specs.NestedTrees.{Items, none, entry, block, listing, IsNested, walk}
+use Rattle.kc_tree_model.specs.NestedTrees.{walk}
 use Rattle.kc_tree_model.proofs.NestedTrees.OpenBlocks.{open_inside, open_closing, open_opening, pushed, ends_closing, ends_opening}
 
 -- these groups in reading order added to groups that were read (newest first)

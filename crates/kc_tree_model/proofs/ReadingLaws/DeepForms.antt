@@ -1,23 +1,14 @@
 -- A line is TooDeep where it comes to an expression of which an operand is too deep.
-use Rattle.std.proofs.Common.{◌≡◌, ℕ, Bool, true, false, cond, List, [], ◌∷◌, ◌++◌, length, drop, Option, Some, None, Result, Ok, Err, refl, ap, sym, ◌∙◌, subst}
-use Rattle.std.specs.Prelude.{◌↔◌, ◌==◌, codes}
-use Rattle.kc_value.specs.declared.value.Kind.{Kind}
-use Rattle.kc_value.specs.declared.limits.TheConstants.{MAX_EXPR_DEPTH}
-use Rattle.kc_tokens.specs.declared.fault.ExprKind.{ExprKind}
+use Rattle.kc_tree_model.proofs.Common.{◌≡◌, ℕ, Bool, true, false, cond, List, [], ◌∷◌, ◌++◌, length, drop, Option, Some, None, Result, Ok, Err, refl, ap, sym, ◌∙◌, subst, ◌↔◌, ◌==◌, codes, Kind, MAX_EXPR_DEPTH, ExprKind, Lexeme, Expr, Operand, conditional, IsExpr, ors, extent, operand_of_lexeme}
+use Rattle.kc_tree_model.proofs.Common.{TreeKind, Malformed, TooDeep, Head, menu, condition, comment, source, mainmenu, DefaultAttribute, TargetAttribute, Attribute, typed_prompt, typed_default, prompt, default, depends, select, imply, range, visible, modules, Statement, head, attribute, is_name}
+use Rattle.kc_tree_model.proofs.Common.{is_quoted_kind, is_the_word, Keyword, ◌>>=◌, kind_of_fault, ParsedExpr, leading_expr, no_more, last_condition, optional_if, config_line, titled_line, path_of, source_line, prompt_line, type_line, default_line, target_line, range_of_operands, range_line}
+use Rattle.kc_tree_model.proofs.Common.{condition_line, environment_of_operand, environment_line, option_line, statement_of, HasDeepExpr}
 use Rattle.kc_tokens.specs.declared.fault.ExprKind.TheVariants as expr_kinds
 use Rattle.kc_expr.specs.ExprFaults.{IsFirstExprFault}
-use Rattle.kc_tokens.specs.Token.{Lexeme}
-use Rattle.kc_expr.specs.Expr.{Expr, Operand, conditional}
-use Rattle.kc_expr.specs.Grammar.{IsExpr, ors, read_expr, extent, operand_of_lexeme}
+use Rattle.kc_expr.specs.Grammar.{read_expr}
 use Rattle.kc_expr.proofs.FirstFaults.{first_fault, fault_read}
-use Rattle.kc_tree_model.specs.declared.fault.TreeKind.{TreeKind}
-use Rattle.kc_tree_model.specs.declared.fault.TreeKind.TheVariants.{Malformed, TooDeep}
-use Rattle.kc_tree_model.specs.Statements.{Head, menu, condition, comment, source, mainmenu, DefaultAttribute, TargetAttribute, Attribute, typed_prompt, typed_default, prompt, default, depends, select, imply, range, visible, modules, Statement, head, attribute}
-use Rattle.kc_tree_model.specs.Keywords.{is_name, is_quoted_kind, is_the_word}
-use Rattle.kc_tree_model.specs.declared.keyword.Keyword.{Keyword}
 use Rattle.kc_tree_model.specs.declared.keyword.Keyword.TheVariants as words
-use Rattle.kc_tree_model.specs.Forms.{◌>>=◌, kind_of_fault, ParsedExpr, leading_expr, no_more, last_condition, optional_if, config_line, titled_line, path_of, source_line, prompt_line, type_line, default_line, target_line, range_of_operands, range_line, condition_line, environment_of_operand, environment_line, option_line, statement_of}
-use Rattle.kc_tree_model.specs.FormGrammar.{IsBeforeIf, of_type, of_prompt, of_type_default, of_default, of_select, of_imply, of_range, ComesToExpr, at_if, at_type_default, at_default, at_depends, at_visible, after_if, HasDeepExpr}
+use Rattle.kc_tree_model.specs.FormGrammar.{IsBeforeIf, of_type, of_prompt, of_type_default, of_default, of_select, of_imply, of_range, ComesToExpr, at_if, at_type_default, at_default, at_depends, at_visible, after_if}
 use Rattle.kc_tree_model.proofs.ReadingLaws.TightTokens.{extent_front}
 use Rattle.kc_tree_model.proofs.ReadingLaws.FormLaws.{OfOk, IsParsed, leading, ends_by, front_read}
 
@@ -50,11 +41,7 @@ IsDeep ts = (rest : List Lexeme) × IsFirstExprFault (extent ts) (expr_kinds.Too
 
 deep_by : (ts rest : List Lexeme) (kind : ExprKind) → read_expr (extent ts) ≡ Err (kind, rest) → OfDeep {A = ParsedExpr} (IsDeep ts) (Err (kind_of_fault kind))
 deep_by ts rest expr_kinds.TooDeep h = (rest, first_fault (extent ts) (expr_kinds.TooDeep, rest) h)
-deep_by ts rest expr_kinds.Malformed h = tt
-deep_by ts rest expr_kinds.BadToken h = tt
-deep_by ts rest expr_kinds.UnclosedQuote h = tt
-deep_by ts rest expr_kinds.LeftOut h = tt
-deep_by ts rest expr_kinds.OutOfMemory h = tt
+deep_by ts rest x h = tt
 
 deep_leading_by : (ts : List Lexeme) (r : Result Expr (ExprKind × List Lexeme)) → read_expr (extent ts) ≡ r
     → OfDeep (IsDeep ts)

@@ -1,8 +1,5 @@
 -- The first kind in an order for which a condition holds is unique.
-use Rattle.std.proofs.Common.{◌≡◌, List, [], ◌∷◌, ◌++◌, sym, ◌∙◌, subst}
-use Rattle.std.specs.List.{AllByRecursion}
-use Rattle.kc_tree_model.specs.declared.fault.TreeKind.{TreeKind}
-use Rattle.kc_tree_model.specs.ReadingFaults.{IsFirstOf}
+use Rattle.kc_tree_model.proofs.Common.{◌≡◌, List, [], ◌∷◌, ◌++◌, sym, ◌∙◌, subst, AllByRecursion, TreeKind, IsFirstOf}
 
 -- a condition on kinds of faults holds for none of these kinds
 abbrev pub NoneHolds : (TreeKind → Type 0) → List TreeKind → Type 0

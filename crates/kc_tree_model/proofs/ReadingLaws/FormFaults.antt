@@ -1,23 +1,13 @@
 -- A line that hasn't the form of its keyword is Malformed, or an expression in it is TooDeep.
-use Rattle.std.proofs.Common.{◌≡◌, ◌⊎◌, inl, inr, subst, ℕ, zero, suc, Bool, true, false, cond, List, [], ◌∷◌, Option, Some, None, Result, Ok, Err, refl, ap, sym, ◌∙◌, length}
-use Rattle.kc_value.specs.declared.value.Kind.{Kind}
-use Rattle.kc_value.specs.declared.limits.TheConstants.{MAX_EXPR_DEPTH}
-use Rattle.kc_tokens.specs.declared.fault.ExprKind.{ExprKind}
+use Rattle.kc_tree_model.proofs.Common.{◌≡◌, ◌⊎◌, inl, inr, subst, ℕ, zero, suc, Bool, true, false, cond, List, [], ◌∷◌, Option, Some, None, Result, Ok, Err, refl, ap, sym, ◌∙◌, length, Kind, MAX_EXPR_DEPTH, ExprKind, TokenKind, Word, Quoted, Relation, Not, And, Or, Open, Close, Lexeme, Expr}
+use Rattle.kc_tree_model.proofs.Common.{Operand, alone, both, named, quoted, conditional, quoted_text, is_close, extent, operand_of_lexeme, TreeKind, Malformed, TooDeep, Head, menu, comment, source, mainmenu, DefaultAttribute, TargetAttribute, Attribute, typed_prompt, typed_default, prompt, default}
+use Rattle.kc_tree_model.proofs.Common.{depends, select, imply, visible, modules, Statement, head, attribute, is_name, is_quoted_kind, is_the_word, Keyword, ◌>>=◌, kind_of_fault, ParsedExpr, leading_expr, no_more, last_condition, optional_if, config_line, titled_line, path_of, source_line}
+use Rattle.kc_tree_model.proofs.Common.{prompt_line, type_line, default_line, target_line, range_of_operands, range_line, condition_line, environment_of_operand, environment_line, option_line, statement_of, codes, ◌==◌}
 use Rattle.kc_tokens.specs.declared.fault.ExprKind.TheVariants as expr_kinds
-use Rattle.kc_tokens.specs.declared.token.TokenKind.{TokenKind}
-use Rattle.kc_tokens.specs.declared.token.TokenKind.TheVariants.{Word, Quoted, Relation, Not, And, Or, Open, Close}
-use Rattle.kc_tokens.specs.Token.{Lexeme}
-use Rattle.kc_expr.specs.Expr.{Expr, Operand, alone, related, negated, both, either, named, quoted, conditional}
-use Rattle.kc_tokens.specs.QuotedTexts.{quoted_text}
-use Rattle.kc_expr.specs.Grammar.{Read, on_read, past_depth_limit, right_operand, after_operand, is_and, is_or, is_close, chain, read_ands, read_ors, closed, factor_of, read_factor, read_to_end, read_expr, extent, constant_or, operand_of_lexeme}
-use Rattle.kc_tree_model.specs.declared.fault.TreeKind.{TreeKind}
-use Rattle.kc_tree_model.specs.declared.fault.TreeKind.TheVariants.{Malformed, TooDeep}
-use Rattle.kc_tree_model.specs.Statements.{Head, menu, comment, source, mainmenu, DefaultAttribute, TargetAttribute, Attribute, typed_prompt, typed_default, prompt, default, depends, select, imply, visible, modules, Statement, head, attribute}
-use Rattle.kc_tree_model.specs.Keywords.{is_name, is_quoted_kind, is_the_word}
-use Rattle.kc_tree_model.specs.declared.keyword.Keyword.{Keyword}
+use Rattle.kc_expr.specs.Expr.{related, negated, either}
+use Rattle.kc_expr.specs.Grammar.{Read, on_read, past_depth_limit, right_operand, after_operand, is_and, is_or, chain, read_ands, read_ors, closed, factor_of, read_factor, read_to_end, read_expr, constant_or}
 use Rattle.kc_tree_model.specs.declared.keyword.Keyword.TheVariants as words
-use Rattle.kc_tree_model.specs.Forms.{◌>>=◌, kind_of_fault, ParsedExpr, leading_expr, no_more, last_condition, optional_if, config_line, titled_line, path_of, source_line, prompt_line, type_line, default_line, target_line, range_of_operands, range_line, condition_line, environment_of_operand, environment_line, option_line, statement_of}
-use Rattle.std.specs.Prelude.{codes, drop, ◌==◌}
+use Rattle.std.specs.Prelude.{drop}
 
 -- the kinds of faults of expressions
 abbrev is_expr_kind : ExprKind → Bool

@@ -1,27 +1,16 @@
 -- A line has the form that is read of it.
-use Rattle.std.proofs.Common.{◌≡◌, ℕ, Bool, true, false, cond, List, [], ◌∷◌, ◌++◌, length, drop, Option, Some, None, Result, Ok, Err, refl, ap, sym, ◌∙◌, subst}
-use Rattle.std.proofs.lemmas.Bool.{and_parts}
-use Rattle.std.proofs.lemmas.Slice.Eq.{bytes_eq-Decides}
+use Rattle.kc_tree_model.proofs.Common.{◌≡◌, ℕ, Bool, true, false, cond, List, [], ◌∷◌, ◌++◌, length, drop, Option, Some, None, Result, Ok, Err, refl, ap, sym, ◌∙◌, subst, and_parts, bytes_eq-Decides, ◌↔◌, ◌==◌, codes, bytes_eq, Kind, MAX_EXPR_DEPTH, ExprKind, Word, Lexeme, Expr, Operand}
+use Rattle.kc_tree_model.proofs.Common.{conditional, quoted_text, IsExpr, ors, extent, operand_of_lexeme, is_operand_kind, expr_sound, TreeKind, Malformed, Head, config, choice, menu, condition, comment, source, mainmenu, ends, DefaultAttribute, environment_default, TargetAttribute, Attribute}
+use Rattle.kc_tree_model.proofs.Common.{typed_prompt, typed_default, prompt, default, depends, select, imply, range, visible, help, modules, optional, Statement, head, attribute, is_name, is_quoted_kind, is_the_word, Keyword, ◌>>=◌, kind_of_fault, ParsedExpr, leading_expr, no_more, last_condition}
+use Rattle.kc_tree_model.proofs.Common.{optional_if, config_line, titled_line, path_of, source_line, prompt_line, type_line, default_line, target_line, range_of_operands, range_line, condition_line, environment_of_operand, environment_line, option_line, statement_of, IsForm}
 use Rattle.std.proofs.lemmas.List.{append-nil}
-use Rattle.std.specs.Prelude.{◌↔◌, ◌==◌, ◌&&◌, codes, bytes_eq}
-use Rattle.kc_value.specs.declared.value.Kind.{Kind}
-use Rattle.kc_value.specs.declared.limits.TheConstants.{MAX_EXPR_DEPTH}
-use Rattle.kc_tokens.specs.declared.fault.ExprKind.{ExprKind}
-use Rattle.kc_tokens.specs.declared.token.TokenKind.TheVariants.{Word}
-use Rattle.kc_tokens.specs.Token.{Lexeme}
-use Rattle.kc_expr.specs.Expr.{Expr, Operand, conditional}
-use Rattle.kc_tokens.specs.QuotedTexts.{quoted_text}
-use Rattle.kc_expr.specs.Grammar.{IsExpr, ors, read_expr, extent, operand_of_lexeme, is_operand_kind}
-use Rattle.kc_expr.proofs.GrammarLaws.{expr_sound}
+use Rattle.std.specs.Prelude.{◌&&◌}
+use Rattle.kc_expr.specs.Grammar.{read_expr}
 use Rattle.kc_expr.proofs.GrammarComplete.{expr_complete}
-use Rattle.kc_tree_model.specs.declared.fault.TreeKind.{TreeKind}
-use Rattle.kc_tree_model.specs.declared.fault.TreeKind.TheVariants.{Malformed}
-use Rattle.kc_tree_model.specs.Statements.{Head, config, choice, menu, condition, comment, source, mainmenu, ends, DefaultAttribute, environment_default, TargetAttribute, Attribute, typed_prompt, typed_default, prompt, default, depends, select, imply, range, visible, help, modules, optional, Statement, head, attribute}
-use Rattle.kc_tree_model.specs.Keywords.{is_word_kind, is_name, is_quoted_kind, is_the_word}
-use Rattle.kc_tree_model.specs.declared.keyword.Keyword.{Keyword}
+use Rattle.kc_tree_model.specs.Keywords.{is_word_kind}
 use Rattle.kc_tree_model.specs.declared.keyword.Keyword.TheVariants as words
-use Rattle.kc_tree_model.specs.Forms.{◌>>=◌, kind_of_fault, ParsedExpr, leading_expr, no_more, last_condition, optional_if, config_line, titled_line, path_of, source_line, prompt_line, type_line, default_line, target_line, range_of_operands, range_line, condition_line, environment_of_operand, environment_line, option_line, statement_of}
-use Rattle.kc_tree_model.specs.FormGrammar.{IsCondition, IsOptionalIf, no_if, with_if, IsDefault, IsForm, config_form, choice_form, menu_form, if_form, comment_form, source_form, mainmenu_form, end_form, type_form, type_prompt_form, type_default_form, prompt_form, default_form, depends_form, select_form, imply_form, range_form, visible_form, help_form, modules_form, option_form, environment_form, optional_form}
+use Rattle.kc_tree_model.specs.FormGrammar.{IsCondition, IsOptionalIf, no_if, with_if, IsDefault, config_form, choice_form, menu_form, if_form, comment_form, source_form, mainmenu_form, end_form, type_form, type_prompt_form, type_default_form, prompt_form, default_form, depends_form, select_form}
+use Rattle.kc_tree_model.specs.FormGrammar.{imply_form, range_form, visible_form, help_form, modules_form, option_form, environment_form, optional_form}
 use Rattle.kc_tree_model.proofs.ReadingLaws.TightTokens.{EndsExpr, expr_tight, extent_tight, extent_front, drop_front}
 
 -- if a result has no fault, its value has the property `P`

@@ -1,36 +1,20 @@
 -- What is read of a line, by the conditions of its faults.
-use Rattle.std.proofs.Common.{◌≡◌, ℕ, suc, inl, inr, Bool, true, false, not, cond, List, [], ◌∷◌, ◌++◌, Option, Some, None, Result, Ok, Err, refl, ap, sym, ◌∙◌, subst, length, arith}
-use Rattle.std.specs.Prelude.{nat_lt, take, drop}
+use Rattle.kc_tree_model.proofs.Common.{◌≡◌, ℕ, suc, inl, inr, Bool, true, false, not, cond, List, [], ◌∷◌, ◌++◌, Option, Some, None, Result, Ok, Err, refl, ap, sym, ◌∙◌, subst, length, arith, nat_lt, ltb-true, ltb-false, MAX_LINE_BYTES, ExprFault, ExprKind, Language, Lexeme, lexemes_from}
+use Rattle.kc_tree_model.proofs.Common.{IsFirstTokenFault, cut_read, read_cut, TreeKind, LineTooLong, NotUtf8, UnknownStatement, LeftOut, Misplaced, StrayEnd, Malformed, TooDeep, TooMany, LogicalLine, keyword_of, Keyword, Statement, statement_of, kind_of_fault, ◌>>=◌, Group, is_allowed, is_left_out}
+use Rattle.kc_tree_model.proofs.Common.{is_stray_end, is_too_deep, is_too_many, fault_if, statement_by_keyword, statement_by_word, statement_or_fault, HasTokens, help_line, cut_line, HasForm, HoldsNever, IsFirstOf, IsForm, HasDeepExpr}
+use Rattle.std.specs.Prelude.{take, drop}
 use Rattle.std.specs.Str.{is_utf8}
-use Rattle.std.proofs.lemmas.Bool.{ltb-true, ltb-false}
-use Rattle.kc_value.specs.declared.limits.TheConstants.{MAX_LINE_BYTES}
-use Rattle.kc_tokens.specs.declared.fault.ExprFault.{ExprFault}
-use Rattle.kc_tokens.specs.declared.fault.ExprKind.{ExprKind}
 use Rattle.kc_tokens.specs.declared.fault.ExprKind.TheVariants as expr_kinds
-use Rattle.kc_tokens.specs.declared.language.Language.{Language}
-use Rattle.kc_tokens.specs.Token.{Lexeme, lexemes_from}
-use Rattle.kc_tokens.specs.TokenGrammar.{IsFirstTokenFault}
-use Rattle.kc_tokens.proofs.TokenLaws.{cut_read}
-use Rattle.kc_tokens.proofs.CutLaws.{read_cut, read_fault}
+use Rattle.kc_tokens.proofs.CutLaws.{read_fault}
 use Rattle.kc_expr.proofs.FaultLaws.{fault_read}
-use Rattle.kc_tree_model.specs.declared.fault.TreeKind.{TreeKind}
-use Rattle.kc_tree_model.specs.declared.fault.TreeKind.TheVariants.{LineTooLong, NotUtf8, BadToken, UnclosedQuote, UnknownStatement, LeftOut, Misplaced, StrayEnd, Malformed, TooDeep, TooMany}
-use Rattle.kc_tree_model.specs.LogicalLines.{LogicalLine}
-use Rattle.kc_tree_model.specs.Keywords.{keyword_of}
-use Rattle.kc_tree_model.specs.declared.keyword.Keyword.{Keyword}
-use Rattle.kc_tree_model.specs.Statements.{Statement}
-use Rattle.kc_tree_model.specs.Forms.{statement_of, kind_of_fault, ◌>>=◌}
-use Rattle.kc_tree_model.specs.Blocks.{Group}
-use Rattle.kc_tree_model.specs.Placement.{is_allowed, is_left_out, is_stray_end}
-use Rattle.kc_tree_model.specs.Limits.{is_too_deep, is_too_many}
-use Rattle.kc_tree_model.specs.TreeReading.{fault_if, statement_by_keyword, statement_by_word, statement_or_fault, statement_on_line}
-use Rattle.kc_tree_model.specs.ReadingFaults.{HasTokens, help_line, cut_line, HasTokenFault, BeginsWith, HasForm, IsLineFault, line_order, HoldsNever, IsFirstOf}
+use Rattle.kc_tree_model.specs.declared.fault.TreeKind.TheVariants.{BadToken, UnclosedQuote}
+use Rattle.kc_tree_model.specs.TreeReading.{statement_on_line}
+use Rattle.kc_tree_model.specs.ReadingFaults.{HasTokenFault, BeginsWith, IsLineFault, line_order}
 use Rattle.kc_tree_model.proofs.ReadingLaws.TokenFaults.{is_token_kind, token_kind_known, one_tokens}
 use Rattle.kc_tree_model.proofs.ReadingLaws.FormFaults.{is_form_kind, known_fault}
 use Rattle.kc_tree_model.proofs.ReadingLaws.FirstFaults.{NoneHolds, one_first, with_none}
 use Rattle.kc_tree_model.proofs.ReadingLaws.FormLaws.{form_read, forms_related}
 use Rattle.kc_tree_model.proofs.ReadingLaws.DeepForms.{deep_related}
-use Rattle.kc_tree_model.specs.FormGrammar.{IsForm, HasDeepExpr}
 
 tokens_or_fault : (r : Result (List Lexeme) ExprFault) (ts : List Lexeme) (e : ExprFault) → r ≡ Ok ts → r ≡ Err e → ⊥
 tokens_or_fault r ts e h k = cc

@@ -1,17 +1,11 @@
 -- What the relation gives is what is read.
-use Rattle.std.proofs.Common.{◌≡◌, ◌≤◌, ◌+◌, ℕ, zero, suc, cond, List, [], ◌∷◌, Option, Some, None, refl, ap, sym, ◌∙◌, length, arith}
-use Rattle.std.proofs.lemmas.Bool.{le-ltb, lt-ltb}
-use Rattle.kc_value.specs.declared.limits.TheConstants.{MAX_TREE_BYTES, MAX_OPEN_FILES}
-use Rattle.kc_tree_model.specs.declared.fault.TreeKind.{TreeKind}
-use Rattle.kc_tree_model.specs.declared.fault.TreeKind.TheVariants.{TooMany}
-use Rattle.kc_tree_model.specs.declared.fault.TreeFault.{TreeFault}
-use Rattle.kc_tree_model.specs.LogicalLines.{LogicalLine, lines_of}
-use Rattle.kc_tree_model.specs.Statements.{source, head}
-use Rattle.kc_tree_model.specs.Blocks.{Group, Position, of_head}
-use Rattle.kc_tree_model.specs.Limits.{FileSource, bytes_in, source_fault}
-use Rattle.kc_tree_model.specs.TreeReading.{statement_on_line, with_group, Outcome, ended_by_fault, at_file_end, continue_after_file, continue_after_source, continue_after_statement, continue_after_line, read_lines, read_file, read_root}
-use Rattle.kc_tree_model.specs.MoreFiles.{reading_from}
-use Rattle.kc_tree_model.specs.ReadingRelation.{HasLines, Appends, nothing, statement, SourcesPath, SourcesLines, place, IsRead, at_end, line, sourced, ComesTo, here, past_line, past_file, into_file, FaultAt, of_line, of_source, of_end, HasFirstFile, IsWholeReading, IsCutReading, no_file, large_file, comes_to_fault}
+use Rattle.kc_tree_model.proofs.Common.{◌≡◌, ◌≤◌, ◌+◌, ℕ, zero, suc, cond, List, [], ◌∷◌, Option, Some, None, refl, ap, sym, ◌∙◌, length, arith, lt-ltb, MAX_TREE_BYTES, MAX_OPEN_FILES, TreeKind, TooMany, TreeFault, LogicalLine, source, head, Group, Position, of_head, FileSource, bytes_in}
+use Rattle.kc_tree_model.proofs.Common.{with_group, Outcome, ended_by_fault, at_file_end, continue_after_file, continue_after_source, continue_after_statement, continue_after_line, read_lines, read_file, read_root, reading_from, HasLines, Appends, nothing, statement, SourcesPath, SourcesLines}
+use Rattle.kc_tree_model.proofs.Common.{place, IsRead, at_end, line, sourced, ComesTo, here, past_line, past_file, into_file, FaultAt, of_line, of_source, of_end, HasFirstFile, IsWholeReading, IsCutReading, no_file, large_file, comes_to_fault}
+use Rattle.std.proofs.lemmas.Bool.{le-ltb}
+use Rattle.kc_tree_model.specs.LogicalLines.{lines_of}
+use Rattle.kc_tree_model.specs.Limits.{source_fault}
+use Rattle.kc_tree_model.specs.TreeReading.{statement_on_line}
 use Rattle.kc_tree_model.proofs.LineLaws.LogicalLines.{lines_are_so}
 use Rattle.kc_tree_model.proofs.NestedTrees.FileCoverage.{each_file_read}
 use Rattle.kc_tree_model.proofs.ReadingLaws.LineFaults.{line_of_nothing, line_of_statement, line_of_fault}

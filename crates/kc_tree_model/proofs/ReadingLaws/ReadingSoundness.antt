@@ -1,20 +1,11 @@
 -- What is read is what the relation gives.
-use Rattle.std.proofs.Common.{◌≡◌, ◌≤◌, ◌<◌, ◌+◌, ℕ, zero, suc, Bool, true, false, cond, List, [], ◌∷◌, Option, Some, None, Result, Ok, Err, refl, ap, sym, ◌∙◌, subst, length, drop, arith}
-use Rattle.std.specs.Prelude.{◌↔◌, nat_lt}
-use Rattle.std.proofs.lemmas.Bool.{ltb-true, ltb-false}
-use Rattle.kc_value.specs.declared.limits.TheConstants.{MAX_TREE_BYTES, MAX_OPEN_FILES}
-use Rattle.kc_tree_model.specs.declared.fault.TreeKind.{TreeKind}
-use Rattle.kc_tree_model.specs.declared.fault.TreeKind.TheVariants.{MissingFile, TooMany}
-use Rattle.kc_tree_model.specs.declared.fault.TreeFault.{TreeFault}
-use Rattle.kc_tree_model.specs.LogicalLines.{LogicalLine, lines_of}
-use Rattle.kc_tree_model.specs.Statements.{source, Statement, head, attribute}
-use Rattle.kc_tree_model.specs.declared.keyword.Block.{Block}
-use Rattle.kc_tree_model.specs.Blocks.{Group, of_head, file_end, innermost, open_blocks}
-use Rattle.kc_tree_model.specs.Limits.{FileSource, bytes_in, open_files, source_fault}
-use Rattle.kc_tree_model.specs.TreeReading.{statement_on_line, with_statement, with_group, path_to_read, Outcome, ended_by_fault, at_file_end, continue_after_file, continue_after_source, continue_after_statement, continue_after_line, read_lines, read_file, read_root}
-use Rattle.kc_tree_model.specs.MoreFiles.{reading_from}
-use Rattle.kc_tree_model.specs.ReadingFaults.{HasForm}
-use Rattle.kc_tree_model.specs.ReadingRelation.{HasLines, Appends, nothing, statement, SourcesPath, SourcesLines, place, IsRead, at_end, line, sourced, ComesTo, here, past_line, past_file, into_file, FaultAt, of_line, of_source, of_end, HasFirstFile, IsWholeReading, IsCutReading, no_file, large_file, comes_to_fault}
+use Rattle.kc_tree_model.proofs.Common.{◌≡◌, ◌≤◌, ◌<◌, ◌+◌, ℕ, zero, suc, Bool, true, false, cond, List, [], ◌∷◌, Option, Some, None, Result, Ok, Err, refl, ap, sym, ◌∙◌, subst, length, drop, arith, ◌↔◌, nat_lt, ltb-true, ltb-false, MAX_TREE_BYTES, MAX_OPEN_FILES, TreeKind, MissingFile, TooMany}
+use Rattle.kc_tree_model.proofs.Common.{TreeFault, LogicalLine, source, Statement, head, attribute, Block, Group, of_head, file_end, innermost, open_blocks, FileSource, bytes_in, open_files, with_statement, with_group, path_to_read, Outcome, ended_by_fault, at_file_end, continue_after_file}
+use Rattle.kc_tree_model.proofs.Common.{continue_after_source, continue_after_statement, continue_after_line, read_lines, read_file, read_root, reading_from, HasForm, HasLines, Appends, nothing, statement, SourcesPath, SourcesLines, place, IsRead, at_end, line, sourced, ComesTo, here, past_line}
+use Rattle.kc_tree_model.proofs.Common.{past_file, into_file, FaultAt, of_line, of_source, of_end, HasFirstFile, IsWholeReading, IsCutReading, no_file, large_file, comes_to_fault}
+use Rattle.kc_tree_model.specs.LogicalLines.{lines_of}
+use Rattle.kc_tree_model.specs.Limits.{source_fault}
+use Rattle.kc_tree_model.specs.TreeReading.{statement_on_line}
 use Rattle.kc_tree_model.proofs.LineLaws.LogicalLines.{lines_are_so}
 use Rattle.kc_tree_model.proofs.NestedTrees.OpenTrees.{EndsMatch, ends_first}
 use Rattle.kc_tree_model.proofs.NestedTrees.LineFits.{Fits, line_fits}

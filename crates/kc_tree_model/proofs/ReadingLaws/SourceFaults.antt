@@ -1,13 +1,8 @@
 -- The fault of a `source`, by the conditions of its kinds.
-use Rattle.std.proofs.Common.{◌≡◌, ◌+◌, inl, inr, ℕ, Bool, true, false, not, cond, List, [], ◌∷◌, Option, Some, None, refl, ap, sym, ◌∙◌, length, arith}
-use Rattle.std.specs.Prelude.{nat_lt, nat_le, is_some, sum_by}
-use Rattle.std.proofs.lemmas.Bool.{ltb-true, ltb-false, leb-true, leb-false}
-use Rattle.kc_value.specs.declared.limits.TheConstants.{MAX_FILES, MAX_TREE_BYTES, MAX_OPEN_FILES}
-use Rattle.kc_tree_model.specs.declared.fault.TreeKind.{TreeKind}
-use Rattle.kc_tree_model.specs.declared.fault.TreeKind.TheVariants.{SourceLoop, MissingFile, TooDeep, TooMany}
-use Rattle.kc_tree_model.specs.Blocks.{Group}
-use Rattle.kc_tree_model.specs.Limits.{FileSource, is_in_list, size_in, open_files, files_read, source_fault}
-use Rattle.kc_tree_model.specs.ReadingFaults.{IsSourceFault, source_order, HoldsNever, IsFirstOf}
+use Rattle.kc_tree_model.proofs.Common.{◌≡◌, ◌+◌, inl, inr, ℕ, Bool, true, false, not, cond, List, [], ◌∷◌, Option, Some, None, refl, ap, sym, ◌∙◌, length, arith, nat_lt, nat_le, is_some, sum_by, ltb-true, ltb-false, leb-true, leb-false, MAX_FILES, MAX_TREE_BYTES, MAX_OPEN_FILES, TreeKind}
+use Rattle.kc_tree_model.proofs.Common.{SourceLoop, MissingFile, TooDeep, TooMany, Group, FileSource, is_in_list, size_in, open_files, files_read, HoldsNever, IsFirstOf}
+use Rattle.kc_tree_model.specs.Limits.{source_fault}
+use Rattle.kc_tree_model.specs.ReadingFaults.{IsSourceFault, source_order}
 use Rattle.kc_tree_model.proofs.ReadingLaws.FirstFaults.{NoneHolds, one_first}
 
 is_absent : {A : Type 0} (o : Option A) → not (is_some o) ≡ true → o ≡ None

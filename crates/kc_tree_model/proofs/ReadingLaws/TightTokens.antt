@@ -1,10 +1,6 @@
 -- The tokens of an expression end only at its end: no operand or `)` in it is directly before an operand.
-use Rattle.std.proofs.Common.{◌≡◌, ℕ, Bool, true, false, cond, ◌&&◌, ◌||◌, List, [], ◌∷◌, ◌++◌, length, drop, Some, refl, ap, sym, ◌∙◌, subst}
-use Rattle.kc_tokens.specs.declared.token.TokenKind.{TokenKind}
-use Rattle.kc_tokens.specs.declared.token.TokenKind.TheVariants.{Word, Quoted, Relation, Not, And, Or, Open, Close}
-use Rattle.kc_tokens.specs.Token.{Lexeme}
-use Rattle.kc_expr.specs.Expr.{Expr, Operand}
-use Rattle.kc_expr.specs.Grammar.{Level, IsExpr, one_and, more_ors, one_factor, more_ands, operand, relation, negation, parentheses, operand_of_kind, operand_of_lexeme, is_operand_kind, is_close, extent}
+use Rattle.kc_tree_model.proofs.Common.{◌≡◌, ℕ, Bool, true, false, cond, ◌&&◌, ◌||◌, List, [], ◌∷◌, ◌++◌, length, drop, Some, refl, ap, sym, ◌∙◌, subst, TokenKind, Word, Quoted, Relation, Not, And, Or, Open, Close, Lexeme, Expr, Operand, Level, IsExpr, one_and, more_ors, one_factor, more_ands}
+use Rattle.kc_tree_model.proofs.Common.{operand, relation, negation, parentheses, operand_of_kind, operand_of_lexeme, is_operand_kind, is_close, extent}
 
 -- whether an expression ends between two tokens: an operand or a `)` comes before an operand
 abbrev pub is_seam : TokenKind → TokenKind → Bool

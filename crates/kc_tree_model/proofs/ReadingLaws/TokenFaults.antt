@@ -1,14 +1,7 @@
 -- A line has tokens or a fault of its tokens, and not both; the fault is of one of three kinds.
-use Rattle.std.proofs.Common.{◌≡◌, ℕ, Bool, true, false, List, Ok, refl, sym, ◌∙◌}
-use Rattle.kc_tokens.specs.declared.fault.ExprFault.{ExprFault}
-use Rattle.kc_tokens.specs.declared.fault.ExprKind.{ExprKind}
+use Rattle.kc_tree_model.proofs.Common.{◌≡◌, ℕ, Bool, true, false, List, Ok, refl, sym, ◌∙◌, ExprFault, ExprKind, Language, Lexeme, IsFirstTokenFault, cut_read, LogicalLine, HasTokens, help_line, cut_line}
 use Rattle.kc_tokens.specs.declared.fault.ExprKind.TheVariants.{BadToken, UnclosedQuote, LeftOut}
-use Rattle.kc_tokens.specs.declared.language.Language.{Language}
-use Rattle.kc_tokens.specs.Token.{Lexeme}
-use Rattle.kc_tokens.specs.TokenGrammar.{IsFaultAt, dollar, unclosed, dollar_between, other_byte, IsFirstTokenFault, here, after_white, after_token}
-use Rattle.kc_tokens.proofs.TokenLaws.{cut_read}
-use Rattle.kc_tree_model.specs.LogicalLines.{LogicalLine}
-use Rattle.kc_tree_model.specs.ReadingFaults.{HasTokens, help_line, cut_line}
+use Rattle.kc_tokens.specs.TokenGrammar.{IsFaultAt, dollar, unclosed, dollar_between, other_byte, here, after_white, after_token}
 
 -- whether a kind of fault is one that the tokens of a line may have
 abbrev pub is_token_kind : ExprKind → Bool

@@ -1,14 +1,7 @@
 -- The tree of files and the reported fault, by the relation of reading.
-use Rattle.std.proofs.Common.{◌≡◌, inl, inr, ℕ, List, Option, Some, None, Result, refl, ap, sym, ◌∙◌, subst}
-use Rattle.std.specs.Prelude.{◌↔◌, slice_get}
-use Rattle.std.specs.Option.{option_or}
-use Rattle.kc_tree_model.specs.declared.fault.TreeFault.{TreeFault}
-use Rattle.kc_tree_model.specs.TreeFiles.{Files}
-use Rattle.kc_tree_model.specs.Trees.{Tree}
-use Rattle.kc_tree_model.specs.Limits.{FileSource}
-use Rattle.kc_tree_model.specs.TreeReading.{Outcome, reading, lenient_reading, wanted_by, paths_or_fault, files_wanted}
-use Rattle.kc_tree_model.specs.MoreFiles.{reading_from}
-use Rattle.kc_tree_model.specs.ReadingRelation.{IsCutReading, IsOutcome}
+use Rattle.kc_tree_model.proofs.Common.{◌≡◌, inl, inr, ℕ, List, Option, Some, None, Result, refl, ap, sym, ◌∙◌, subst, ◌↔◌, slice_get, option_or, TreeFault, Files, Tree, FileSource, Outcome, paths_or_fault, reading_from, IsCutReading}
+use Rattle.kc_tree_model.specs.TreeReading.{reading, lenient_reading, wanted_by, files_wanted}
+use Rattle.kc_tree_model.specs.ReadingRelation.{IsOutcome}
 use Rattle.kc_tree_model.specs.Contents.{tree_of_groups, tree_of_files}
 use Rattle.kc_tree_model.specs.TreeFaults.{tree_faults, first_fault_after, first_tree_fault}
 use Rattle.kc_tree_model.specs.TreesOfFiles.{origin_of, lenient_origin, IsTreeOfFiles, IsReportedFault, absent_paths, AreWanted}

@@ -1,16 +1,14 @@
 -- Rows on what a tree holds.
-use Rattle.std.proofs.Common.{false, ◌≡◌, List, [], ◌∷◌, Some, refl, map}
-use Rattle.std.specs.Prelude.{codes}
+use Rattle.kc_tree_model.proofs.Common.{false, ◌≡◌, List, [], ◌∷◌, Some, refl, map, codes, both, Symbol, ReverseDependency, menu_begins, menu_ends}
 use Rattle.std.specs.Str.{is_utf8, chars}
 use Rattle.kc_expr.specs.Lookup.{index_of_name}
 use Rattle.kc_tokens.specs.Token.{next_token}
 use Rattle.kc_expr.specs.Grammar.{read_expr}
-use Rattle.kc_expr.specs.Expr.{both, shown}
+use Rattle.kc_expr.specs.Expr.{shown}
 use Rattle.kc_tree_model.specs.declared.ids.Unit.TheVariants.{Symbol as of_symbol, Choice as of_choice}
 use Rattle.kc_tree_model.specs.LogicalLines.{lines_of}
 use Rattle.kc_tree_model.specs.Limits.{source_fault}
 use Rattle.kc_tree_model.specs.TreeReading.{statement_on_line, reading}
-use Rattle.kc_tree_model.specs.Trees.{Symbol, ReverseDependency, menu_begins, menu_ends}
 use Rattle.kc_tree_model.specs.Contents.{tree_of_groups, index_of_number}
 use Rattle.kc_tree_model.proofs.Rows.Trees.{whole, prompts_and_dependencies, word}
 

@@ -1,10 +1,8 @@
 -- Rows on limits: their values, and whether one more definition is too many at the limit of symbols and past it.
-use Rattle.std.proofs.Common.{true, false, ◌≡◌, List, length, filter_map, refl, ap, ◌∙◌}
-use Rattle.std.specs.Prelude.{codes, nat_le, ◌&&◌, not}
-use Rattle.kc_value.specs.declared.limits.TheConstants.{MAX_SYMBOLS, MAX_CHOICES, MAX_FILES, MAX_TREE_BYTES, MAX_LINE_BYTES, MAX_NAME_BYTES, MAX_OPEN_FILES, MAX_OPEN_BLOCKS}
-use Rattle.kc_tree_model.specs.Statements.{config, head}
-use Rattle.kc_tree_model.specs.Blocks.{Group, defined_name}
-use Rattle.kc_tree_model.specs.Limits.{is_too_many, is_in_list, names_defined}
+use Rattle.std.proofs.Common.{filter_map}
+use Rattle.std.specs.Prelude.{◌&&◌, not}
+use Rattle.kc_value.specs.declared.limits.TheConstants.{MAX_CHOICES, MAX_OPEN_BLOCKS}
+use Rattle.kc_tree_model.proofs.Common.{true, false, ◌≡◌, List, length, refl, ap, ◌∙◌, codes, nat_le, MAX_SYMBOLS, MAX_FILES, MAX_TREE_BYTES, MAX_LINE_BYTES, MAX_NAME_BYTES, MAX_OPEN_FILES, config, head, Group, defined_name, is_too_many, is_in_list, names_defined}
 
 limits : (MAX_SYMBOLS ≡ 1000000) × (MAX_CHOICES ≡ 4096) × (MAX_FILES ≡ 4096) × (MAX_TREE_BYTES ≡ 67108864)
     × (MAX_LINE_BYTES ≡ 65536) × (MAX_NAME_BYTES ≡ 256) × (MAX_OPEN_FILES ≡ 32) × (MAX_OPEN_BLOCKS ≡ 64)

@@ -1,8 +1,7 @@
 -- A row on the lines of a help text.
-use Rattle.std.proofs.Common.{◌≡◌, ℕ, List, [], ◌∷◌, refl, true, false, map, Bool}
-use Rattle.std.specs.Prelude.{codes}
+use Rattle.kc_tree_model.proofs.Common.{◌≡◌, ℕ, List, [], ◌∷◌, refl, true, false, map, Bool, codes, LogicalLine}
 use Rattle.kc_tokens.specs.Token.{next_token}
-use Rattle.kc_tree_model.specs.LogicalLines.{lines_of, LogicalLine}
+use Rattle.kc_tree_model.specs.LogicalLines.{lines_of}
 
 abbrev helped : List ℕ → List Bool
 helped bytes = map (λ (l : LogicalLine). l.help) (lines_of bytes)

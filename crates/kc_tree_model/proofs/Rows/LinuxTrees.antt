@@ -1,22 +1,15 @@
 -- A row on a tree in the language of Linux.
-use Rattle.std.proofs.Common.{◌≡◌, ℕ, Bool, true, false, List, [], ◌∷◌, ◌++◌, Option, Some, None, refl, map}
-use Rattle.std.specs.Prelude.{codes, option_map}
+use Rattle.kc_tree_model.proofs.Common.{◌≡◌, ℕ, Bool, true, false, List, [], ◌∷◌, ◌++◌, Option, Some, None, refl, map, codes, option_map, Unknown, Expr, alone, quoted, both, TreeKind, TreeFault, LeftOut, Malformed, Files, Tree, Symbol, Default}
 use Rattle.std.specs.Str.{is_utf8, chars}
 use Rattle.kc_expr.specs.Lookup.{index_of_name}
-use Rattle.kc_tokens.specs.declared.language.LinuxVersion.TheVariants.{Unknown}
 use Rattle.kc_tokens.specs.Token.{next_token}
 use Rattle.kc_expr.specs.Grammar.{read_expr}
-use Rattle.kc_expr.specs.Expr.{Expr, alone, quoted, both}
 use Rattle.kc_tree_model.specs.LogicalLines.{lines_of}
 use Rattle.kc_tree_model.specs.Limits.{source_fault}
-use Rattle.kc_tree_model.specs.declared.fault.TreeKind.{TreeKind}
-use Rattle.kc_tree_model.specs.declared.fault.TreeFault.{TreeFault}
-use Rattle.kc_tree_model.specs.declared.fault.TreeKind.TheVariants.{LeftOut, Malformed}
 use Rattle.kc_tree_model.specs.TreeReading.{statement_on_line, reading}
 use Rattle.kc_tree_model.specs.TreeFaults.{tree_faults, first_tree_fault}
-use Rattle.kc_tree_model.specs.TreeFiles.{Files, linux_files}
+use Rattle.kc_tree_model.specs.TreeFiles.{linux_files}
 use Rattle.kc_tree_model.specs.Contents.{tree_of_groups, index_of_number}
-use Rattle.kc_tree_model.specs.Trees.{Tree, Symbol, Default}
 use Rattle.kc_tree_model.proofs.Rows.Trees.{word}
 
 -- a tree of one file in the language of Linux

@@ -1,11 +1,8 @@
 -- A row on the files that a tree wants.
-use Rattle.std.proofs.Common.{◌≡◌, ℕ, List, [], ◌∷◌, Result, Ok, refl}
-use Rattle.std.specs.Prelude.{codes}
+use Rattle.kc_tree_model.proofs.Common.{◌≡◌, ℕ, List, [], ◌∷◌, Result, Ok, refl, codes, TreeFault, strict_files, Files}
 use Rattle.std.specs.Str.{is_utf8, chars}
 use Rattle.kc_tokens.specs.Token.{next_token}
 use Rattle.kc_expr.specs.Grammar.{read_expr}
-use Rattle.kc_tree_model.specs.declared.fault.TreeFault.{TreeFault}
-use Rattle.kc_tree_model.specs.TreeFiles.{strict_files, Files}
 use Rattle.kc_tree_model.specs.LogicalLines.{lines_of}
 use Rattle.kc_tree_model.specs.Limits.{source_fault}
 use Rattle.kc_tree_model.specs.TreeReading.{statement_on_line, lenient_reading, wanted_by, files_wanted}

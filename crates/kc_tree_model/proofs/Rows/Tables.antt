@@ -1,15 +1,11 @@
 -- The statement or fault of each line in each place.
-use Rattle.std.proofs.Common.{◌≡◌, ℕ, List, [], ◌∷◌, ◌++◌, Option, Some, None, refl, map}
-use Rattle.std.specs.Prelude.{codes, option_map}
+use Rattle.kc_tree_model.proofs.Common.{◌≡◌, ℕ, List, [], ◌∷◌, ◌++◌, Option, Some, None, refl, map, codes, option_map, strict_files, TreeKind, TreeFault, LeftOut, Malformed, Misplaced, ModulesType, NoType, StrayEnd, UnknownStatement}
 use Rattle.std.specs.Str.{is_utf8, chars}
 use Rattle.kc_tree_model.specs.Contents.{index_of_number}
 use Rattle.kc_expr.specs.Lookup.{index_of_name}
 use Rattle.kc_tokens.specs.Token.{next_token}
 use Rattle.kc_expr.specs.Grammar.{read_expr}
-use Rattle.kc_tree_model.specs.TreeFiles.{strict_files}
-use Rattle.kc_tree_model.specs.declared.fault.TreeKind.{TreeKind}
-use Rattle.kc_tree_model.specs.declared.fault.TreeFault.{TreeFault}
-use Rattle.kc_tree_model.specs.declared.fault.TreeKind.TheVariants.{LeftOut, Malformed, Misplaced, ModulesType, NoType, RangeType, StrayEnd, TypeConflict, Unclosed, UnknownStatement}
+use Rattle.kc_tree_model.specs.declared.fault.TreeKind.TheVariants.{RangeType, TypeConflict, Unclosed}
 use Rattle.kc_tree_model.specs.LogicalLines.{lines_of}
 use Rattle.kc_tree_model.specs.Limits.{source_fault}
 use Rattle.kc_tree_model.specs.TreeReading.{statement_on_line, reading}

@@ -1,10 +1,5 @@
 -- Short forms with which rows write trees and look at what is read from them.
-use Rattle.std.proofs.Common.{ℕ, List, [], ◌∷◌}
-use Rattle.std.specs.Prelude.{codes}
-use Rattle.kc_tokens.specs.declared.language.Language.TheVariants.{Strict}
-use Rattle.kc_expr.specs.Expr.{Expr, alone, named}
-use Rattle.kc_tree_model.specs.TreeFiles.{strict_files, Files}
-use Rattle.kc_tree_model.specs.Trees.{Tree, Symbol}
+use Rattle.kc_tree_model.proofs.Common.{ℕ, List, [], ◌∷◌, codes, Strict, Expr, alone, named, strict_files, Files, Tree, Symbol}
 use Rattle.kc_tree_model.specs.TreeReading.{reading}
 use Rattle.kc_tree_model.specs.Contents.{tree_of_groups}
 

@@ -3,7 +3,7 @@ use Rattle.std.proofs.Common.{◌≡◌, ◌≢◌, ℕ, suc, ◌+◌, min, List
 use Rattle.std.specs.Global.{Global}
 use Rattle.std.proofs.lemmas.List.Sums.{sum_by-cons}
 use Rattle.std.proofs.lemmas.Option.{unwrap_or-slice_get}
-use Rattle.kc_system.specs.Solutions.{KeepsFrame, Restores, AgreesOn}
+use Rattle.kc_solver.specs.Solutions.{KeepsFrame, Restores, AgreesOn}
 use Rattle.kmin_base_tests.specs.Sums.{row_at, sum_rule, IsSmall}
 
 same_index : (v w : List ℕ) (d : ℕ) → slice_get v d ≡ slice_get w d → slice_index v d ≡ slice_index w d

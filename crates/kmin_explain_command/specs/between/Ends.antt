@@ -8,7 +8,7 @@ use Rattle.kmin_report.specs.StandardError.{SpelledBytes, TakesLines}
 use Rattle.kmin_expansions.specs.JobTexts.{TreeTexts}
 use Rattle.kmin_trees.specs.LinedTrees.{IsLinedTree}
 use Rattle.kmin_trees.specs.declared.lined_trees.LinedTree.{LinedTree}
-use Rattle.kmin_answers.specs.between.LoadStops.{StopsOverTree}
+use Rattle.kmin_outputs.specs.between.LoadStops.{StopsOverTree}
 use Rattle.kmin_explain_command.specs.Explains.{Explains, RefusesName}
 use Rattle.kmin_explain_command.specs.Stops.{task_of, unknown_text}
 

@@ -9,7 +9,7 @@ use Rattle.kc_files.specs.TreeContents.{FileContent}
 use Rattle.kc_config_reasons.specs.between.FileLines.{KeepsLines}
 use Rattle.kc_config_reasons.specs.declared.file_lines.FileLines.{FileLines}
 use Rattle.kmin_report.specs.StandardError.{SpelledBytes}
-use Rattle.kmin_answers.specs.between.LoadResults.{IsLoaded, AreRead}
+use Rattle.kmin_outputs.specs.between.LoadResults.{IsLoaded, AreRead}
 use Rattle.kmin_explain_command.specs.declared.lined_file.LinedFile.{LinedFile}
 
 -- a configuration file is loaded, and its last lines are kept

@@ -18,9 +18,9 @@ use Rattle.kmin_records.specs.declared.output_form.OutputForm.{OutputForm}
 use Rattle.kmin_report.specs.Reports.{refused_line}
 use Rattle.kmin_report.specs.StandardError.{SpelledBytes, TakesLines}
 use Rattle.kmin_trees.specs.declared.lined_trees.LinedTree.{LinedTree}
-use Rattle.kmin_answers.specs.between.Comparisons.{AreNoticed}
-use Rattle.kmin_answers.specs.between.LoadStops.{StopsNoticing}
-use Rattle.kmin_answers.specs.between.LoadResults.{lists_of}
+use Rattle.kmin_outputs.specs.between.Comparisons.{AreNoticed}
+use Rattle.kmin_outputs.specs.between.LoadStops.{StopsNoticing}
+use Rattle.kmin_outputs.specs.between.LoadResults.{lists_of}
 use Rattle.kmin_explain_command.specs.Explains.{AreExplainedFor, explained_text, IsTextFor, IsUnknown, status_for, symbols_in}
 use Rattle.kmin_explain_command.specs.Stops.{unknown_text}
 use Rattle.kmin_explain_command.specs.declared.lined_files.LinedFiles.{LinedFiles}

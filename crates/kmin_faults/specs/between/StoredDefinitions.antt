@@ -4,11 +4,11 @@ use Rattle.std.specs.List.{list_any, range_with_len}
 use Rattle.std.specs.Option.{option_or}
 use Rattle.kc_statements.specs.declared.statement.Attribute.{Attribute}
 use Rattle.kc_statements.specs.declared.statement.Attribute.TheVariants.{Typed, TypedPrompt, TypedDefault}
-use Rattle.kc_listing.specs.declared.listing.Group.{Group}
-use Rattle.kc_listing.specs.declared.listing.GroupHead.{GroupHead}
-use Rattle.kc_listing.specs.declared.listing.GroupHead.TheVariants.{Config}
-use Rattle.kc_listing.specs.declared.listing.Line.{Line}
-use Rattle.kc_listing.specs.declared.listing.Listing.{Listing}
+use Rattle.kc_parser.specs.declared.listing.Group.{Group}
+use Rattle.kc_parser.specs.declared.listing.GroupHead.{GroupHead}
+use Rattle.kc_parser.specs.declared.listing.GroupHead.TheVariants.{Config}
+use Rattle.kc_parser.specs.declared.listing.Line.{Line}
+use Rattle.kc_parser.specs.declared.listing.Listing.{Listing}
 use Rattle.kc_tree_model.specs.Blocks.{Position}
 use Rattle.kmin_faults.specs.FirstPlaces.{later}
 use Rattle.kc_checks.specs.between.Summaries.{attributes_end, group_at}

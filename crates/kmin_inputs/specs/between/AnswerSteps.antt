@@ -6,7 +6,7 @@ use Rattle.kc_macros_model.specs.declared.fault.AnswersKind.{AnswersKind}
 use Rattle.kc_macros_model.specs.declared.fault.AnswersKind.TheVariants.{OutOfMemory}
 use Rattle.kc_macros_model.specs.declared.fault.AnswersFault.{AnswersFault}
 use Rattle.kc_macros_model.specs.AnswerFiles.{RecordedAnswers}
-use Rattle.kc_answers.specs.ReadAnswers.{IsRefused}
+use Rattle.kc_answers.specs.ReadAnswers.{AreAnswersRefused}
 use Rattle.kc_files.specs.TreeContents.{FileContent}
 use Rattle.kmin_inputs.specs.FileContents.{VariableContent, MatchVariable}
 use Rattle.kmin_report.specs.StandardError.{SpelledBytes, TakesLines}
@@ -24,7 +24,7 @@ answers_lines path line kind = answers_line path line kind ∷ []
 -- reading an answer file may end with this fault: memory ran out, or the file is refused
 pub data ReportsAnswersFault (left left_after : Option (List ℕ)) (failed failed_after : ℕ) (earlier : RecordedAnswers) (fault : AnswersFault) : Type 0 where
   for_memory : fault.kind ≡ OutOfMemory → ReportsAnswersFault left left_after failed failed_after earlier fault
-  refused : IsRefused left left_after failed failed_after earlier fault → ReportsAnswersFault left left_after failed failed_after earlier fault
+  refused : AreAnswersRefused left left_after failed failed_after earlier fault → ReportsAnswersFault left left_after failed failed_after earlier fault
 
 -- reading an answer file ended with a fault of this exit status, which was reported on standard error
 pub record StopsReading (path : List ℕ) (left left_after : Option (List ℕ)) (read_failed read_failed_after : ℕ) (earlier : RecordedAnswers) (status : ℕ) (taken : SpelledBytes) (failed : ℕ) (taken_after : SpelledBytes) (failed_after : ℕ) : Type 0 where

@@ -4,7 +4,7 @@ use Rattle.kc_files.specs.TreeContents.{FileContent}
 use Rattle.kmin_lines.specs.WordFiles.{files_of}
 use Rattle.kmin_report.specs.Reports.{ErrorLine, last_lines}
 use Rattle.kmin_texts.specs.Spellings.{AskedForm}
-use Rattle.kmin_words.specs.declared.command_line.ParsedWords.{ParsedWords}
+use Rattle.kmin_cli.specs.declared.command_line.ParsedWords.{ParsedWords}
 use Rattle.kmin_inputs.specs.FileContents.{Surroundings}
 use Rattle.kmin_inputs.specs.WordFiles.{AreFilesRead, is_input_read_for}
 use Rattle.kmin_run.specs.TidyRuns.{Outputs}

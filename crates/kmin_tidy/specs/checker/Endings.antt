@@ -3,12 +3,12 @@ use Rattle.std.specs.Prelude.{◌≡◌, ◌<◌, ℕ, List, [], ◌∷◌, Opti
 use Rattle.std.specs.Io.KnownBytes.{Appends}
 use Rattle.kmin_report.specs.Reports.{ErrorLine, output_line}
 use Rattle.kc_files.specs.TreeContents.{HasRisen}
-use Rattle.kmin_tidy.specs.declared.stop.Stop.{Stop}
-use Rattle.kmin_tidy.specs.declared.stop.Stop.TheVariants.{Memory, Left}
+use Rattle.kmin_tidy.specs.declared.stop.TidyStop.{TidyStop}
+use Rattle.kmin_tidy.specs.declared.stop.TidyStop.TheVariants.{Memory, Left}
 use Rattle.kmin_tidy.specs.declared.whole_run.RunResult.{RunResult}
 
 -- the exit status of a run that ends early for this reason
-abbrev pub status_of_stop : Stop → ℕ
+abbrev pub status_of_stop : TidyStop → ℕ
 status_of_stop Memory = 6
 status_of_stop (Left new_path) = 5
 

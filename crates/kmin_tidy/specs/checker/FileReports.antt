@@ -5,8 +5,8 @@ use Rattle.kc_dotconfig_model.specs.declared.fault.LoadFault.{LoadFault}
 use Rattle.kmin_tidy.specs.declared.outcome.FileOutcome.TheVariants.{Refused, Failed}
 use Rattle.kmin_tidy.specs.declared.report.Problem.TheVariants.{Fault, Write}
 use Rattle.kmin_tidy.specs.declared.file_step.FileEnd.{FileEnd}
-use Rattle.kmin_tidy.specs.declared.stop.Stop.{Stop}
-use Rattle.kmin_tidy.specs.declared.stop.Stop.TheVariants.{Memory, Left as StopLeft}
+use Rattle.kmin_tidy.specs.declared.stop.TidyStop.{TidyStop}
+use Rattle.kmin_tidy.specs.declared.stop.TidyStop.TheVariants.{Memory, Left as StopLeft}
 use Rattle.kmin_disk.specs.declared.fault.ReplaceFault.{ReplaceFault}
 use Rattle.kmin_disk.specs.declared.fault.ReplaceFault.TheVariants.{Left, FolderNotSynced, OutOfMemory}
 use Rattle.kmin_tidy.specs.declared.report.FileReport.{FileReport}
@@ -30,7 +30,7 @@ IsFailedBy FolderNotSynced end = IsNotWritten true end
 IsFailedBy _ end = IsNotWritten false end
 
 -- a fault of replacing a file ends the run for this reason
-abbrev pub IsStoppedBy : ReplaceFault → Stop → Type 0
+abbrev pub IsStoppedBy : ReplaceFault → TidyStop → Type 0
 IsStoppedBy OutOfMemory stop = stop ≡ Memory
 IsStoppedBy (Left new_path) stop = stop ≡ StopLeft new_path
 IsStoppedBy _ stop = ⊥

@@ -2,7 +2,7 @@
 use Rattle.std.specs.Prelude.{◌≡◌, ◌≢◌, ◌⊎◌, ℕ, Bool, true, false, List, [], ◌∷◌, ◌++◌, Some, None, string_bytes}
 use Rattle.kmin_disk.specs.Disks.{Disk, MayFailOnce, IsUnchanged, Replaces}
 use Rattle.kmin_records.specs.declared.output_form.OutputForm.{OutputForm}
-use Rattle.kmin_tidy.specs.Options.{Settings}
+use Rattle.kmin_tidy.specs.Options.{TidySettings}
 use Rattle.kmin_tidy.specs.Reports.{file_line}
 use Rattle.kmin_tidy.specs.Steps.{IsUnwritten, IsUnsynced}
 use Rattle.kmin_tidy.specs.Ends.{IsToBeReplaced, LeavesNewFile}
@@ -10,8 +10,8 @@ use Rattle.kmin_tidy.specs.Runs.{Tidies}
 use Rattle.kmin_tidy.specs.declared.outcome.FileOutcome.TheVariants.{Minimal, NotMinimal, Failed}
 use Rattle.kmin_tidy.specs.declared.report.Problem.TheVariants.{Write}
 use Rattle.kmin_tidy.specs.declared.file_step.FileEnd.{FileEnd}
-use Rattle.kmin_tidy.specs.declared.stop.Stop.{Stop}
-use Rattle.kmin_tidy.specs.declared.stop.Stop.TheVariants.{Memory, Left}
+use Rattle.kmin_tidy.specs.declared.stop.TidyStop.{TidyStop}
+use Rattle.kmin_tidy.specs.declared.stop.TidyStop.TheVariants.{Memory, Left}
 use Rattle.kmin_report.specs.Reports.{ErrorLine}
 
 -- an accepted file of these bytes is compared with its minimal file `least`, and replaced by it if they differ and `write` is
@@ -39,22 +39,22 @@ pub data IsWritten (old new : Disk) (path least : List ℕ) (end : FileEnd) : Ty
       → IsWritten old new path least end
 
 -- replacing the file at a path ended the run: memory ran out, and the disk is unchanged; or a new file is left
-abbrev pub StopsWrite : (old new : Disk) → (path : List ℕ) → Stop → Type 0
+abbrev pub StopsWrite : (old new : Disk) → (path : List ℕ) → TidyStop → Type 0
 StopsWrite old new path Memory = IsUnchanged old.state new.state
 StopsWrite old new path (Left new_path) = LeavesNewFile old new path (string_bytes new_path)
 
 -- the run ended at a file of these bytes with the minimal file `least`: memory ran out before it was replaced, or replacing it
 -- ended the run
-abbrev pub StopsRewrite : (write : Bool) → (old new : Disk) → (path bytes least : List ℕ) → Stop → Type 0
+abbrev pub StopsRewrite : (write : Bool) → (old new : Disk) → (path bytes least : List ℕ) → TidyStop → Type 0
 StopsRewrite write old new path bytes least stop = ((stop ≡ Memory) × (new ≡ old))
     ⊎ ((write ≡ true) × (least ≢ bytes) × StopsWrite old new path stop)
 
 -- the run ended at the file at a path: memory ran out before it was replaced, or replacing it ended the run
-abbrev pub StopsFile : Settings → (old new : Disk) → (path : List ℕ) → Stop → Type 0
+abbrev pub StopsFile : TidySettings → (old new : Disk) → (path : List ℕ) → TidyStop → Type 0
 StopsFile s old new path stop = ((stop ≡ Memory) × MayFailOnce old new) ⊎ (IsToBeReplaced s old path × StopsWrite old new path stop)
 
 -- a run over these paths ended early for this reason, after these lines of standard error
-pub data StopsRun (s : Settings) (old new : Disk) (paths : List (List ℕ)) (earlier : List ErrorLine) (stop : Stop) : Type 0 where
+pub data StopsRun (s : TidySettings) (old new : Disk) (paths : List (List ℕ)) (earlier : List ErrorLine) (stop : TidyStop) : Type 0 where
   before_write : (between : Disk) (front back : List (List ℕ)) (text : List ℕ) (made : ℕ) → paths ≡ front ++ back
       → Tidies s old between front text earlier made → MayFailOnce between new → stop ≡ Memory → StopsRun s old new paths earlier stop
   at_write : (between : Disk) (front back : List (List ℕ)) (path text : List ℕ) (made : ℕ) → paths ≡ front ++ path ∷ back

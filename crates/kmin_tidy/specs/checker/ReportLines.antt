@@ -7,8 +7,8 @@ use Rattle.kmin_tidy.specs.Reports.{notice_lines}
 use Rattle.kmin_tidy.specs.declared.report.Problem.{Problem}
 use Rattle.kmin_tidy.specs.declared.report.Problem.TheVariants.{Fault, NotRegular, Write}
 use Rattle.kmin_tidy.specs.declared.report.FileReport.{FileReport}
-use Rattle.kmin_tidy.specs.declared.stop.Stop.{Stop}
-use Rattle.kmin_tidy.specs.declared.stop.Stop.TheVariants.{Memory, Left}
+use Rattle.kmin_tidy.specs.declared.stop.TidyStop.{TidyStop}
+use Rattle.kmin_tidy.specs.declared.stop.TidyStop.TheVariants.{Memory, Left}
 
 -- the line of standard error for a problem of a file
 abbrev pub problem_line : (path : List ℕ) → Problem → ErrorLine
@@ -26,6 +26,6 @@ abbrev pub report_lines : Tree → (path : List ℕ) → FileReport → List Err
 report_lines tree path report = notice_lines tree path (map notice_pair report.notices.items) ++ problem_lines path report.problem
 
 -- the last line of standard error of a run that ends early for this reason
-abbrev pub stop_line : Stop → ErrorLine
+abbrev pub stop_line : TidyStop → ErrorLine
 stop_line Memory = memory_line
 stop_line (Left new_path) = left_line (string_bytes new_path)

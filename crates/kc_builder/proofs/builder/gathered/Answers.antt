@@ -1,5 +1,4 @@
-use Rattle.std.proofs.Common.{arith}
-use Rattle.std.proofs.lemmas.Grind.{common_steps}
+use Rattle.kc_builder.proofs.Common.{arith, common_steps}
 use Rattle.kc_builder.proofs.builder.gathered.Goals as goal
 
 pub returns-clause-attributes : goal.returns-clause-attributes

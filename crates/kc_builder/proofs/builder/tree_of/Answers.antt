@@ -1,8 +1,5 @@
-use Rattle.std.proofs.Common.{◌≡◌}
-use Rattle.std.proofs.lemmas.Result.{IfOk-weaker}
+use Rattle.kc_builder.proofs.Common.{◌≡◌, IfOk-weaker, TreeModel, gathered_tree}
 use Rattle.kc_tree_model.specs.Contents.{tree_of_files}
-use Rattle.kc_tree.specs.TreeModel.{TreeModel}
-use Rattle.kc_tree.specs.between.GatheredView.{gathered_tree}
 use Rattle.kc_builder.proofs.AssemblySteps.{consistent_of, whole_is}
 use Rattle.kc_builder.proofs.builder.tree_of.Goals as goal
 

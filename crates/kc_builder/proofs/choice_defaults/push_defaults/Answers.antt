@@ -1,22 +1,20 @@
-use Rattle.std.proofs.Common.{get_or, ap, ◌∙◌, arith}
-use Rattle.std.proofs.lemmas.Grind.{common_steps, elements}
-use Rattle.kc_builder.specs.checker.ChoiceDefaults.{member_default_row}
+use Rattle.kc_builder.proofs.Common.{get_or, ap, ◌∙◌, arith, common_steps, elements, member_default_row}
 use Rattle.kc_builder.proofs.ChoiceDefaultSteps.{items_more, keys_more}
 use Rattle.kc_builder.proofs.choice_defaults.push_defaults.Goals as goal
 
 pub loop-i-preserved : goal.loop-i-preserved
 loop-i-preserved c =
-    let n = c.args.names.now in
-    let ls = c.args.lines.now in
-    let cs = c.args.conditions.now in
+    let n = c.args.own.names.now in
+    let ls = c.args.own.lines.now in
+    let cs = c.args.own.conditions.now in
     let i = c.loop-i.i in
-    let e = c.member_default.ensures.value ∙ ap (λ l. member_default_row n l c.index-conditions-i.result) c.index-lines-i.is
+    let e = c.member_default-item.ensures.value ∙ ap (λ l. member_default_row n l c.index-conditions-i.result) c.index-lines-i.is
     ∙ ap (member_default_row n (get_or ls i c.index-lines-i.result)) c.index-conditions-i.is in
     record {
-      keys = keys_more n c.args.choice ls cs i c.index-lines-i.result c.index-conditions-i.result _ _ _ c.member_default.result c.loop-i-test.true
-          c.requires.many e c.loop-i.invariant.keys c.in_ok-push_default.ensures.keys;
-      items = items_more n ls cs i c.index-lines-i.result c.index-conditions-i.result _ _ _ c.member_default.result c.loop-i-test.true c.requires.many e
-          c.loop-i.invariant.items c.in_ok-push_default.ensures.items;
+      keys = keys_more n c.args.choice ls cs i c.index-lines-i.result c.index-conditions-i.result _ _ _ c.member_default-item.result c.loop-i-test.true
+          c.args.own.many e c.loop-i.invariant.keys c.in_ok-push_optional.ensures.keys;
+      items = items_more n ls cs i c.index-lines-i.result c.index-conditions-i.result _ _ _ c.member_default-item.result c.loop-i-test.true c.args.own.many e
+          c.loop-i.invariant.items c.in_ok-push_optional.ensures.items;
     }
 
 pub returns-clause-items : goal.returns-clause-items
@@ -25,5 +23,5 @@ returns-clause-items c = grind (arith, elements)
 pub returns-clause-keys : goal.returns-clause-keys
 returns-clause-keys c = grind (arith, common_steps)
 
-pub member_default-requires : goal.member_default-requires
-member_default-requires c = record { held = grind (arith, elements) }
+pub member_default-item-requires : goal.member_default-item-requires
+member_default-item-requires c = record { held = grind (arith, elements) }

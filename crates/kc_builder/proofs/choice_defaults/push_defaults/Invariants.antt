@@ -4,6 +4,6 @@ use Rattle.kc_builder.proofs.choice_defaults.push_defaults.Given as goal
 
 abbrev pub invariant-loop-i : goal.invariant-loop-i
 invariant-loop-i l = record {
-  keys : l.found.keys.items ≡ l.fn.found.keys.items ++ map (λ _. l.choice) (member_default_rows l.names (take l.i l.lines) (take l.i l.conditions));
-  items : l.found.items.items ≡ l.fn.found.items.items ++ member_default_rows l.names (take l.i l.lines) (take l.i l.conditions);
+  keys : l.found.keys.items ≡ l.fn.found.keys.items ++ map (λ _. l.choice) (member_default_rows l.own.names.now (take l.i l.own.lines.now) (take l.i l.own.conditions.now));
+  items : l.found.items.items ≡ l.fn.found.items.items ++ member_default_rows l.own.names.now (take l.i l.own.lines.now) (take l.i l.own.conditions.now);
 }

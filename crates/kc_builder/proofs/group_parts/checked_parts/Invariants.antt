@@ -1,7 +1,5 @@
-use Rattle.std.proofs.Common.{List}
-use Rattle.kc_tree_model.specs.Blocks.{Group}
+use Rattle.kc_builder.proofs.Common.{List, Group, IsWalkOf}
 use Rattle.kc_checks.specs.between.FaultSearch.{AreFaultless}
-use Rattle.kc_builder.specs.checker.ChoiceDefaults.{IsWalkOf}
 use Rattle.kc_builder.proofs.GroupPartSteps.{ArePartsTo}
 use Rattle.kc_builder.proofs.group_parts.checked_parts.Given as goal
 

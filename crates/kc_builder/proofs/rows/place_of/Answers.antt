@@ -1,5 +1,4 @@
-use Rattle.std.proofs.Common.{arith}
-use Rattle.std.proofs.lemmas.Grind.{elements}
+use Rattle.kc_builder.proofs.Common.{arith, elements}
 use Rattle.kc_builder.proofs.rows.place_of.Goals as goal
 
 pub returns-in-None : goal.returns-in-None

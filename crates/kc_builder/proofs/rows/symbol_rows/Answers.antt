@@ -1,8 +1,5 @@
-use Rattle.std.proofs.Common.{length, get_or, [], ◌∷◌, ◌++◌, None, ap, ◌∙◌, arith}
-use Rattle.std.proofs.lemmas.Grind.{common_steps}
-use Rattle.kc_listing.specs.between.ListingView.{RepresentsListing}
-use Rattle.kc_builder.specs.checker.Rows.{row_of_symbol}
-use Rattle.kc_checks.specs.declared.summary.SymbolSummary.{SymbolSummary}
+use Rattle.kc_builder.proofs.Common.{length, get_or, [], ◌∷◌, ◌++◌, None, ap, ◌∙◌, arith, common_steps, row_of_symbol, SymbolSummary}
+use Rattle.kc_parser.specs.between.ListingView.{RepresentsListing}
 use Rattle.kc_builder.proofs.RowSteps.{as_many, row_more, rows_all, rows_shown}
 use Rattle.kc_builder.proofs.rows.symbol_rows.Goals as goal
 

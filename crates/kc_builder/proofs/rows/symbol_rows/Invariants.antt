@@ -1,5 +1,4 @@
-use Rattle.std.proofs.Common.{◌≡◌, ◌++◌, drop}
-use Rattle.kc_builder.specs.checker.Rows.{rows_of_symbols}
+use Rattle.kc_builder.proofs.Common.{◌≡◌, ◌++◌, drop, rows_of_symbols}
 use Rattle.kc_builder.proofs.rows.symbol_rows.Given as goal
 
 abbrev pub invariant-loop-s : goal.invariant-loop-s

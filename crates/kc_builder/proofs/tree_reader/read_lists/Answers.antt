@@ -1,9 +1,8 @@
-use Rattle.std.proofs.Common.{◌≡◌, ◌⊎◌, None}
-use Rattle.std.proofs.lemmas.Result.{IfErr-weaker, IfOk-weaker}
+use Rattle.kc_builder.proofs.Common.{◌≡◌, ◌⊎◌, None, IfOk-weaker, no_memory, IsFaultRead, IsReadIn}
+use Rattle.std.proofs.lemmas.Result.{IfErr-weaker}
 use Rattle.kc_tree_model.specs.TreesOfFiles.{IsReportedFault}
-use Rattle.kc_listing.specs.between.MemoryFaults.{no_memory}
 use Rattle.kc_checks.proofs.ReadSteps.{reported_or_memory, reported_of_reading, reported_of_checks, shown_of_reading, reported_tree_fault}
-use Rattle.kc_builder.specs.checker.Assembly.{IsFaultRead, IsGathered, IsGatheredRead, IsReadIn}
+use Rattle.kc_builder.specs.checker.Assembly.{IsGathered, IsGatheredRead}
 use Rattle.kc_builder.proofs.tree_reader.read_lists.Goals as goal
 
 pub lists_of-requires : goal.lists_of-requires

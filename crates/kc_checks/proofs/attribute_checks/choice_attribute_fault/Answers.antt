@@ -1,9 +1,4 @@
-use Rattle.std.proofs.Common.{◌≡◌, ap, sym, ◌∙◌, arith}
-use Rattle.std.proofs.lemmas.Grind.{common_steps}
-use Rattle.std.specs.Prelude.{not, option_map}
-use Rattle.kc_statements.specs.between.StatementViews.{attribute_in, default_in}
-use Rattle.kc_tree_model.specs.Statements.{default_of}
-use Rattle.kc_tree_model.specs.TreeFaults.{is_no_member}
+use Rattle.kc_checks.proofs.Common.{◌≡◌, ap, sym, ◌∙◌, arith, common_steps, not, option_map, attribute_in, default_in, default_of, is_no_member}
 use Rattle.kc_checks.proofs.FaultKinds.{choice_is}
 use Rattle.kc_checks.proofs.attribute_checks.choice_attribute_fault.Goals as goal
 use Rattle.kc_checks.proofs.attribute_checks.choice_attribute_fault.Goals.{in-Some, in-None}

@@ -1,10 +1,4 @@
-use Rattle.std.proofs.Common.{◌≡◌, ◌||◌, Some, sym, ap, ◌∙◌, arith}
-use Rattle.std.proofs.lemmas.Grind.{common_steps, elements}
-use Rattle.std.specs.Prelude.{is_some}
-use Rattle.kc_tree_model.specs.declared.fault.TreeFault.{TreeFault}
-use Rattle.kc_tree_model.specs.Statements.{prompt_of}
-use Rattle.kc_tree_model.specs.TreeFaults.{choice_faults}
-use Rattle.kc_statements.specs.between.StatementViews.{attribute_in}
+use Rattle.kc_checks.proofs.Common.{◌≡◌, ◌||◌, Some, sym, ap, ◌∙◌, arith, common_steps, elements, is_some, TreeFault, prompt_of, choice_faults, attribute_in}
 use Rattle.kc_checks.proofs.FaultKinds.{left_more, left_reported, left_none}
 use Rattle.kc_checks.proofs.attribute_checks.first_choice_fault.Goals as goal
 use Rattle.kc_checks.proofs.attribute_checks.first_choice_fault.Goals.{then-prompted, else-prompted}

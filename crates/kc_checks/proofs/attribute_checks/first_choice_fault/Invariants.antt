@@ -1,9 +1,6 @@
-use Rattle.std.proofs.Common.{◌≡◌, ℕ, List, drop, false}
+use Rattle.kc_checks.proofs.Common.{◌≡◌, ℕ, List, drop, false, names_defined, choice_faults, AreMarked}
 use Rattle.kc_tree_model.specs.Blocks.{Group as ModelGroup}
-use Rattle.kc_tree_model.specs.Limits.{names_defined}
-use Rattle.kc_tree_model.specs.TreeFaults.{choice_faults}
-use Rattle.kc_listing.specs.between.ListingView.{RepresentsListing}
-use Rattle.kc_checks.specs.checker.Marks.{AreMarked}
+use Rattle.kc_parser.specs.between.ListingView.{RepresentsListing}
 use Rattle.kc_checks.proofs.FaultKinds.{first_left}
 use Rattle.kc_checks.proofs.attribute_checks.first_choice_fault.Given as goal
 

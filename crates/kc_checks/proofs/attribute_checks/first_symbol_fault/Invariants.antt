@@ -1,10 +1,7 @@
-use Rattle.std.proofs.Common.{◌≡◌, ℕ, List, drop, false}
-use Rattle.std.specs.Prelude.{bytes_eq}
+use Rattle.kc_checks.proofs.Common.{◌≡◌, ℕ, List, drop, false, bytes_eq, contents_of, attribute_faults}
 use Rattle.kc_expr.specs.Expr.{modules as modules_name}
 use Rattle.kc_tree_model.specs.Blocks.{Group as ModelGroup}
-use Rattle.kc_tree_model.specs.Contents.{contents_of}
-use Rattle.kc_tree_model.specs.TreeFaults.{attribute_faults}
-use Rattle.kc_listing.specs.between.ListingView.{RepresentsListing}
+use Rattle.kc_parser.specs.between.ListingView.{RepresentsListing}
 use Rattle.kc_checks.proofs.FaultKinds.{first_left}
 use Rattle.kc_checks.proofs.attribute_checks.first_symbol_fault.Given as goal
 

@@ -1,9 +1,4 @@
-use Rattle.std.proofs.Common.{ap, sym, ◌∙◌, arith}
-use Rattle.std.proofs.lemmas.Grind.{elements}
-use Rattle.std.specs.Prelude.{slice_get}
-use Rattle.kc_statements.specs.between.StatementViews.{attribute_in}
-use Rattle.kc_tree_model.specs.Contents.{contents_of}
-use Rattle.kc_tree_model.specs.TreeFaults.{attribute_faults}
+use Rattle.kc_checks.proofs.Common.{ap, sym, ◌∙◌, arith, elements, slice_get, attribute_in, contents_of, attribute_faults}
 use Rattle.kc_checks.proofs.FaultKinds.{typed_is}
 use Rattle.kc_checks.proofs.attribute_checks.symbol_attribute_fault.Goals as goal
 

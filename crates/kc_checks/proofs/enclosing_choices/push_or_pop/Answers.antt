@@ -1,5 +1,4 @@
-use Rattle.std.proofs.Common.{arith}
-use Rattle.std.proofs.lemmas.Grind.{common_steps}
+use Rattle.kc_checks.proofs.Common.{arith, common_steps}
 use Rattle.kc_checks.proofs.enclosing_choices.push_or_pop.Goals as goal
 
 pub returns-in-Ends : goal.returns-in-Ends

@@ -1,10 +1,7 @@
-use Rattle.std.proofs.Common.{◌≡◌, ◌-◌, length, drop, sym, ap, subst, ◌∙◌}
-use Rattle.std.specs.Prelude.{All, slice_range}
-use Rattle.std.proofs.lemmas.List.{get_or_read}
+use Rattle.kc_checks.proofs.Common.{◌≡◌, ◌-◌, length, drop, sym, ap, subst, ◌∙◌, All, slice_range, get_or_read, names_defined, no_group, attributes_end, group_at}
 use Rattle.std.proofs.lemmas.List.Elements.{All-take, All-drop}
-use Rattle.kc_tree_model.specs.Limits.{names_defined}
-use Rattle.kc_listing.specs.between.ListingView.{RepresentsListing, LineNodesExist}
-use Rattle.kc_checks.specs.between.Summaries.{no_group, attributes_end, group_at, own_lines}
+use Rattle.kc_parser.specs.between.ListingView.{RepresentsListing, LineNodesExist}
+use Rattle.kc_checks.specs.between.Summaries.{own_lines}
 use Rattle.kc_checks.proofs.GroupPlaces.{shown_at}
 use Rattle.kc_checks.proofs.group_lines.lines_of.Goals as goal
 

@@ -1,5 +1,4 @@
-use Rattle.std.proofs.Common.{take}
-use Rattle.kc_checks.specs.checker.Marks.{WereMarked}
+use Rattle.kc_checks.proofs.Common.{take, WereMarked}
 use Rattle.kc_checks.proofs.marks.mark_members.Given as goal
 
 abbrev pub invariant-loop-member : goal.invariant-loop-member

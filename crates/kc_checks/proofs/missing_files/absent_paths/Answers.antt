@@ -1,6 +1,4 @@
-use Rattle.std.proofs.Common.{sym, ◌∙◌, arith}
-use Rattle.std.proofs.lemmas.Grind.{common_steps}
-use Rattle.kc_checks.specs.checker.MissingPaths.{paths_in}
+use Rattle.kc_checks.proofs.Common.{sym, ◌∙◌, arith, common_steps, paths_in}
 use Rattle.kc_checks.proofs.MissingPathLists.{all_shown, none_left}
 use Rattle.kc_checks.proofs.missing_files.absent_paths.Goals as goal
 

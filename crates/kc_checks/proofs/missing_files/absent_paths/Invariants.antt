@@ -1,5 +1,4 @@
-use Rattle.std.proofs.Common.{◌≡◌, [], Some, drop}
-use Rattle.kc_checks.specs.checker.MissingPaths.{paths_in, with_absent, with_all}
+use Rattle.kc_checks.proofs.Common.{◌≡◌, [], Some, drop, paths_in, with_absent, with_all}
 use Rattle.kc_checks.proofs.missing_files.absent_paths.Given as goal
 
 abbrev pub invariant-loop-group : goal.invariant-loop-group

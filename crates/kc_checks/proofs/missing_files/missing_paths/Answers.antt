@@ -1,9 +1,5 @@
-use Rattle.std.proofs.Common.{◌≡◌, ◌⊎◌, ℕ, List, Result, Ok, Err, IfOk, IfErr, map, subst, arith}
-use Rattle.std.proofs.lemmas.Grind.{common_steps, elements}
-use Rattle.std.specs.Prelude.{string_bytes}
-use Rattle.kc_tree_model.specs.declared.fault.TreeFault.{TreeFault}
-use Rattle.kc_listing.specs.between.MemoryFaults.{no_memory}
-use Rattle.kc_checks.specs.checker.MissingPaths.{paths_in}
+use Rattle.std.proofs.Common.{Result, IfOk, IfErr}
+use Rattle.kc_checks.proofs.Common.{◌≡◌, ◌⊎◌, ℕ, List, Ok, Err, map, subst, arith, common_steps, elements, string_bytes, TreeFault, no_memory, paths_in}
 use Rattle.kc_checks.proofs.ReadSteps.{wanted_is}
 use Rattle.kc_checks.proofs.missing_files.missing_paths.Goals as goal
 

@@ -1,5 +1,4 @@
-use Rattle.std.proofs.Common.{arith}
-use Rattle.std.proofs.lemmas.Grind.{elements}
+use Rattle.kc_checks.proofs.Common.{arith, elements}
 use Rattle.kc_checks.proofs.missing_files.path_of.Goals as goal
 
 pub returns-in-Some : goal.returns-in-Some

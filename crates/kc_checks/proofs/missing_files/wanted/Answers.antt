@@ -1,7 +1,5 @@
-use Rattle.std.proofs.Common.{Ok, map}
-use Rattle.std.specs.Prelude.{string_bytes}
+use Rattle.kc_checks.proofs.Common.{Ok, map, string_bytes, wanted_related}
 use Rattle.std.proofs.lemmas.Result.{IfOk-weaker, IfErr-weaker}
-use Rattle.kc_tree_model.proofs.ReadingLaws.TreesOfRelation.{wanted_related}
 use Rattle.kc_checks.proofs.ReadSteps.{wanted_or_memory}
 use Rattle.kc_checks.proofs.missing_files.wanted.Goals as goal
 

@@ -1,8 +1,4 @@
-use Rattle.std.proofs.Common.{None, get_or, sym, ◌∙◌}
-use Rattle.kc_tree_model.proofs.Consistency.Lists.{place-get}
-use Rattle.kc_tree_model.specs.Contents.{contents_of}
-use Rattle.kc_tree_model.specs.Limits.{names_defined}
-use Rattle.kc_checks.specs.declared.summary.SymbolSummary.{SymbolSummary}
+use Rattle.kc_checks.proofs.Common.{None, get_or, sym, ◌∙◌, place-get, contents_of, names_defined, SymbolSummary}
 use Rattle.kc_checks.proofs.Symbols.{about_is, kind_is, symbol_below, undefined_selectable, selectable_some, selectable_none}
 use Rattle.kc_checks.proofs.name_checks.is_selectable.Goals as goal
 

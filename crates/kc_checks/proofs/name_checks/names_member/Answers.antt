@@ -1,11 +1,6 @@
-use Rattle.std.proofs.Common.{◌≡◌, Some, sym, ap, ◌∙◌, arith}
+use Rattle.kc_checks.proofs.Common.{◌≡◌, Some, sym, ap, ◌∙◌, arith, default_in, get_below, place-get, bare_name, names_defined, as_many_names}
 use Rattle.kc_expr.specs.between.Arena.{node_expr}
-use Rattle.kc_listing.specs.between.ListingView.{RepresentsListing}
-use Rattle.kc_statements.specs.between.StatementViews.{default_in}
-use Rattle.kc_tree_model.proofs.Consistency.Lists.{get_below, place-get}
-use Rattle.kc_tree_model.specs.Contents.{bare_name}
-use Rattle.kc_tree_model.specs.Limits.{names_defined}
-use Rattle.kc_listing.proofs.NameLemmas.{as_many_names}
+use Rattle.kc_parser.specs.between.ListingView.{RepresentsListing}
 use Rattle.kc_checks.proofs.Symbols.{bare_is, name_some}
 use Rattle.kc_checks.proofs.name_checks.names_member.Goals as goal
 

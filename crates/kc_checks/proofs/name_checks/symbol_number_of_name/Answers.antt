@@ -1,5 +1,5 @@
 use Rattle.std.proofs.Common.{◌∙◌}
-use Rattle.kc_listing.specs.between.ListingView.{RepresentsListing}
+use Rattle.kc_parser.specs.between.ListingView.{RepresentsListing}
 use Rattle.kc_checks.proofs.name_checks.symbol_number_of_name.Goals as goal
 
 pub returns : goal.returns

@@ -1,11 +1,5 @@
-use Rattle.std.proofs.Common.{false, map, sym, ap, ◌∙◌}
-use Rattle.std.specs.Prelude.{slice_get}
-use Rattle.std.proofs.lemmas.List.{get_or_read}
-use Rattle.kc_tree_model.specs.Contents.{contents_of, member_names}
-use Rattle.kc_tree_model.specs.Limits.{names_defined}
-use Rattle.kc_tree_model.specs.TreeFaults.{choice_faults, faults_of_lines}
-use Rattle.kc_listing.specs.between.ListingView.{RepresentsListing, line_in}
-use Rattle.kc_checks.specs.between.Summaries.{group_at, no_group}
+use Rattle.kc_checks.proofs.Common.{false, map, sym, ap, ◌∙◌, slice_get, get_or_read, contents_of, member_names, names_defined, choice_faults, faults_of_lines, line_in, group_at, no_group}
+use Rattle.kc_parser.specs.between.ListingView.{RepresentsListing}
 use Rattle.kc_checks.proofs.FaultSearch.{choice_first, choice_there, place_at}
 use Rattle.kc_checks.proofs.search.choice_fault.Goals as goal
 

@@ -1,18 +1,7 @@
-use Rattle.std.proofs.Common.{◌≡◌, false, Some, length, map, sym, ap, ◌∙◌, arith}
-use Rattle.std.proofs.lemmas.Grind.{elements}
-use Rattle.std.specs.Prelude.{slice_get, is_some, option_map}
-use Rattle.std.specs.Option.{option_or}
-use Rattle.std.proofs.lemmas.List.{get_or_read, length-map}
-use Rattle.kc_tree_model.specs.declared.fault.TreeFault.{TreeFault}
-use Rattle.kc_tree_model.specs.Conditions.{groups_in_context}
-use Rattle.kc_tree_model.specs.Contents.{contents_of}
-use Rattle.kc_tree_model.specs.Limits.{names_defined}
-use Rattle.kc_tree_model.specs.TreeFaults.{attribute_faults, faults_of_lines, kind_of}
-use Rattle.kc_listing.specs.between.ListingView.{RepresentsListing, line_in}
-use Rattle.kc_listing.proofs.NameLemmas.{as_many_names}
-use Rattle.kc_checks.specs.between.Summaries.{IsSummary, enclosing_choice, group_at, no_group}
-use Rattle.kc_checks.specs.checker.Kinds.{choice_around}
-use Rattle.kc_checks.specs.declared.summary.SymbolSummary.{SymbolSummary}
+use Rattle.kc_checks.proofs.Common.{◌≡◌, false, Some, length, map, sym, ap, ◌∙◌, arith, elements, slice_get, is_some, option_map, option_or, get_or_read, length-map, TreeFault, groups_in_context, contents_of, names_defined, attribute_faults, faults_of_lines, kind_of, line_in, as_many_names}
+use Rattle.kc_checks.proofs.Common.{enclosing_choice, group_at, no_group, choice_around, SymbolSummary}
+use Rattle.kc_parser.specs.between.ListingView.{RepresentsListing}
+use Rattle.kc_checks.specs.between.Summaries.{IsSummary}
 use Rattle.kc_checks.proofs.GroupPlaces.{count_is, placed_count}
 use Rattle.kc_checks.proofs.FaultKinds.{fault_of, follow_is}
 use Rattle.kc_checks.proofs.FaultSearch.{again_is, config_first, config_there, definition_reported, enclosing_some, place_at, enclosing_got}
@@ -81,11 +70,11 @@ returns-in-Some c = record {
       ∙ ap (λ (x : SymbolSummary). choice_around (map (enclosing_choice (contents_of read)) (groups_in_context read)) x.first) about)
       (c.index-4.ensures ∙ enclosing_got read m.enclosing.items c.args.i p c.index-4.result.now known.enclosing at)
       c.is_same_choice-is_again.ensures in
-      let follow = c.may_follow_member-may_follow.ensures ∙ follow_is c.args.language l.names.arena (contents_of read) name p c.is_some-is_member.result
+      let follow = c.only_extends_member-may_follow.ensures ∙ follow_is c.args.language l.names.arena (contents_of read) name p c.is_some-is_member.result
       c.is_same_choice-is_again.result c.lines_of-lines.result.now
       (member ∙ enclosing_some read p a.has) again (a.attributes ∙ sym (ap (map (line_in l.names.arena)) c.lines_of-lines.ensures.lines)) in
       let reported = definition_reported c.args.language read p name c.args.i c.index.result.now c.is_some-is_member.result c.is_misfit-is_misfit.result
-      c.is_first-is_first.result c.is_modules-is_modules.result c.may_follow_member-may_follow.result a.has a.number about member
+      c.is_first-is_first.result c.is_modules-is_modules.result c.only_extends_member-may_follow.result a.has a.number about member
       c.is_misfit-is_misfit.ensures c.is_first-is_first.ensures
       (c.is_modules-is_modules.ensures.value read name h w.1) follow in
       let file = ap (λ g. g.file) (get_or_read l.groups.items _ _ c.requires.here c.index-3.ensures no_group) ∙ sym a.file in
@@ -123,11 +112,11 @@ returns c = record {
       ∙ ap (λ (x : SymbolSummary). choice_around (map (enclosing_choice (contents_of read)) (groups_in_context read)) x.first) about)
       (c.index-4.ensures ∙ enclosing_got read m.enclosing.items c.args.i p c.index-4.result.now known.enclosing at)
       c.is_same_choice-is_again.ensures in
-      let follow = c.may_follow_member-may_follow.ensures ∙ follow_is c.args.language l.names.arena (contents_of read) name p c.is_some-is_member.result
+      let follow = c.only_extends_member-may_follow.ensures ∙ follow_is c.args.language l.names.arena (contents_of read) name p c.is_some-is_member.result
       c.is_same_choice-is_again.result c.lines_of-lines.result.now
       (member ∙ enclosing_some read p a.has) again (a.attributes ∙ sym (ap (map (line_in l.names.arena)) c.lines_of-lines.ensures.lines)) in
       let reported = definition_reported c.args.language read p name c.args.i c.index.result.now c.is_some-is_member.result c.is_misfit-is_misfit.result
-      c.is_first-is_first.result c.is_modules-is_modules.result c.may_follow_member-may_follow.result a.has a.number about member
+      c.is_first-is_first.result c.is_modules-is_modules.result c.only_extends_member-may_follow.result a.has a.number about member
       c.is_misfit-is_misfit.ensures c.is_first-is_first.ensures
       (c.is_modules-is_modules.ensures.value read name h w.1) follow in
       let file = ap (λ g. g.file) (get_or_read l.groups.items _ _ c.requires.here c.index-3.ensures no_group) ∙ sym a.file in

@@ -1,14 +1,6 @@
-use Rattle.std.proofs.Common.{◌≡◌, ◌<◌, ◌+◌, length, sym, ap, subst, ◌∙◌, arith}
-use Rattle.std.proofs.lemmas.Grind.{common_steps, elements}
-use Rattle.std.specs.Prelude.{All}
-use Rattle.std.proofs.lemmas.List.{get_or_read}
-use Rattle.kc_tree_model.specs.Contents.{contents_of, member_names}
-use Rattle.kc_tree_model.specs.Limits.{names_defined}
-use Rattle.kc_listing.specs.between.ListingView.{RepresentsListing}
-use Rattle.kc_listing.specs.declared.listing.GroupHead.TheVariants as codes
-use Rattle.kc_listing.proofs.NameLemmas.{as_many_names}
-use Rattle.kc_checks.specs.checker.Marks.{AreMarked}
-use Rattle.kc_checks.specs.between.Summaries.{group_at, is_choice_code, no_group}
+use Rattle.kc_checks.proofs.Common.{◌≡◌, ◌<◌, ◌+◌, length, sym, ap, subst, ◌∙◌, arith, common_steps, elements, All, get_or_read, contents_of, member_names, names_defined, as_many_names, AreMarked, group_at, is_choice_code, no_group}
+use Rattle.kc_parser.specs.between.ListingView.{RepresentsListing}
+use Rattle.kc_parser.specs.declared.listing.GroupHead.TheVariants as codes
 use Rattle.kc_checks.proofs.MemberMarks.{members_small}
 use Rattle.kc_checks.proofs.FaultSearch.{are_marked_in, at_most_choice, at_most_more, choice_below, marks_small, members_kept, nothing_reported, place_at, place_there}
 use Rattle.kc_checks.proofs.search.group_fault.Goals as goal

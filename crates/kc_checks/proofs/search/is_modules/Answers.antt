@@ -1,10 +1,6 @@
-use Rattle.std.proofs.Common.{ap, ◌∙◌, arith}
-use Rattle.std.specs.Prelude.{bytes_eq}
-use Rattle.std.proofs.lemmas.List.{get_or_read}
+use Rattle.kc_checks.proofs.Common.{ap, ◌∙◌, arith, bytes_eq, get_or_read, names_defined, text_of_name}
 use Rattle.kc_expr.specs.Expr.{modules as modules_name}
-use Rattle.kc_tree_model.specs.Limits.{names_defined}
-use Rattle.kc_listing.specs.between.SymbolTable.{text_of_name}
-use Rattle.kc_listing.specs.between.ListingView.{RepresentsListing}
+use Rattle.kc_parser.specs.between.ListingView.{RepresentsListing}
 use Rattle.kc_checks.proofs.FaultSearch.{word_is}
 use Rattle.kc_checks.proofs.search.is_modules.Goals as goal
 

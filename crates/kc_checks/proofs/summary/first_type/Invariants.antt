@@ -1,7 +1,4 @@
-use Rattle.std.proofs.Common.{◌≡◌, drop}
-use Rattle.std.specs.Prelude.{filter_map, slice_get}
-use Rattle.kc_expr.specs.between.Arena.{Exprs}
-use Rattle.kc_checks.specs.between.Summaries.{type_in}
+use Rattle.kc_checks.proofs.Common.{◌≡◌, drop, filter_map, slice_get, Exprs, type_in}
 use Rattle.kc_checks.proofs.summary.first_type.Given as goal
 
 abbrev pub invariant-loop-i : goal.invariant-loop-i

@@ -1,7 +1,4 @@
-use Rattle.std.proofs.Common.{arith}
-use Rattle.std.proofs.lemmas.Grind.{common_steps}
-use Rattle.kc_conditions.specs.checker.Conjunctions.{conjunct}
-use Rattle.kc_statements.proofs.ArenaGrowth.{grows_on}
+use Rattle.kc_conditions.proofs.Common.{arith, common_steps, conjunct, grows_on}
 use Rattle.kc_conditions.proofs.Growth.{conjoins_there, conjoins_own, with_more}
 use Rattle.kc_conditions.proofs.conditions.join_all.Goals as goal
 
@@ -17,8 +14,8 @@ loop-line-preserved c =
           (conjoins_own mid c.loop-line.joined inv.there));
       all =
           with_more old mid new c.args.which c.args.lines.now c.loop-line.line-index c.line-item.result c.args.all c.loop-line.joined c.in_ok-joined.joined
-          c.conjunct_in.result
-          inv.grows c.requires.held c.loop-line-test.true c.line-item.is c.conjunct_in.ensures inv.all c.in_ok-joined.ensures.ok;
+          c.conjunct_given.result
+          inv.grows c.requires.held c.loop-line-test.true c.line-item.is c.conjunct_given.ensures inv.all c.in_ok-joined.ensures.ok;
     }
 
 pub join_optional-requires-clause-more : goal.join_optional-requires-clause-more

@@ -1,6 +1,6 @@
 use Rattle.std.proofs.Common.{[], sym, append-nil}
-use Rattle.kc_listing.specs.between.ListingView.{RepresentsListing}
-use Rattle.kc_listing.proofs.AppendSteps.{lists_grown, grows_same}
+use Rattle.kc_parser.specs.between.ListingView.{RepresentsListing}
+use Rattle.kc_parser.proofs.AppendSteps.{lists_grown, grows_same}
 use Rattle.kc_tree_model.specs.Limits.{names_defined}
 use Rattle.kc_conditions.proofs.listing_walk.walk_all.Goals as goal
 

@@ -1,5 +1,4 @@
-use Rattle.std.proofs.Common.{rules, arith}
-use Rattle.std.proofs.lemmas.Grind.{common_steps}
+use Rattle.kc_dotconfig.proofs.Common.{rules, arith, common_steps}
 use Rattle.std.proofs.lemmas.Iterator.Consumers.{YieldsList-turn}
 use Rattle.std.proofs.lemmas.Iterator.Adapters.{YieldsList-from_vec}
 use Rattle.kc_dotconfig.proofs.AscendingUnits.{mapped_next}
@@ -10,11 +9,8 @@ loop-unit-preserved c =
     let t = YieldsList-turn (YieldsList-from_vec {s = c.into_iter-unit-iterator.result} c.args.listed.items (search rules) (search rules))
     c.loop-unit.yielded c.loop-unit.unit-iterator c.loop-unit.yielded_by c.next.result c.next.new.self (c.in-Some.unit, c.in-Some.user) c.in-Some.is
     c.next.ensures.steps in
-    mapped_next c.args.listed.items c.loop-unit.yielded (c.in-Some.unit, c.in-Some.user) c.loop-unit.map.entries c.insert.new.self.entries c.requires.rising
-    c.loop-unit.invariant c.in-Ok.ensures.entries t.0 t.1
-
-pub returns-in-Err : goal.returns-in-Err
-returns-in-Err c = grind (arith, common_steps)
+    mapped_next c.args.listed.items c.loop-unit.yielded (c.in-Some.unit, c.in-Some.user) c.loop-unit.map.entries c.put.new.map.entries c.requires.rising
+    c.loop-unit.invariant c.in_ok-put.ensures t.0 t.1
 
 pub loop-unit-preserved-derived : goal.loop-unit-preserved-derived
 loop-unit-preserved-derived c = grind (arith, common_steps)

@@ -1,6 +1,4 @@
-use Rattle.std.proofs.Common.{◌≡◌, ◌++◌, length, drop, sym, ◌∙◌, ap, arith}
-use Rattle.std.proofs.lemmas.Grind.{elements}
-use Rattle.std.proofs.lemmas.Bool.Decides.{Decides-eqb}
+use Rattle.kc_dotconfig_model.proofs.Common.{◌≡◌, ◌++◌, length, drop, sym, ◌∙◌, ap, arith, elements, Decides-eqb}
 use Rattle.std.proofs.lemmas.Slice.Eq.{starts_is}
 use Rattle.kc_dotconfig_model.proofs.LineParts.{after_front_some, after_front_none, front_boundary}
 use Rattle.kc_dotconfig_model.proofs.line_parts.after_front.Goals as goal

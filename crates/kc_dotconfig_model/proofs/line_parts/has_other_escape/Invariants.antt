@@ -1,5 +1,4 @@
-use Rattle.std.proofs.Common.{◌≡◌, false, drop}
-use Rattle.kc_dotconfig_model.specs.Formats.{has_other_escape}
+use Rattle.kc_dotconfig_model.proofs.Common.{◌≡◌, false, drop, has_other_escape}
 use Rattle.kc_dotconfig_model.proofs.line_parts.has_other_escape.Given as goal
 
 -- the bytes from the current one on decide

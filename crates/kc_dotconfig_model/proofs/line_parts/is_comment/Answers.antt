@@ -1,5 +1,4 @@
-use Rattle.std.proofs.Common.{arith}
-use Rattle.std.proofs.lemmas.Grind.{common_steps}
+use Rattle.kc_dotconfig_model.proofs.Common.{arith, common_steps}
 use Rattle.kc_dotconfig_model.proofs.line_parts.is_comment.Goals as goal
 
 pub loop-byte-preserved : goal.loop-byte-preserved

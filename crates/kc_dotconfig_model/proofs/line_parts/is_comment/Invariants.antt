@@ -1,6 +1,5 @@
-use Rattle.std.proofs.Common.{◌≡◌, not, drop}
+use Rattle.kc_dotconfig_model.proofs.Common.{◌≡◌, not, drop, is_white_byte}
 use Rattle.std.specs.List.{find}
-use Rattle.kc_tokens.specs.Token.{is_white_byte}
 use Rattle.kc_dotconfig_model.proofs.line_parts.is_comment.Given as goal
 
 -- the bytes of the line before the current one are white space

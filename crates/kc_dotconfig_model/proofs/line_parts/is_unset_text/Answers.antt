@@ -1,8 +1,5 @@
-use Rattle.std.proofs.Common.{◌∙◌, sym}
-use Rattle.std.specs.Prelude.{codes}
-use Rattle.std.proofs.lemmas.Bool.Decides.{Decides-eqb}
+use Rattle.kc_dotconfig_model.proofs.Common.{◌∙◌, sym, codes, Decides-eqb, without_white_end}
 use Rattle.std.proofs.lemmas.Slice.Eq.{strip_suffix_is}
-use Rattle.kc_tree_model.specs.LogicalLines.{without_white_end}
 use Rattle.kc_dotconfig_model.proofs.UnsetNames.{no_unset_text, unset_by_name}
 use Rattle.kc_dotconfig_model.proofs.line_parts.is_unset_text.Goals as goal
 

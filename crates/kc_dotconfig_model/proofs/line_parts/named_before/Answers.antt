@@ -1,7 +1,4 @@
-use Rattle.std.proofs.Common.{◌≡◌, sym, ◌∙◌, ap, None, arith}
-use Rattle.std.proofs.lemmas.Grind.{common_steps, elements}
-use Rattle.std.specs.Option.{option_and_then}
-use Rattle.kc_dotconfig_model.specs.between.LineMeanings.{if_named, named_before}
+use Rattle.kc_dotconfig_model.proofs.Common.{◌≡◌, sym, ◌∙◌, ap, None, arith, common_steps, elements, option_and_then, if_named, named_before}
 use Rattle.kc_dotconfig_model.proofs.LineParts.{cut_none, cut_parts, named_is, if_none}
 use Rattle.kc_dotconfig_model.proofs.line_parts.named_before.Goals as goal
 

@@ -1,5 +1,4 @@
-use Rattle.std.proofs.Common.{arith}
-use Rattle.std.proofs.lemmas.Grind.{common_steps, elements}
+use Rattle.kc_dotconfig_model.proofs.Common.{arith, common_steps, elements}
 use Rattle.kc_dotconfig_model.proofs.line_parts.trimmed.Goals as goal
 
 pub overflow_sub-end-in-loop-end : goal.overflow_sub-end-in-loop-end

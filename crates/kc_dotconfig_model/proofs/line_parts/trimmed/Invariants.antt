@@ -1,6 +1,4 @@
-use Rattle.std.proofs.Common.{◌≡◌, ◌+◌, ◌-◌, ◌<◌, ◌≤◌, true, length, take, get_or}
-use Rattle.std.specs.List.{suffix_len}
-use Rattle.kc_tokens.specs.Token.{is_white_byte}
+use Rattle.kc_dotconfig_model.proofs.Common.{◌≡◌, ◌+◌, ◌-◌, ◌<◌, ◌≤◌, true, length, take, get_or, suffix_len, is_white_byte}
 use Rattle.kc_dotconfig_model.proofs.line_parts.trimmed.Given as goal
 
 -- the bytes of the line from index `end` on are white space

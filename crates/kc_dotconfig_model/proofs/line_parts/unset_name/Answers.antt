@@ -1,5 +1,4 @@
-use Rattle.std.proofs.Common.{arith}
-use Rattle.std.proofs.lemmas.Grind.{common_steps, elements}
+use Rattle.kc_dotconfig_model.proofs.Common.{arith, common_steps, elements}
 use Rattle.kc_dotconfig_model.proofs.line_parts.unset_name.Goals as goal
 
 pub after_front-requires-2-text-line : goal.after_front-requires-2-text-line

@@ -1,5 +1,4 @@
-use Rattle.std.proofs.Common.{rules, arith}
-use Rattle.std.proofs.lemmas.Grind.{common_steps, elements}
+use Rattle.kc_dotconfig_model.proofs.Common.{rules, arith, common_steps, elements}
 use Rattle.kc_dotconfig_model.proofs.line_parts.value_parts.Goals as goal
 
 pub returns-in_err-rest-clause-none : goal.returns-in_err-rest-clause-none

@@ -1,12 +1,6 @@
-use Rattle.std.proofs.Common.{List, map, true, sym, subst}
-use Rattle.kc_macros_model.specs.ReadingStates.{ExpandedFile}
+use Rattle.kc_expansion.proofs.Common.{List, map, true, sym, subst, ExpandedFile, run_at_start, end_of, tree_of, Reaches, with_root, file_run_of}
 use Rattle.kc_macros_model.specs.TreeExpansion.{tree_read}
-use Rattle.kc_answers.specs.RunStates.{run_at_start}
-use Rattle.kc_macros.specs.Runs.{notice_of, end_of}
-use Rattle.kc_expansion.specs.Expansions.{tree_of}
-use Rattle.kc_expansion.specs.between.Reads.{Reaches}
-use Rattle.kc_expansion.specs.checker.ExpansionViews.{with_root}
-use Rattle.kc_expansion.specs.checker.ReadingViews.{file_run_of}
+use Rattle.kc_macros.specs.Runs.{notice_of}
 use Rattle.kc_expansion.proofs.ExpansionLemmas.{from_start, goes_on, expansion_read, few_files}
 use Rattle.kc_expansion.proofs.expansion.expand.Goals as goal
 

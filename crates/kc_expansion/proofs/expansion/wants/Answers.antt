@@ -1,10 +1,5 @@
-use Rattle.std.proofs.Common.{false}
+use Rattle.kc_expansion.proofs.Common.{false, end_of, questions_of, texts_of, with_root, file_run_of}
 use Rattle.kc_macros_model.specs.TreeExpansion.{tree_read}
-use Rattle.kc_macros.specs.Runs.{end_of}
-use Rattle.kc_expansion.specs.Expansions.{questions_of}
-use Rattle.kc_files.specs.TextViews.{texts_of}
-use Rattle.kc_expansion.specs.checker.ExpansionViews.{with_root}
-use Rattle.kc_expansion.specs.checker.ReadingViews.{file_run_of}
 use Rattle.kc_expansion.proofs.FileProgramLemmas.{if_ok}
 use Rattle.kc_expansion.proofs.ExpansionLemmas.{from_start, wanted_of}
 use Rattle.kc_expansion.proofs.expansion.wants.Goals as goal

@@ -1,7 +1,5 @@
-use Rattle.std.proofs.Common.{◌&&◌, ◌∙◌, take, drop, length, refl, sym, ap}
-use Rattle.std.specs.Prelude.{◌-◌}
+use Rattle.kc_expansion.proofs.Common.{◌&&◌, ◌∙◌, take, drop, length, refl, sym, ap, ◌-◌, is_end}
 use Rattle.std.proofs.lemmas.List.{take_rest}
-use Rattle.kc_expansion.specs.checker.HelpWords.{is_end}
 use Rattle.kc_expansion.proofs.HelpWordLemmas.{help_split}
 use Rattle.kc_expansion.proofs.help_words.begins_help.Goals as goal
 

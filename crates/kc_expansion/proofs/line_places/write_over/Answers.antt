@@ -1,8 +1,4 @@
-use Rattle.std.proofs.Common.{◌≡◌, ◌++◌, ◌∙◌, ℕ, sym, ap, take, drop, arith}
-use Rattle.std.specs.Prelude.{replicate}
-use Rattle.kc_tree_model.specs.LogicalLines.{split_at_newlines}
-use Rattle.kc_macros_model.specs.TreeExpansion.{lines_written}
-use Rattle.kc_expansion.specs.checker.WrittenViews.{text_up_to}
+use Rattle.kc_expansion.proofs.Common.{◌≡◌, ◌++◌, ◌∙◌, ℕ, sym, ap, take, drop, arith, replicate, split_at_newlines, lines_written, text_up_to}
 use Rattle.kc_expansion.proofs.FileProgramLemmas.{on_ok}
 use Rattle.kc_expansion.proofs.LinePlaceLemmas.{text_further, lines_between, lines_stay, lines_replaced}
 use Rattle.kc_expansion.proofs.line_places.write_over.Goals as goal

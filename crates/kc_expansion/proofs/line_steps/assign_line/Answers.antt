@@ -1,8 +1,5 @@
-use Rattle.std.proofs.Common.{ap}
-use Rattle.kc_macros.specs.Runs.{place_of}
-use Rattle.kc_macros.specs.between.Variables.{bindings_of}
+use Rattle.kc_expansion.proofs.Common.{ap, place_of, bindings_of, assigned_or_fault}
 use Rattle.kc_macros.proofs.ExpansionLemmas.{fails_so}
-use Rattle.kc_expansion.specs.checker.ReadingViews.{assigned_or_fault}
 use Rattle.kc_expansion.proofs.line_steps.assign_line.Goals as goal
 
 pub returns-then-joined-clause-run : goal.returns-then-joined-clause-run

@@ -1,10 +1,4 @@
-use Rattle.std.proofs.Common.{◌≡◌, ◌+◌, ◌∙◌, false, length, sym, ap, arith}
-use Rattle.std.specs.Prelude.{vec_len}
-use Rattle.std.proofs.lemmas.List.{length-map}
-use Rattle.kc_tree_model.specs.Limits.{is_in_list}
-use Rattle.kc_files.specs.checker.FileViews.{file_of}
-use Rattle.kc_expansion.specs.checker.Sizes.{size_fault}
-use Rattle.kc_macros.specs.between.SliceTexts.{texts_of_slices}
+use Rattle.kc_expansion.proofs.Common.{◌≡◌, ◌+◌, ◌∙◌, false, length, sym, ap, arith, vec_len, length-map, is_in_list, file_of, size_fault, texts_of_slices}
 use Rattle.kc_expansion.proofs.SourceFaultLemmas.{open_by, refused_open, refused_missing, refused_unreadable, refused_whole, read_whole, refused_deep, refused_long}
 use Rattle.kc_expansion.proofs.source_faults.bytes_to_read.Goals as goal
 

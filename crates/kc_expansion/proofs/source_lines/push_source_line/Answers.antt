@@ -1,5 +1,4 @@
-use Rattle.std.proofs.Common.{ap, ◌∙◌, ◌++◌}
-use Rattle.std.specs.Prelude.{codes}
+use Rattle.kc_expansion.proofs.Common.{ap, ◌∙◌, ◌++◌, codes}
 use Rattle.kc_macros_model.specs.WrittenTokens.{escaped_text}
 use Rattle.kc_expansion.proofs.WrittenFileLemmas.{source_line_is}
 use Rattle.kc_expansion.proofs.source_lines.push_source_line.Goals as goal

@@ -1,12 +1,5 @@
-use Rattle.std.proofs.Common.{◌+◌, ◌*◌, drop, length}
-use Rattle.std.specs.Prelude.{◌-◌}
-use Rattle.kc_tree_model.specs.LogicalLines.{split_at_newlines}
-use Rattle.kc_macros_model.specs.TreeExpansion.{list_read, lines_read}
-use Rattle.kc_macros.specs.Runs.{place_of}
-use Rattle.kc_files.specs.TextViews.{items_of}
-use Rattle.kc_expansion.specs.checker.ProgramSteps.{Leads}
-use Rattle.kc_expansion.specs.checker.ReadingViews.{state_of, file_run_of, reader_of, lists_left, lines_left, IsWrittenTo}
-use Rattle.kc_expansion.specs.checker.WrittenViews.{text_up_to}
+use Rattle.std.proofs.Common.{◌*◌}
+use Rattle.kc_expansion.proofs.Common.{◌+◌, drop, length, ◌-◌, split_at_newlines, list_read, lines_read, place_of, items_of, Leads, state_of, file_run_of, reader_of, lists_left, lines_left, IsWrittenTo, text_up_to}
 use Rattle.kc_expansion.proofs.tree_reading.+reading.Given as goal
 
 abbrev pub decreases-read_source : goal.decreases-read_source

@@ -1,6 +1,5 @@
-use Rattle.std.proofs.Common.{◌≡◌, ap, ◌∙◌, sym, arith, ◌++◌, ◌-◌, suc}
-use Rattle.std.specs.Prelude.{replicate}
-use Rattle.std.proofs.lemmas.List.{append-nil}
+use Rattle.std.proofs.Common.{◌-◌}
+use Rattle.kc_expansion.proofs.Common.{◌≡◌, ap, ◌∙◌, sym, arith, ◌++◌, suc, replicate, append-nil}
 use Rattle.kc_expansion.proofs.WrittenFileLemmas.{newline_more}
 use Rattle.kc_expansion.proofs.written_file.push_newlines.Goals as goal
 

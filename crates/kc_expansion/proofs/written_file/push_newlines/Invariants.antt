@@ -1,5 +1,4 @@
-use Rattle.std.proofs.Common.{◌≡◌, ◌++◌}
-use Rattle.std.specs.Prelude.{replicate}
+use Rattle.kc_expansion.proofs.Common.{◌≡◌, ◌++◌, replicate}
 use Rattle.kc_expansion.proofs.written_file.push_newlines.Given as goal
 
 abbrev pub invariant-loop-left : goal.invariant-loop-left

@@ -1,10 +1,6 @@
-use Rattle.std.proofs.Common.{◌<◌, arith, length, ap, ◌∙◌}
-use Rattle.std.proofs.lemmas.Grind.{common_steps}
+use Rattle.kc_expr.proofs.Common.{◌<◌, arith, length, ap, ◌∙◌, common_steps, value, environment_of, stored_names}
 use Rattle.kc_value.specs.Tri.{tri_not}
-use Rattle.kc_expr.specs.Expr.{value}
 use Rattle.kc_value.specs.Tri.{y_for_m}
-use Rattle.kc_expr.specs.Lookup.{environment_of}
-use Rattle.kc_expr.specs.checker.Store.{stored_names}
 use Rattle.kc_expr.proofs.NodeLemmas.{chain_start, chain_more, ors_start, ors_more}
 use Rattle.kc_expr.proofs.StoreLemmas.{node_of, fits_at}
 use Rattle.kc_expr.proofs.evaluate.+value_at.Goals as goal
@@ -72,20 +68,11 @@ ors-preserved g t c =
 pub overflow_cast-next-in-Either-node : goal.overflow_cast-next-in-Either-node
 overflow_cast-next-in-Either-node g t c = omega arith
 
-pub overflow_cast-right-in-Either-node : goal.overflow_cast-right-in-Either-node
-overflow_cast-right-in-Either-node g t c = omega arith
-
-pub overflow_cast-right-in-Both-node : goal.overflow_cast-right-in-Both-node
-overflow_cast-right-in-Both-node g t c = omega arith
-
 pub value_at-least-requires : goal.value_at-least-requires
 value_at-least-requires g t c = grind (arith, common_steps)
 
 pub leaf_value-requires-clause-fits : goal.leaf_value-requires-clause-fits
 leaf_value-requires-clause-fits g t c = grind (arith, common_steps)
-
-pub returns-in_default-node : goal.returns-in_default-node
-returns-in_default-node g t c = grind (arith, common_steps)
 
 pub value_at-requires : goal.value_at-requires
 value_at-requires g t c = grind (arith, common_steps)
@@ -93,17 +80,11 @@ value_at-requires g t c = grind (arith, common_steps)
 pub ors-smaller : goal.ors-smaller
 ors-smaller g t c = grind (arith, common_steps)
 
-pub leaf_value-requires-clause-distinct : goal.leaf_value-requires-clause-distinct
-leaf_value-requires-clause-distinct g t c = grind (arith, common_steps)
-
 pub overflow_cast-at-in-Both-node : goal.overflow_cast-at-in-Both-node
 overflow_cast-at-in-Both-node g t c = omega arith
 
 pub value_at-requires-in-Shown : goal.value_at-requires-in-Shown
 value_at-requires-in-Shown g t c = grind (arith, common_steps)
-
-pub returns-in_default : goal.returns-in_default
-returns-in_default g t c = grind (arith, common_steps)
 
 pub value_at-greatest-requires : goal.value_at-greatest-requires
 value_at-greatest-requires g t c = grind (arith, common_steps)

@@ -1,9 +1,4 @@
-use Rattle.std.proofs.Common.{◌≡◌, ◌<◌}
-use Rattle.kc_value.specs.Tri.{tri_and, tri_or}
-use Rattle.kc_expr.specs.between.Arena.{node_expr}
-use Rattle.kc_expr.specs.Expr.{value}
-use Rattle.kc_expr.specs.Lookup.{environment_of}
-use Rattle.kc_expr.specs.checker.Store.{stored_names, exprs_in}
+use Rattle.kc_expr.proofs.Common.{◌≡◌, ◌<◌, tri_and, tri_or, node_expr, value, environment_of, stored_names, exprs_in}
 use Rattle.kc_expr.proofs.evaluate.+value_at.Given as goal
 
 abbrev pub decreases-value_at : goal.decreases-value_at

@@ -1,7 +1,4 @@
-use Rattle.std.proofs.Common.{◌≡◌, ap, sym, ◌∙◌, ℕ}
-use Rattle.kc_expr.specs.between.Arena.{node_expr}
-use Rattle.kc_expr.specs.Expr.{alone, related, negated, both, either, shown}
-use Rattle.kc_expr.specs.checker.Store.{exprs_in}
+use Rattle.kc_expr.proofs.Common.{◌≡◌, ap, sym, ◌∙◌, ℕ, node_expr, alone, related, negated, both, either, shown, exprs_in}
 use Rattle.kc_expr.proofs.StoreLemmas.{node_of}
 use Rattle.kc_expr.proofs.expr_parts.parts_of.Goals as goal
 

@@ -1,5 +1,4 @@
-use Rattle.std.proofs.Common.{length, arith}
-use Rattle.kc_tokens.proofs.CutLaws.{read_fault}
+use Rattle.kc_expr.proofs.Common.{length, arith, read_fault}
 use Rattle.kc_expr.proofs.FaultLaws.{fault_read}
 use Rattle.kc_expr.proofs.laws.token_faults_are_first_faults.Goals as goal
 

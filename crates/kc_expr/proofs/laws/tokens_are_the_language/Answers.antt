@@ -1,6 +1,5 @@
-use Rattle.std.proofs.Common.{length, arith}
+use Rattle.kc_expr.proofs.Common.{length, arith, cut_read}
 use Rattle.kc_tokens.proofs.CutLaws.{read_cut}
-use Rattle.kc_tokens.proofs.TokenLaws.{cut_read}
 use Rattle.kc_expr.proofs.laws.tokens_are_the_language.Goals as goal
 
 pub returns : goal.returns

@@ -1,5 +1,4 @@
-use Rattle.std.proofs.Common.{arith}
-use Rattle.std.proofs.lemmas.Grind.{common_steps}
+use Rattle.kc_expr.proofs.Common.{arith, common_steps}
 use Rattle.kc_expr.proofs.leaf.constant_of.Goals as goal
 
 pub returns-in-121 : goal.returns-in-121

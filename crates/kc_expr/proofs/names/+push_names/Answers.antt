@@ -1,12 +1,4 @@
-use Rattle.std.proofs.Common.{◌++◌, [], map, ap, sym, ◌∙◌, append_assoc, arith}
-use Rattle.std.proofs.lemmas.Grind.{common_steps}
-use Rattle.std.proofs.lemmas.Result.{on_ok_weaker}
-use Rattle.std.specs.Prelude.{slice_index_or}
-use Rattle.kc_expr.specs.ExpressionNames.{operand_names}
-use Rattle.kc_expr.specs.checker.Nodes.{operand_of}
-use Rattle.kc_expr.specs.checker.Store.{stored_names}
-use Rattle.kc_expr.specs.between.ReverseNames.{names_in_reverse}
-use Rattle.kc_tokens.proofs.KeptLists.{kept_through}
+use Rattle.kc_expr.proofs.Common.{◌++◌, [], map, ap, sym, ◌∙◌, append_assoc, arith, common_steps, on_ok_weaker, slice_index_or, operand_names, operand_of, stored_names, names_in_reverse, kept_through}
 use Rattle.kc_expr.proofs.ExpressionNameLemmas.{names_of_both}
 use Rattle.kc_expr.proofs.StoreLemmas.{node_of, fits_at}
 use Rattle.kc_expr.proofs.names.+push_names.Goals as goal
@@ -93,9 +85,6 @@ returns-in-Related-clause-kept t c =
 pub returns-in_err-push_name-in-Related-clause-kept : goal.returns-in_err-push_name-in-Related-clause-kept
 returns-in_err-push_name-in-Related-clause-kept t c = grind (arith, common_steps)
 
-pub overflow_cast-at-in-Both : goal.overflow_cast-at-in-Both
-overflow_cast-at-in-Both t c = omega arith
-
 pub push_names-requires : goal.push_names-requires
 push_names-requires t c = grind (arith, common_steps)
 
@@ -114,23 +103,11 @@ push_name-requires-in-Related-2 t c = grind (arith, common_steps)
 pub down-init : goal.down-init
 down-init t c = grind (arith, common_steps)
 
-pub down-smaller-in-Shown : goal.down-smaller-in-Shown
-down-smaller-in-Shown t c = grind (arith, common_steps)
-
 pub down-smaller : goal.down-smaller
 down-smaller t c = grind (arith, common_steps)
-
-pub push_name-requires : goal.push_name-requires
-push_name-requires t c = grind (arith, common_steps)
 
 pub push_names-requires-in-Either : goal.push_names-requires-in-Either
 push_names-requires-in-Either t c = grind (arith, common_steps)
 
 pub down-smaller-in-Both : goal.down-smaller-in-Both
 down-smaller-in-Both t c = grind (arith, common_steps)
-
-pub down-smaller-in-Negated : goal.down-smaller-in-Negated
-down-smaller-in-Negated t c = grind (arith, common_steps)
-
-pub overflow_cast-at-in-Either : goal.overflow_cast-at-in-Either
-overflow_cast-at-in-Either t c = omega arith

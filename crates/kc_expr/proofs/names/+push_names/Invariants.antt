@@ -1,8 +1,4 @@
-use Rattle.std.proofs.Common.{◌≡◌, ℕ, ◌<◌, ◌≤◌, ◌++◌, [], length, map, take}
-use Rattle.std.specs.Prelude.{All, slice_index_or}
-use Rattle.kc_expr.specs.between.Arena.{node_expr}
-use Rattle.kc_expr.specs.checker.Store.{stored_names, exprs_in}
-use Rattle.kc_expr.specs.between.ReverseNames.{names_in_reverse}
+use Rattle.kc_expr.proofs.Common.{◌≡◌, ℕ, ◌<◌, ◌≤◌, ◌++◌, [], length, map, take, All, slice_index_or, node_expr, stored_names, exprs_in, names_in_reverse}
 use Rattle.kc_expr.proofs.names.+push_names.Given as goal
 
 abbrev pub decreases-push_names : goal.decreases-push_names

@@ -1,7 +1,4 @@
-use Rattle.std.proofs.Common.{◌≡◌, ℕ, ◌<◌, length, take}
-use Rattle.std.specs.Prelude.{All}
-use Rattle.kc_expr.specs.checker.Store.{stored_names, exprs_in}
-use Rattle.kc_expr.specs.checker.ExpressionWalks.{IsWalking}
+use Rattle.kc_expr.proofs.Common.{◌≡◌, ℕ, ◌<◌, length, take, All, stored_names, exprs_in, IsWalking}
 use Rattle.kc_expr.proofs.names.+push_new_names.Given as goal
 
 abbrev pub decreases-push_new_names : goal.decreases-push_new_names

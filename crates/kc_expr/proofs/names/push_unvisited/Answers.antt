@@ -1,8 +1,4 @@
-use Rattle.std.proofs.Common.{◌<◌, ◌||◌, length, ap, sym, ◌∙◌, arith}
-use Rattle.std.proofs.lemmas.Grind.{common_steps}
-use Rattle.std.proofs.lemmas.Result.{on_ok_weaker}
-use Rattle.kc_expr.specs.between.Visits.{mentions, passes_some_name}
-use Rattle.kc_expr.specs.checker.Store.{exprs_in}
+use Rattle.kc_expr.proofs.Common.{◌<◌, ◌||◌, length, ap, sym, ◌∙◌, arith, common_steps, on_ok_weaker, mentions, passes_some_name, exprs_in}
 use Rattle.kc_expr.proofs.StoreLemmas.{node_of}
 use Rattle.kc_expr.proofs.VisitLemmas.{some_pushed, walk_begins, walk_visited}
 use Rattle.kc_expr.proofs.names.push_unvisited.Goals as goal
@@ -21,14 +17,11 @@ returns-in-Alone-clause-walked c =
 pub node-requires : goal.node-requires
 node-requires c = record { there = omega arith }
 
-pub returns : goal.returns
-returns c = grind (arith, common_steps)
+pub mark-requires : goal.mark-requires
+mark-requires c = record { there = omega arith }
 
 pub returns-then-contains-clause-kept : goal.returns-then-contains-clause-kept
 returns-then-contains-clause-kept c = grind (arith, common_steps)
 
 pub push_name-requires : goal.push_name-requires
 push_name-requires c = grind (arith, common_steps)
-
-pub mark-requires : goal.mark-requires
-mark-requires c = record { there = omega arith }

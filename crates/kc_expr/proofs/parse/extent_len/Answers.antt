@@ -1,7 +1,4 @@
-use Rattle.std.proofs.Common.{◌≡◌, ◌+◌, ◌-◌, ◌<◌, ◌≤◌, ◌⊎◌, inl, inr, length, drop, ap, sym, ◌∙◌, arith}
-use Rattle.std.proofs.lemmas.Bool.{cases_lt}
-use Rattle.kc_expr.specs.Grammar.{extent}
-use Rattle.kc_tokens.specs.Token.{lexemes_of}
+use Rattle.kc_expr.proofs.Common.{◌≡◌, ◌+◌, ◌-◌, ◌<◌, ◌≤◌, ◌⊎◌, inl, inr, length, drop, ap, sym, ◌∙◌, arith, cases_lt, extent, lexemes_of}
 use Rattle.kc_expr.proofs.TokenPlaces.{extent_goes_on, extent_stops, extent_none, extent_last, some_token}
 use Rattle.kc_expr.proofs.parse.extent_len.Goals as goal
 
@@ -25,6 +22,3 @@ returns-clause-count c = by_size (cases_lt 0 (length c.args.tokens.now))
         let same = ap (λ n. length (extent (drop (n - 1) (lexemes_of c.args.tokens.now)))) i in
         omega (arith, i, same, extent_last c.args.tokens.now some_token h, c.loop-i.invariant)
     by_size (inr h) = omega (arith, extent_none c.args.tokens.now (omega arith))
-
-pub returns-then-ends_between-clause-within : goal.returns-then-ends_between-clause-within
-returns-then-ends_between-clause-within c = omega arith

@@ -1,6 +1,4 @@
-use Rattle.std.proofs.Common.{◌≡◌, ◌+◌, ◌-◌, length, drop}
-use Rattle.kc_expr.specs.Grammar.{extent}
-use Rattle.kc_tokens.specs.Token.{lexemes_of}
+use Rattle.kc_expr.proofs.Common.{◌≡◌, ◌+◌, ◌-◌, length, drop, extent, lexemes_of}
 use Rattle.kc_expr.proofs.parse.extent_len.Given as goal
 
 abbrev pub invariant-loop-i : goal.invariant-loop-i

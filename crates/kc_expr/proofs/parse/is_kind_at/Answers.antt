@@ -1,5 +1,4 @@
-use Rattle.std.proofs.Common.{ap, ◌∙◌, Some, arith}
-use Rattle.std.proofs.lemmas.Grind.{common_steps}
+use Rattle.kc_expr.proofs.Common.{ap, ◌∙◌, Some, arith, common_steps}
 use Rattle.kc_expr.proofs.TokenPlaces.{kind_at, kind_is}
 use Rattle.kc_expr.proofs.parse.is_kind_at.Goals as goal
 

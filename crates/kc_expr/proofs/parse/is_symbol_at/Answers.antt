@@ -1,5 +1,4 @@
-use Rattle.std.proofs.Common.{arith}
-use Rattle.std.proofs.lemmas.Grind.{common_steps}
+use Rattle.kc_expr.proofs.Common.{arith, common_steps}
 use Rattle.kc_expr.proofs.parse.is_symbol_at.Goals as goal
 
 pub returns-else-is_kind_at : goal.returns-else-is_kind_at

@@ -1,5 +1,4 @@
-use Rattle.std.proofs.Common.{Some, ◌+◌, ap, ◌∙◌, arith}
-use Rattle.kc_tokens.specs.declared.token.TokenKind.TheVariants.{Word}
+use Rattle.kc_expr.proofs.Common.{Some, ◌+◌, ap, ◌∙◌, arith, Word}
 use Rattle.kc_expr.proofs.LeafLemmas.{operand_at, nothing_at}
 use Rattle.kc_expr.proofs.TokenPlaces.{kind_at}
 use Rattle.kc_expr.proofs.parse.last_word.Goals as goal

@@ -1,5 +1,4 @@
-use Rattle.std.proofs.Common.{ap, sym, ◌∙◌}
-use Rattle.kc_expr.specs.checker.ParserResults.{relation_of}
+use Rattle.kc_expr.proofs.Common.{ap, sym, ◌∙◌, relation_of}
 use Rattle.kc_expr.proofs.TokenPlaces.{relation_at, no_relation}
 use Rattle.kc_expr.proofs.parse.relation_at.Goals as goal
 

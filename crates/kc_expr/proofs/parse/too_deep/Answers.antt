@@ -1,9 +1,4 @@
-use Rattle.std.proofs.Common.{ap, sym, ◌∙◌, drop, arith}
-use Rattle.std.proofs.lemmas.Grind.{common_steps}
-use Rattle.std.proofs.lemmas.Bool.{both_ways}
-use Rattle.kc_tokens.specs.declared.fault.ExprKind.TheVariants.{Malformed, TooDeep}
-use Rattle.kc_expr.specs.Grammar.{past_depth_limit}
-use Rattle.kc_tokens.specs.Token.{lexemes_of}
+use Rattle.kc_expr.proofs.Common.{ap, sym, ◌∙◌, drop, arith, common_steps, both_ways, Malformed, TooDeep, past_depth_limit, lexemes_of}
 use Rattle.kc_expr.proofs.ReaderSteps.{drop_one, beyond_next, beyond_symbol, beyond_other}
 use Rattle.kc_expr.proofs.TokenPlaces.{opened_within}
 use Rattle.kc_expr.proofs.parse.too_deep.Goals as goal

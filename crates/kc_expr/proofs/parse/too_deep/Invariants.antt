@@ -1,6 +1,4 @@
-use Rattle.std.proofs.Common.{◌≡◌, ◌-◌, ◌≤◌, length, drop}
-use Rattle.kc_expr.specs.Grammar.{past_depth_limit}
-use Rattle.kc_tokens.specs.Token.{lexemes_of}
+use Rattle.kc_expr.proofs.Common.{◌≡◌, ◌-◌, ◌≤◌, length, drop, past_depth_limit, lexemes_of}
 use Rattle.kc_expr.proofs.parse.too_deep.Given as goal
 
 abbrev pub invariant-loop-symbol : goal.invariant-loop-symbol

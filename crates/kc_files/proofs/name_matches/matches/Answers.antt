@@ -1,6 +1,4 @@
-use Rattle.std.proofs.Common.{◌≡◌, List, Bool, arith, ap, ◌∙◌, sym, ◌-◌, ◌∷◌, drop, get_or, subst, suc, ℕ}
-use Rattle.std.proofs.Math.Seq.{drop-cons}
-use Rattle.kc_files.specs.checker.EndMatches.{HasEndMatches}
+use Rattle.kc_files.proofs.Common.{◌≡◌, List, Bool, arith, ap, ◌∙◌, sym, ◌-◌, ◌∷◌, drop, get_or, subst, suc, ℕ, drop-cons, HasEndMatches}
 use Rattle.kc_files.proofs.MatchLemmas.{as_written}
 use Rattle.kc_files.proofs.name_matches.matches.Goals as goal
 

@@ -1,5 +1,4 @@
-use Rattle.std.proofs.Common.{◌≤◌, length, drop}
-use Rattle.kc_files.specs.checker.EndMatches.{HasEndMatches}
+use Rattle.kc_files.proofs.Common.{◌≤◌, length, drop, HasEndMatches}
 use Rattle.kc_files.proofs.name_matches.matches.Given as goal
 
 abbrev pub invariant-loop-left : goal.invariant-loop-left

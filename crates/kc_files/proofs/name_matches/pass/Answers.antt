@@ -1,5 +1,4 @@
-use Rattle.std.proofs.Common.{arith}
-use Rattle.std.proofs.lemmas.Bool.Decides.{nat_tests}
+use Rattle.kc_files.proofs.Common.{arith, nat_tests}
 use Rattle.kc_files.proofs.MatchLemmas.{after_any_bytes, after_byte}
 use Rattle.kc_files.proofs.name_matches.pass.Goals as goal
 

@@ -1,7 +1,5 @@
-use Rattle.std.proofs.Common.{◌≡◌, arith, ap, ◌∙◌, sym, take, length, ◌-◌, not, ◌==◌}
-use Rattle.std.specs.List.{suffix_len}
+use Rattle.kc_files.proofs.Common.{◌≡◌, arith, ap, ◌∙◌, sym, take, length, ◌-◌, not, ◌==◌, suffix_len, nat_tests}
 use Rattle.std.proofs.lemmas.List.Sums.{suffix_len-take_no}
-use Rattle.std.proofs.lemmas.Bool.Decides.{nat_tests}
 use Rattle.kc_files.proofs.PathLemmas.{folder_is}
 use Rattle.kc_files.proofs.paths.folder_of.Goals as goal
 use Rattle.kc_files.proofs.paths.folder_of.Goals.{then-loop-end-test+else-path-end-ne47, else-loop-end-test}

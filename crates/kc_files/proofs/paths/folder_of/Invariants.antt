@@ -1,5 +1,4 @@
-use Rattle.std.proofs.Common.{◌≡◌, ◌+◌, ◌≤◌, ◌==◌, not, length, take}
-use Rattle.std.specs.List.{suffix_len}
+use Rattle.kc_files.proofs.Common.{◌≡◌, ◌+◌, ◌≤◌, ◌==◌, not, length, take, suffix_len}
 use Rattle.kc_files.proofs.paths.folder_of.Given as goal
 
 abbrev pub invariant-loop-end : goal.invariant-loop-end

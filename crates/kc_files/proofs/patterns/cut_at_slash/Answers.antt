@@ -1,5 +1,4 @@
-use Rattle.std.proofs.Common.{arith}
-use Rattle.std.proofs.lemmas.Grind.{common_steps}
+use Rattle.kc_files.proofs.Common.{arith, common_steps}
 use Rattle.kc_files.proofs.PatternLemmas.{is_cut, last_piece}
 use Rattle.kc_files.proofs.patterns.cut_at_slash.Goals as goal
 

@@ -1,12 +1,4 @@
-use Rattle.std.proofs.Common.{drop}
-use Rattle.kc_macros_model.specs.Programs.{Place}
-use Rattle.kc_macros_model.specs.PathPatterns.{paths_in_folders}
-use Rattle.kc_files.specs.TextViews.{items_of}
-use Rattle.kc_files.specs.TreeContents.{StaysKnown}
-use Rattle.kc_files.specs.between.KnownFiles.{Grows}
-use Rattle.kc_files.specs.between.FileRuns.{HaveSameOutcome}
-use Rattle.kc_files.specs.checker.FileViews.{known_of}
-use Rattle.kc_files.specs.checker.PatternRuns.{found_of}
+use Rattle.kc_files.proofs.Common.{drop, Place, paths_in_folders, items_of, StaysKnown, Grows, HaveSameOutcome, known_of, found_of}
 use Rattle.kc_files.proofs.PatternLemmas.{rest_of_paths}
 use Rattle.kc_files.proofs.patterns.paths_in_folders.Given as goal
 

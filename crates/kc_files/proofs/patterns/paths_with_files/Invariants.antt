@@ -1,10 +1,4 @@
-use Rattle.std.proofs.Common.{drop}
-use Rattle.kc_macros_model.specs.PathPatterns.{paths_with_files}
-use Rattle.kc_files.specs.TextViews.{items_of, texts_of}
-use Rattle.kc_files.specs.TreeContents.{StaysKnown}
-use Rattle.kc_files.specs.between.KnownFiles.{Grows}
-use Rattle.kc_files.specs.between.FileRuns.{HaveSameOutcome}
-use Rattle.kc_files.specs.checker.FileViews.{known_of}
+use Rattle.kc_files.proofs.Common.{drop, paths_with_files, items_of, texts_of, StaysKnown, Grows, HaveSameOutcome, known_of}
 use Rattle.kc_files.proofs.PatternLemmas.{rest_with_files}
 use Rattle.kc_files.proofs.patterns.paths_with_files.Given as goal
 

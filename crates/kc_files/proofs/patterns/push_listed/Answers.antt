@@ -1,33 +1,28 @@
-use Rattle.std.proofs.Common.{◌≡◌, sym, arith, ℕ, map, ◌<◌, ◌≤◌, ◌+◌, length, subst, ◌++◌}
-use Rattle.std.specs.Prelude.{filter, Vec}
-use Rattle.std.specs.declared.alloc.Global.{Global}
+use Rattle.kc_files.proofs.Common.{◌≡◌, sym, arith, ℕ, map, ◌<◌, ◌≤◌, ◌+◌, length, subst, ◌++◌, filter, Vec, Global, list_folder, does, returned, MAX_LISTED_NAMES, found, matches_name, matching_listed, items_of, Comes, known_of, found_of}
 use Rattle.std.proofs.lemmas.List.{length-map}
-use Rattle.kc_macros_model.specs.Programs.{list_folder, does}
-use Rattle.kc_macros_model.specs.Worlds.{returned}
-use Rattle.kc_value.specs.declared.limits.TheConstants.{MAX_LISTED_NAMES}
-use Rattle.kc_macros_model.specs.PathPatterns.{found, matches_name, matching_listed}
-use Rattle.kc_files.specs.TextViews.{items_of}
-use Rattle.kc_files.specs.between.FileRuns.{Comes}
-use Rattle.kc_files.specs.checker.FileViews.{known_of}
-use Rattle.kc_files.specs.checker.PatternRuns.{found_of}
-use Rattle.kc_files.proofs.PatternLemmas.{finds_listed, too_many_listed, folder_stops, more_is_many, less_is_few}
+use Rattle.kc_files.proofs.PatternLemmas.{finds_listed, too_many_listed, folder_stops, more_stops_as, more_is_many, less_is_few}
 use Rattle.kc_files.proofs.patterns.push_listed.Goals as goal
 
-pub returns-in-Err-clause-finds : goal.returns-in-Err-clause-finds
-returns-in-Err-clause-finds g c = λ at. folder_stops (known_of c.list.new.self) at c.args.piece.now c.args.folder.now c.args.found.now.listed (Unit {0})
-    (found_of c.args.found.now) (found_of c.args.found.now) c.in-Err.stop c.in-Err.ensures.stop
+pub returns-in_err-names-clause-finds : goal.returns-in_err-names-clause-finds
+returns-in_err-names-clause-finds g c = λ at.
+    let known = known_of c.list.new.self in
+    let before = found_of c.args.found.now in
+    more_stops_as known at (does (list_folder c.args.folder.now) (matching_listed at c.args.piece.now c.args.folder.now c.args.found.now.listed))
+    c.in_err-names.field-0.0 before before _ c.from_residual-in_err-names.ensures.1
+    (folder_stops known at c.args.piece.now c.args.folder.now c.args.found.now.listed (Unit {0}) before before c.in_err-names.field-0.0
+    c.in_err-names.ensures.stop)
 
 pub returns-then-listed-gt-MAX_LISTED_NAMES-clause-finds : goal.returns-then-listed-gt-MAX_LISTED_NAMES-clause-finds
 returns-then-listed-gt-MAX_LISTED_NAMES-clause-finds g c = λ at.
-    let ns = c.in-Ok.names.now in
+    let ns = c.in_ok-names.names.now in
     let len : length (items_of ns) ≡ length ns = length-map ns (λ (v : Vec ℕ Global). v.items) in
     let many : MAX_LISTED_NAMES < c.args.found.now.listed + length (items_of ns) = omega (arith, c.saturating_add-listed.ensures) in
-    too_many_listed (known_of c.list.new.self) at c.args.piece.now c.args.folder.now c.args.found.now.listed (items_of ns) c.in-Ok.ensures.value
+    too_many_listed (known_of c.list.new.self) at c.args.piece.now c.args.folder.now c.args.found.now.listed (items_of ns) c.in_ok-names.ensures.value
     (more_is_many (c.args.found.now.listed + length (items_of ns)) many)
 
 pub returns-clause-finds : goal.returns-clause-finds
 returns-clause-finds g c = λ at.
-    let ns = c.in-Ok.names.now in
+    let ns = c.in_ok-names.names.now in
     let piece = c.args.piece.now in
     let folder = c.args.folder.now in
     let listed = c.args.found.now.listed in
@@ -35,7 +30,7 @@ returns-clause-finds g c = λ at.
     let len : length (items_of ns) ≡ length ns = length-map ns (λ (v : Vec ℕ Global). v.items) in
     let sum : c.saturating_add-listed.result ≡ listed + length (items_of ns) = omega (arith, c.saturating_add-listed.ensures) in
     let few : listed + length (items_of ns) ≤ MAX_LISTED_NAMES = omega arith in
-    let comes = finds_listed (known_of c.list.new.self) at piece folder listed (items_of ns) c.in-Ok.ensures.value
+    let comes = finds_listed (known_of c.list.new.self) at piece folder listed (items_of ns) c.in_ok-names.ensures.value
     (less_is_few (listed + length (items_of ns)) few) in (
       more,
       c.in_ok-push_matching.ensures,

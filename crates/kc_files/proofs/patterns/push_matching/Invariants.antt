@@ -1,7 +1,4 @@
-use Rattle.std.proofs.Common.{◌≡◌, ◌++◌, map, drop}
-use Rattle.std.specs.Prelude.{filter}
-use Rattle.kc_macros_model.specs.PathPatterns.{matches_name}
-use Rattle.kc_files.specs.TextViews.{items_of, texts_of}
+use Rattle.kc_files.proofs.Common.{◌≡◌, ◌++◌, map, drop, filter, matches_name, items_of, texts_of}
 use Rattle.kc_files.proofs.patterns.push_matching.Given as goal
 
 abbrev pub invariant-loop-name : goal.invariant-loop-name

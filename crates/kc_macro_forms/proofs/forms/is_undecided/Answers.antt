@@ -6,15 +6,15 @@ use Rattle.kc_macro_forms.specs.checker.RealTokens.{real_tokens}
 use Rattle.kc_macro_forms.proofs.RealTokenLemmas.{undecided_is, unknown_real}
 use Rattle.kc_macro_forms.proofs.forms.is_undecided.Goals as goal
 
-pub returns-then-not-is_decisive : goal.returns-then-not-is_decisive
-returns-then-not-is_decisive c =
-    let unknown = list_any is_unknown (real_tokens c.in-Some.after.now) in
-    ap (λ d. cond d unknown false) (sym c.if-not-is_decisive.true)
-    ∙ undecided_is (real_tokens c.args.tokens.now) (token_of c.in-Some.first.now) (real_tokens c.in-Some.after.now) c.is_decisive.result unknown
-    c.in-Some.ensures.some c.is_decisive.ensures refl
-
-pub returns : goal.returns
-returns c =
-    ap (λ d. cond d c.has_unknown.result false) (sym c.if-not-is_decisive.false)
+pub returns-then-is_decisive : goal.returns-then-is_decisive
+returns-then-is_decisive c =
+    ap (λ d. cond d c.has_unknown.result false) (sym c.if-is_decisive.true)
     ∙ undecided_is (real_tokens c.args.tokens.now) (token_of c.in-Some.first.now) (real_tokens c.in-Some.after.now) c.is_decisive.result c.has_unknown.result
     c.in-Some.ensures.some c.is_decisive.ensures (c.has_unknown.ensures ∙ unknown_real c.in-Some.after.now)
+
+pub returns-else-is_decisive : goal.returns-else-is_decisive
+returns-else-is_decisive c =
+    let unknown = list_any is_unknown (real_tokens c.in-Some.after.now) in
+    c.if-is_decisive.false ∙ ap (λ d. cond d unknown false) (sym c.if-is_decisive.false)
+    ∙ undecided_is (real_tokens c.args.tokens.now) (token_of c.in-Some.first.now) (real_tokens c.in-Some.after.now) c.is_decisive.result unknown
+    c.in-Some.ensures.some c.is_decisive.ensures refl

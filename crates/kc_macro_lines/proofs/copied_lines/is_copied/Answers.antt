@@ -1,15 +1,14 @@
-use Rattle.std.proofs.Common.{◌≡◌, ◌∙◌, false, sym, arith}
-use Rattle.kc_macro_lines.specs.checker.QuietLines.{has_dollar_or_wide}
+use Rattle.kc_macro_lines.proofs.Common.{◌≡◌, ◌∙◌, false, sym, arith, has_dollar_or_wide}
 use Rattle.kc_macro_lines.proofs.CopiedLineLemmas.{copied}
 use Rattle.kc_macro_lines.proofs.QuietLemmas.{no_dollar_in, narrow_is_utf8}
 use Rattle.kc_macro_lines.proofs.copied_lines.is_copied.Goals as goal
 
-pub is_quiet-requires : goal.is_quiet-requires
-is_quiet-requires c = record {
+pub has_nothing_to_expand-requires : goal.has_nothing_to_expand-requires
+has_nothing_to_expand-requires c = record {
   no_dollar = no_dollar_in c.args.text.now (sym c.has_dollar_or_wide.ensures ∙ c.if-has_dollar_or_wide.false);
 }
 
 pub returns : goal.returns
 returns c =
     λ e. let narrow : has_dollar_or_wide c.args.text.now ≡ false = sym c.has_dollar_or_wide.ensures ∙ c.if-has_dollar_or_wide.false in
-    copied c.args.text.now (omega arith) (narrow_is_utf8 c.args.text.now narrow) (no_dollar_in c.args.text.now narrow) (c.is_quiet.ensures.quiet e)
+    copied c.args.text.now (omega arith) (narrow_is_utf8 c.args.text.now narrow) (no_dollar_in c.args.text.now narrow) (c.has_nothing_to_expand.ensures.quiet e)

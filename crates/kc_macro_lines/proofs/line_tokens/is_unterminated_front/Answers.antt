@@ -9,7 +9,7 @@ returns-then-begins_reference_at c = record {
       ∙ c.if-begins_reference_at.true) c.inside_length.result (sym c.inside_length.ensures.value));
 }
 
-pub returns : goal.returns
-returns c = record {
-  value = sym (plain_ends c.args.in_quotes c.args.text.now c.requires.not_empty (sym c.begins_reference_at.ensures.value ∙ c.if-begins_reference_at.false));
+pub returns-else-begins_reference_at : goal.returns-else-begins_reference_at
+returns-else-begins_reference_at c = record {
+  value = c.if-begins_reference_at.false ∙ sym (plain_ends c.args.in_quotes c.args.text.now c.requires.not_empty (sym c.begins_reference_at.ensures.value ∙ c.if-begins_reference_at.false));
 }

@@ -10,7 +10,7 @@ returns-then-begins_reference_at c = record {
       cc;
 }
 
-pub returns : goal.returns
-returns c = record {
-  value = sym (no_reference_front c.args.text.now c.requires.not_empty (sym c.begins_reference_at.ensures.value ∙ c.if-begins_reference_at.false));
+pub returns-else-begins_reference_at : goal.returns-else-begins_reference_at
+returns-else-begins_reference_at c = record {
+  value = c.if-begins_reference_at.false ∙ sym (no_reference_front c.args.text.now c.requires.not_empty (sym c.begins_reference_at.ensures.value ∙ c.if-begins_reference_at.false));
 }

@@ -1,12 +1,4 @@
-use Rattle.std.proofs.Common.{◌≤◌, ◌+◌, ◌*◌, false, length, drop}
-use Rattle.kc_value.specs.declared.limits.TheConstants.{MAX_TEXT_BYTES}
-use Rattle.kc_macros_model.specs.References.{items}
-use Rattle.kc_macros_model.specs.Expansion.{piece_values}
-use Rattle.kc_macros.specs.between.SliceTexts.{texts_of_slices}
-use Rattle.kc_macros.specs.checker.PartialValues.{values_left}
-use Rattle.kc_macros.specs.checker.Pieces.{pieces_left}
-use Rattle.kc_macros.specs.checker.ProgramSteps.{Leads}
-use Rattle.kc_macros.specs.checker.Frames.{frame_place, frame_item, frame_value, frame_items}
+use Rattle.kc_macros.proofs.Common.{◌≤◌, ◌+◌, ◌*◌, false, length, drop, MAX_TEXT_BYTES, items, piece_values, texts_of_slices, values_left, pieces_left, Leads, frame_place, frame_item, frame_value, frame_items}
 use Rattle.kc_macros.proofs.text_values.+expansion.Given as goal
 
 abbrev pub decreases-expanded : goal.decreases-expanded
@@ -26,9 +18,6 @@ decreases-call_value l = 8 * l.frame.now.more + 4
 
 abbrev pub decreases-named_value : goal.decreases-named_value
 decreases-named_value l = 8 * l.frame.now.more + 3
-
-abbrev pub decreases-recursive_value : goal.decreases-recursive_value
-decreases-recursive_value l = 8 * l.frame.now.more + 2
 
 abbrev pub decreases-piece_values : goal.decreases-piece_values
 decreases-piece_values l = 8 * l.frame.now.more + 1

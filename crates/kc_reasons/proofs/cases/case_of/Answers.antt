@@ -1,8 +1,5 @@
-use Rattle.std.proofs.Common.{ap, ◌∙◌, arith}
-use Rattle.std.proofs.lemmas.Grind.{common_steps, elements}
-use Rattle.std.specs.Option.{option_copied}
-use Rattle.kc_tree.specs.between.Views.{choice_view, symbol_view}
-use Rattle.kc_evaluation.proofs.Evaluations.{member_there}
+use Rattle.kc_reasons.proofs.Common.{ap, ◌∙◌, arith, common_steps, option_copied, choice_view, symbol_view, member_there}
+use Rattle.std.proofs.lemmas.Grind.{elements}
 use Rattle.kc_reasons_model.specs.declared.cases.Case.TheVariants.{Choice as ChoiceGiven}
 use Rattle.kc_reasons.proofs.UnitCases.{case_symbol, case_choice}
 use Rattle.kc_reasons.proofs.cases.case_of.Goals as goal

@@ -1,7 +1,5 @@
-use Rattle.std.proofs.Common.{◌≡◌, ◌++◌, map, drop}
+use Rattle.kc_reasons.proofs.Common.{◌≡◌, ◌++◌, map, drop, valuation_tree, valuation_exprs, valuation_values, numbers_where}
 use Rattle.kc_tree.specs.between.Views.{reverse_dependency_view}
-use Rattle.kc_evaluation.specs.checker.ValuationView.{valuation_tree, valuation_exprs, valuation_values}
-use Rattle.kc_reasons_model.specs.DecisiveLimits.{numbers_where}
 use Rattle.kc_reasons.specs.checker.LargestLimits.{is_largest}
 use Rattle.kc_reasons.proofs.decisive_limits.decisive.Given as goal
 

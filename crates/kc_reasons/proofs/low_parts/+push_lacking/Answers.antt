@@ -1,8 +1,6 @@
-use Rattle.std.proofs.Common.{sym, ◌∙◌, arith}
+use Rattle.kc_reasons.proofs.Common.{sym, ◌∙◌, arith, valuation_tree, valuation_exprs, valuation_values, environment}
 use Rattle.std.proofs.lemmas.Result.{on_ok_weaker}
-use Rattle.kc_evaluation.specs.checker.ValuationView.{valuation_tree, valuation_exprs, valuation_values}
-use Rattle.kc_rules_model.specs.SymbolValues.{environment}
-use Rattle.kc_reasons.proofs.LackingLemmas.{one_more, into_left, into_shown, nothing_shown, at_part, low_alone, low_related, low_negated, low_either}
+use Rattle.kc_reasons.proofs.LackingLemmas.{into_left, into_shown, nothing_shown}
 use Rattle.kc_reasons.proofs.low_parts.+push_lacking.Goals as goal
 
 pub down-preserved-in-Both : goal.down-preserved-in-Both

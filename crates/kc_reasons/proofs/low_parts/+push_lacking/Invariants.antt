@@ -1,10 +1,5 @@
-use Rattle.std.proofs.Common.{◌≡◌, ◌≤◌, ◌++◌}
-use Rattle.kc_expr.specs.between.Arena.{node_expr}
-use Rattle.kc_evaluation.specs.checker.ValuationView.{valuation_tree, valuation_exprs, valuation_values}
-use Rattle.kc_rules_model.specs.SymbolValues.{environment}
-use Rattle.kc_reasons.specs.between.Parts.{parts_view, IsThere}
-use Rattle.std.specs.List.{All}
-use Rattle.kc_reasons.specs.checker.LackingWalk.{lacking_in_reverse}
+use Rattle.std.proofs.Common.{◌≤◌}
+use Rattle.kc_reasons.proofs.Common.{◌≡◌, ◌++◌, node_expr, valuation_tree, valuation_exprs, valuation_values, environment, parts_view, IsThere, All, lacking_in_reverse}
 use Rattle.kc_reasons.proofs.low_parts.+push_lacking.Given as goal
 
 abbrev pub decreases-push_lacking : goal.decreases-push_lacking

@@ -1,9 +1,5 @@
-use Rattle.std.proofs.lemmas.List.Elements.{All-nil, All-same}
+use Rattle.kc_reasons.proofs.Common.{All-nil, All-same, node_expr, valuation_tree, valuation_exprs, valuation_values, environment, IsThere}
 use Rattle.std.proofs.lemmas.List.Sorted.{All-permutation}
-use Rattle.kc_expr.specs.between.Arena.{node_expr}
-use Rattle.kc_evaluation.specs.checker.ValuationView.{valuation_tree, valuation_exprs, valuation_values}
-use Rattle.kc_rules_model.specs.SymbolValues.{environment}
-use Rattle.kc_reasons.specs.between.Parts.{IsThere}
 use Rattle.kc_reasons.proofs.LackingLemmas.{found_turned}
 use Rattle.kc_reasons.proofs.low_parts.lacking.Goals as goal
 

@@ -1,9 +1,5 @@
-use Rattle.std.proofs.Common.{◌≡◌, ◌++◌, map, drop}
-use Rattle.kc_expr.specs.between.Arena.{node_expr}
-use Rattle.kc_evaluation.specs.checker.ValuationView.{valuation_tree, valuation_exprs, valuation_values}
-use Rattle.kc_rules_model.specs.SymbolValues.{environment}
-use Rattle.kc_reasons_model.specs.Conjuncts.{lacking}
-use Rattle.kc_reasons.specs.between.Parts.{alternatives_view, AreThere}
+use Rattle.kc_reasons.proofs.Common.{◌≡◌, ◌++◌, map, drop, node_expr, valuation_tree, valuation_exprs, valuation_values, environment, lacking, alternatives_view}
+use Rattle.kc_reasons.specs.between.Parts.{AreThere}
 use Rattle.kc_reasons.proofs.low_parts.lacking_of_each.Given as goal
 
 abbrev pub invariant-loop-id : goal.invariant-loop-id

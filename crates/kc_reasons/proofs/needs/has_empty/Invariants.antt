@@ -1,7 +1,5 @@
-use Rattle.std.proofs.Common.{◌≡◌, drop}
-use Rattle.std.specs.List.{list_any}
-use Rattle.kc_reasons.specs.checker.EmptyLists.{is_empty_vec}
+use Rattle.kc_reasons.proofs.Common.{◌≡◌, drop, list_any, is_empty}
 use Rattle.kc_reasons.proofs.needs.has_empty.Given as goal
 
 abbrev pub invariant-loop-list : goal.invariant-loop-list
-invariant-loop-list l = list_any is_empty_vec (drop l.list-index l.lists) ≡ list_any is_empty_vec l.lists
+invariant-loop-list g l = list_any (λ v. is_empty v.items) (drop l.list-index l.lists) ≡ list_any (λ v. is_empty v.items) l.lists

@@ -1,7 +1,5 @@
-use Rattle.std.proofs.Common.{Some, ◌∙◌}
+use Rattle.kc_reasons.proofs.Common.{Some, ◌∙◌, choice_view, symbol_view, member_there}
 use Rattle.std.proofs.lemmas.Result.{IfOk-weaker}
-use Rattle.kc_tree.specs.between.Views.{choice_view, symbol_view}
-use Rattle.kc_evaluation.proofs.Evaluations.{member_there}
 use Rattle.kc_reasons.proofs.UnitHindrances.{at_symbol, at_choice}
 use Rattle.kc_reasons.proofs.search.hinders.Goals as goal
 

@@ -1,5 +1,4 @@
-use Rattle.std.proofs.Common.{arith}
-use Rattle.std.proofs.lemmas.Grind.{common_steps}
+use Rattle.kc_reasons.proofs.Common.{arith, common_steps}
 use Rattle.kc_reasons.proofs.tristates.active_mark.Goals as goal
 
 pub condition-requires : goal.condition-requires

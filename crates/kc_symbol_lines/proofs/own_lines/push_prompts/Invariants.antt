@@ -1,10 +1,7 @@
-use Rattle.std.proofs.Common.{◌≡◌, ◌++◌, drop}
-use Rattle.kc_symbol_lines.specs.checker.Contexts.{lists_of}
-use Rattle.kc_symbol_lines.specs.checker.Lists.{each_items}
-use Rattle.kc_symbol_lines.specs.checker.OwnLines.{prompts_in}
+use Rattle.kc_symbol_lines.proofs.Common.{◌≡◌, ◌++◌, drop, lists_of, each_items, prompts_in}
 use Rattle.kc_symbol_lines.proofs.own_lines.push_prompts.Given as goal
 
 abbrev pub invariant-loop-line : goal.invariant-loop-line
 invariant-loop-line l =
-    each_items l.found.items ++ prompts_in (lists_of l.enclosing) l.file l.lines (drop l.line-index l.lines)
-    ≡ each_items l.fn.found.items ++ prompts_in (lists_of l.enclosing) l.file l.lines l.lines
+    each_items l.found.items ++ prompts_in (lists_of l.enclosing) l.own.file l.own.lines.now (drop l.line-index l.own.lines.now)
+    ≡ each_items l.fn.found.items ++ prompts_in (lists_of l.enclosing) l.own.file l.own.lines.now l.own.lines.now

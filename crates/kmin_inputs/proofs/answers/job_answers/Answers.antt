@@ -1,9 +1,5 @@
-use Rattle.std.proofs.Common.{ℕ, List, ap, subst, arith, rules}
-use Rattle.kmin_options.specs.Jobs.{expansion_view}
-use Rattle.kmin_inputs.specs.FileContents.{Surroundings, VariableContent}
-use Rattle.kmin_inputs.specs.between.AnswerSteps.{AreLent}
+use Rattle.kmin_inputs.proofs.Common.{ℕ, List, ap, subst, arith, rules, expansion_view, Surroundings, VariableContent, AreLent, if_err, memory_err}
 use Rattle.kmin_inputs.proofs.LentAnswers.{answers_of_job}
-use Rattle.kmin_report.proofs.Results.{if_err, memory_err}
 use Rattle.kmin_inputs.proofs.answers.job_answers.Goals as goal
 
 pub returns-in_err-answers-clause-stopped : goal.returns-in_err-answers-clause-stopped
@@ -13,11 +9,11 @@ returns-in_err-answers-clause-stopped g c =
 pub returns-clause-answers : goal.returns-clause-answers
 returns-clause-answers g c =
     let variable = ap (λ (known : Surroundings). known.variable) c.file_answers.ensures.same in
-    let lent = rw c.deref-3.ensures.value at c.in_ok-lend.ensures.lent in
+    let lent = rw c.deref-3.ensures.value at c.in_ok-answer_from_environment.ensures.lent in
     answers_of_job _ _ (expansion_view c.args.expansion.now) c.in_ok-answers.answers c.define.new.answers _
     (rw c.deref.ensures.value at c.in_ok-answers.ensures.recorded) (rw c.deref-2.ensures.value at c.in_ok-define.ensures)
     (subst (λ (variable_of : List ℕ → VariableContent). AreLent variable_of (expansion_view c.args.expansion.now).environment c.define.new.answers
-    c.lend.new.answers)
+    c.answer_from_environment.new.answers)
     variable lent)
 
 pub returns-in_err-answers-clause-failed : goal.returns-in_err-answers-clause-failed
@@ -26,5 +22,5 @@ returns-in_err-answers-clause-failed g c = if_err c.from_residual.result c.in_er
 pub returns-in_err-define-clause-failed : goal.returns-in_err-define-clause-failed
 returns-in_err-define-clause-failed g c = memory_err _ _ c.from_residual-in_err-define.ensures (λ stop status. λ five. absurd (omega arith))
 
-pub returns-in_err-lend-clause-failed : goal.returns-in_err-lend-clause-failed
-returns-in_err-lend-clause-failed g c = memory_err _ _ c.from_residual-in_err-lend.ensures (λ stop status. λ five. absurd (omega arith))
+pub returns-in_err-answer_from_environment-clause-failed : goal.returns-in_err-answer_from_environment-clause-failed
+returns-in_err-answer_from_environment-clause-failed g c = memory_err _ _ c.from_residual-in_err-answer_from_environment.ensures (λ stop status. λ five. absurd (omega arith))

@@ -1,12 +1,5 @@
-use Rattle.std.proofs.Common.{◌≡◌, ℕ, List, Some, ap, map, option_map, sym, ◌∙◌}
-use Rattle.std.specs.Borrow.{Bor}
-use Rattle.std.proofs.lemmas.Result.{IfOk-weaker}
-use Rattle.kc_dotconfig_model.specs.between.Prefixes.{prefix_bytes}
+use Rattle.kmin_texts.proofs.Common.{◌≡◌, ℕ, List, Some, ap, map, option_map, sym, ◌∙◌, Bor, IfOk-weaker, prefix_bytes, near_names, utf8_line, line_detail, nearest_detail}
 use Rattle.kc_tree_model.specs.Trees.{Symbol}
-use Rattle.kmin_report.specs.Reports.{near_names}
-use Rattle.kmin_texts.specs.NumberedLines.{utf8_line}
-use Rattle.kmin_details.specs.between.Details.{line_detail}
-use Rattle.kmin_texts.specs.between.NoticeDetails.{nearest_detail}
 use Rattle.kmin_texts.proofs.OwnDetails.{same_parts}
 use Rattle.kmin_texts.proofs.NoticeSteps.{named_is, nearest_on, shown_on}
 use Rattle.kmin_texts.proofs.notice_details.shown_notice.Goals as goal
@@ -15,7 +8,7 @@ pub returns-in-UnknownSymbol : goal.returns-in-UnknownSymbol
 returns-in-UnknownSymbol c =
     let line : List ℕ = c.args.line.now in
     let text : List ℕ = c.in-Some.line.now in
-    let utf8 : utf8_line (Some line) ≡ Some text = sym c.text_of.ensures ∙ ap (option_map (λ (text : Bor (List ℕ)). text.now)) c.in-Some.is in
+    let utf8 : utf8_line (Some line) ≡ Some text = sym c.utf8_or_none.ensures ∙ ap (option_map (λ (text : Bor (List ℕ)). text.now)) c.in-Some.is in
     let names : List (List ℕ) = map (λ (symbol : Symbol). symbol.name) c.args.tree.now.tree.symbols in
     rw c.in-UnknownSymbol.is
     (IfOk-weaker c.with_nearest.result _ _
@@ -27,6 +20,6 @@ pub returns-in_default-kind : goal.returns-in_default-kind
 returns-in_default-kind c =
     let line : List ℕ = c.args.line.now in
     let text : List ℕ = c.in-Some.line.now in
-    let utf8 : utf8_line (Some line) ≡ Some text = sym c.text_of.ensures ∙ ap (option_map (λ (text : Bor (List ℕ)). text.now)) c.in-Some.is in
+    let utf8 : utf8_line (Some line) ≡ Some text = sym c.utf8_or_none.ensures ∙ ap (option_map (λ (text : Bor (List ℕ)). text.now)) c.in-Some.is in
     shown_on c.args.kind (prefix_bytes c.args.prefix.now) (near_names c.args.tree.now.tree c.args.kind) line text utf8 (line_detail c.notice_detail.result)
     (same_parts _ _ _ c.notice_detail.ensures.text c.notice_detail.ensures.names)

@@ -1,8 +1,5 @@
-use Rattle.std.proofs.Common.{inl, inr}
-use Rattle.kc_rules.specs.between.SettledViews.{tree_of_settled}
-use Rattle.kc_dotconfig_model.specs.between.Formats.{file_format}
+use Rattle.kmin_tidy.proofs.Common.{inl, inr, tree_of_settled, file_format, if_err_map}
 use Rattle.kmin_tidy.proofs.ReadingLemmas.{both_ok, read_within, whole_not_read}
-use Rattle.kmin_report.proofs.Results.{if_err_map}
 use Rattle.kmin_tidy.proofs.accepted_file.accept_read.Goals as goal
 
 pub returns-in-AtEnd-clause-ok : goal.returns-in-AtEnd-clause-ok

@@ -1,6 +1,4 @@
-use Rattle.std.proofs.Common.{refl}
-use Rattle.kc_rules.specs.between.SettledViews.{tree_of_settled}
-use Rattle.kc_dotconfig_model.specs.between.Formats.{file_format}
+use Rattle.kmin_tidy.proofs.Common.{refl, tree_of_settled, file_format}
 use Rattle.kmin_tidy.proofs.ReadingLemmas.{fault_of_part, part_not_read}
 use Rattle.kmin_tidy.proofs.accepted_file.fault_of_part.Goals as goal
 

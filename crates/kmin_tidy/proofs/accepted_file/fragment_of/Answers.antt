@@ -1,7 +1,5 @@
-use Rattle.kc_rules.specs.between.SettledViews.{tree_of_settled}
-use Rattle.kc_dotconfig_model.specs.between.Formats.{file_format}
+use Rattle.kmin_tidy.proofs.Common.{tree_of_settled, file_format, if_err_map}
 use Rattle.kmin_tidy.proofs.ReadingLemmas.{both_ok, fragment_of_read, fault_of_whole}
-use Rattle.kmin_report.proofs.Results.{if_err_map}
 use Rattle.kmin_tidy.proofs.accepted_file.fragment_of.Goals as goal
 
 pub returns-clause-fragment : goal.returns-clause-fragment

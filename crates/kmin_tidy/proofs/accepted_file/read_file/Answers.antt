@@ -1,7 +1,4 @@
-use Rattle.std.proofs.Common.{◌≡◌, ◌∙◌, refl, inr, subst}
-use Rattle.kmin_disk.specs.Disks.{Disk, FailsOnce, MayFailOnce}
-use Rattle.kmin_report.proofs.Results.{if_ok_map, if_err_map}
-use Rattle.kmin_tidy.specs.checker.Readings.{unopened}
+use Rattle.kmin_tidy.proofs.Common.{◌≡◌, ◌∙◌, refl, inr, subst, Disk, FailsOnce, MayFailOnce, if_ok_map, if_err_map, unopened}
 use Rattle.kmin_tidy.proofs.ClosedFiles.{same_disk}
 use Rattle.kmin_tidy.proofs.ReadingLemmas.{on_ok_map}
 use Rattle.kmin_tidy.proofs.accepted_file.read_file.Goals as goal

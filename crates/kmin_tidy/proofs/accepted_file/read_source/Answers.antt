@@ -1,12 +1,4 @@
-use Rattle.std.proofs.Common.{◌≡◌, ℕ, List, length, sym, subst, refl, inl}
-use Rattle.kc_value.specs.declared.reader_bytes.ReadEnd.TheVariants.{AtEnd}
-use Rattle.kc_value.specs.declared.limits.TheConstants.{MAX_CONFIG_BYTES}
-use Rattle.kc_rules.specs.between.SettledViews.{tree_of_settled}
-use Rattle.kc_dotconfig_model.specs.between.Formats.{file_format}
-use Rattle.kmin_report.specs.KnownBytes.{AreKnownBytes}
-use Rattle.kmin_tidy.specs.checker.Readings.{IsFragmentOf, for_memory}
-use Rattle.kmin_report.proofs.Results.{if_ok_map, if_err_map}
-use Rattle.kmin_report.proofs.KnownContents.{whole_content}
+use Rattle.kmin_tidy.proofs.Common.{◌≡◌, ℕ, List, length, sym, subst, refl, inl, AtEnd, MAX_CONFIG_BYTES, tree_of_settled, file_format, AreKnownBytes, IsFragmentOf, for_memory, if_ok_map, if_err_map, whole_content}
 use Rattle.kmin_tidy.proofs.ReadingLemmas.{faulty_read, ended_unfailed, ended_once, ended_at_failure, if_ok_on}
 use Rattle.kmin_tidy.proofs.accepted_file.read_source.Goals as goal
 

@@ -1,8 +1,6 @@
-use Rattle.std.proofs.Common.{◌++◌, ap, sym, ◌∙◌}
+use Rattle.kmin_tidy.proofs.Common.{◌++◌, ap, sym, ◌∙◌, OutputForm, file_line}
 use Rattle.std.proofs.lemmas.Result.{on_ok_weaker}
-use Rattle.kmin_records.specs.declared.output_form.OutputForm.{OutputForm}
 use Rattle.kmin_records.proofs.RecordSteps.{line_appended}
-use Rattle.kmin_tidy.specs.Reports.{file_line}
 use Rattle.kmin_tidy.proofs.file_lines.push_file_line.Goals as goal
 
 pub returns-in-Plain : goal.returns-in-Plain

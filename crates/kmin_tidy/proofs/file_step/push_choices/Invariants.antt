@@ -1,6 +1,4 @@
-use Rattle.std.proofs.Common.{◌≡◌, ◌++◌, map, take}
-use Rattle.kc_dotconfig.specs.Fragments.{notice_pair}
-use Rattle.kmin_tidy.specs.checker.Readings.{places_noted}
+use Rattle.kmin_tidy.proofs.Common.{◌≡◌, ◌++◌, map, take, notice_pair, places_noted}
 use Rattle.kmin_tidy.proofs.file_step.push_choices.Given as goal
 
 abbrev pub invariant-loop-place : goal.invariant-loop-place

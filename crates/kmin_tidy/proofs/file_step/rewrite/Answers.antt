@@ -1,9 +1,7 @@
-use Rattle.std.proofs.Common.{◌≢◌, Bool, cond, [], take, refl, sym, ap, ◌∙◌, subst, append-nil, inl, inr}
-use Rattle.kmin_tidy.specs.Reports.{file_line}
-use Rattle.kmin_tidy.specs.checker.FileResults.{IsRewritten, same, shown}
+use Rattle.kmin_tidy.proofs.Common.{◌≢◌, Bool, cond, [], take, refl, sym, ap, ◌∙◌, subst, append-nil, inl, inr, file_line, IsRewritten, if_err_map}
+use Rattle.kmin_tidy.specs.checker.FileResults.{same, shown}
 use Rattle.kmin_tidy.proofs.FileLemmas.{agree, differ, rewritten_by, listed_by}
 use Rattle.kmin_tidy.proofs.ReadingLemmas.{both_ok}
-use Rattle.kmin_report.proofs.Results.{if_err_map}
 use Rattle.kmin_tidy.proofs.WholeRuns.{memory_stop}
 use Rattle.kmin_tidy.proofs.file_step.rewrite.Goals as goal
 

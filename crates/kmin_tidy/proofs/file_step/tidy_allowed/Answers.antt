@@ -1,5 +1,4 @@
-use Rattle.std.proofs.Common.{refl, inl, inr}
-use Rattle.kmin_report.proofs.Results.{if_ok_map, if_err_map}
+use Rattle.kmin_tidy.proofs.Common.{refl, inl, inr, if_ok_map, if_err_map}
 use Rattle.kmin_tidy.proofs.WholeRuns.{memory_stop}
 use Rattle.kmin_tidy.proofs.file_step.tidy_allowed.Goals as goal
 

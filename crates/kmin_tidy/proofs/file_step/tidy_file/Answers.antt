@@ -1,16 +1,6 @@
-use Rattle.std.proofs.Common.{◌≡◌, ◌++◌, ℕ, List, [], IfOk, IfErr, sym, subst, append-nil, inl}
-use Rattle.kc_rules.specs.between.SettledViews.{tree_of_settled}
-use Rattle.kc_dotconfig_model.specs.between.Formats.{file_format}
-use Rattle.kmin_disk.specs.Contents.{readable}
-use Rattle.kmin_disk.specs.Disks.{Disk, content_at}
-use Rattle.kmin_tidy.specs.Options.{settings_of}
-use Rattle.kmin_tidy.specs.MinimalFiles.{MayBeRead}
-use Rattle.kmin_tidy.specs.Steps.{Step}
+use Rattle.kmin_tidy.proofs.Common.{◌≡◌, ◌++◌, ℕ, List, [], IfOk, IfErr, sym, subst, append-nil, inl, tree_of_settled, file_format, readable, Disk, content_at, settings_of, MayBeRead, Step, report_lines, StopsFile, if_ok_map, if_err_map}
 use Rattle.kmin_tidy.specs.checker.Readings.{IsAcceptedAs}
-use Rattle.kmin_tidy.specs.checker.ReportLines.{report_lines}
-use Rattle.kmin_tidy.specs.checker.FileResults.{StopsFile}
 use Rattle.kmin_tidy.proofs.FileLemmas.{not_regular_step, fault_step}
-use Rattle.kmin_report.proofs.Results.{if_ok_map, if_err_map}
 use Rattle.kmin_tidy.proofs.file_step.tidy_file.Goals as goal
 
 pub returns-then-is_refused_unread-clause-step : goal.returns-then-is_refused_unread-clause-step

@@ -1,7 +1,6 @@
-use Rattle.std.proofs.Common.{refl, ap, Err}
+use Rattle.kmin_tidy.proofs.Common.{refl, ap, Err, if_ok_map, if_err_map}
 use Rattle.kmin_tidy.specs.checker.FileResults.{in_place}
 use Rattle.kmin_tidy.proofs.FileLemmas.{written_by, stopped_by}
-use Rattle.kmin_report.proofs.Results.{if_ok_map, if_err_map}
 use Rattle.kmin_tidy.proofs.file_step.write_file.Goals as goal
 
 pub returns-in-Ok-clause-written : goal.returns-in-Ok-clause-written

@@ -1,9 +1,4 @@
-use Rattle.std.proofs.Common.{◌≡◌, map, ap, ◌∙◌, subst}
-use Rattle.kc_dotconfig.specs.Fragments.{notice_pair}
-use Rattle.kmin_report.specs.Reports.{tree_notice_line}
-use Rattle.kmin_tidy.specs.Reports.{notice_lines}
-use Rattle.kmin_report.specs.StandardError.{TakesLines}
-use Rattle.kmin_report.proofs.WriterLemmas.{lines_append}
+use Rattle.kmin_tidy.proofs.Common.{◌≡◌, map, ap, ◌∙◌, subst, notice_pair, tree_notice_line, notice_lines, TakesLines, lines_append}
 use Rattle.kmin_report.proofs.Lists.{map_twice}
 use Rattle.kmin_tidy.proofs.report.report_file.Goals as goal
 

@@ -1,8 +1,5 @@
-use Rattle.std.proofs.Common.{rules}
+use Rattle.kmin_tidy.proofs.Common.{rules, notice_pair, tree_notice_line, none}
 use Rattle.kc_dotconfig_model.specs.declared.notice.NoticeKind.TheVariants.{UnknownSymbol}
-use Rattle.kc_dotconfig.specs.Fragments.{notice_pair}
-use Rattle.kmin_report.specs.Reports.{tree_notice_line}
-use Rattle.kmin_report.specs.StandardError.{none}
 use Rattle.kmin_report.proofs.WriterLemmas.{lines_next}
 use Rattle.kmin_tidy.proofs.report.report_notices.Goals as goal
 

@@ -1,7 +1,4 @@
-use Rattle.std.proofs.Common.{map, take}
-use Rattle.kc_dotconfig.specs.Fragments.{notice_pair}
-use Rattle.kmin_report.specs.Reports.{tree_notice_line}
-use Rattle.kmin_report.specs.StandardError.{TakesLines}
+use Rattle.kmin_tidy.proofs.Common.{map, take, notice_pair, tree_notice_line, TakesLines}
 use Rattle.kmin_tidy.proofs.report.report_notices.Given as goal
 
 abbrev pub invariant-loop-notice : goal.invariant-loop-notice

@@ -1,5 +1,4 @@
-use Rattle.kmin_report.specs.StandardError.{none}
-use Rattle.kmin_report.proofs.WriterLemmas.{lines_one}
+use Rattle.kmin_tidy.proofs.Common.{none, lines_one}
 use Rattle.kmin_tidy.proofs.report.report_problem.Goals as goal
 
 pub returns-in-Some : goal.returns-in-Some

@@ -1,10 +1,4 @@
-use Rattle.std.proofs.Common.{List, [], IfOk, IfErr, subst}
-use Rattle.kc_rules.specs.declared.rules.Settled.{Settled}
-use Rattle.kmin_tidy.specs.Options.{settings_of}
-use Rattle.kmin_tidy.specs.Runs.{Tidies, paths_of}
-use Rattle.kmin_report.specs.StandardError.{TakesLines, none}
-use Rattle.kmin_report.specs.Reports.{ErrorLine}
-use Rattle.kmin_tidy.specs.checker.FileResults.{StopsRun}
+use Rattle.kmin_tidy.proofs.Common.{List, [], IfOk, IfErr, subst, Settled, settings_of, Tidies, paths_of, TakesLines, none, ErrorLine, StopsRun}
 use Rattle.kmin_tidy.proofs.WholeRuns.{stops_first, memory_stop}
 use Rattle.kmin_tidy.proofs.whole_run.tidy_all.Goals as goal
 

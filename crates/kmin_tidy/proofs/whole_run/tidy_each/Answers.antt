@@ -1,16 +1,8 @@
-use Rattle.std.proofs.Common.{◌≡◌, ◌++◌, ◌<◌, [], ℕ, suc, List, get_or, length, refl, sym, ap, subst, ◌∙◌, take, drop, arith, rules}
+use Rattle.std.proofs.Common.{suc, get_or, drop}
 use Rattle.std.specs.Borrow.{Bor}
 use Rattle.std.proofs.lemmas.List.{take_all}
 use Rattle.kc_tree.specs.TreeModel.{TreeModel}
-use Rattle.kc_rules.specs.between.SettledViews.{tree_of_settled}
-use Rattle.kc_rules.specs.declared.rules.Settled.{Settled}
-use Rattle.kmin_tidy.specs.Options.{settings_of}
-use Rattle.kmin_tidy.specs.Steps.{Step}
-use Rattle.kmin_tidy.specs.Runs.{Tidies, paths_of}
-use Rattle.kmin_report.specs.StandardError.{none}
-use Rattle.kmin_tidy.specs.checker.ReportLines.{report_lines}
-use Rattle.kmin_tidy.specs.checker.FileResults.{StopsFile}
-use Rattle.kmin_report.proofs.WriterLemmas.{lines_append}
+use Rattle.kmin_tidy.proofs.Common.{◌≡◌, ◌++◌, ◌<◌, [], ℕ, List, length, refl, sym, ap, subst, ◌∙◌, take, arith, rules, tree_of_settled, Settled, settings_of, Step, Tidies, paths_of, none, report_lines, StopsFile, lines_append}
 use Rattle.kmin_tidy.proofs.WholeRuns.{tidies_none, tidies_more, stops_run}
 use Rattle.kmin_report.proofs.Lists.{paths_next, paths_at}
 use Rattle.kmin_report.proofs.Results.{if_err}

@@ -1,8 +1,4 @@
-use Rattle.std.proofs.Common.{◌≡◌, List, take}
-use Rattle.kmin_tidy.specs.Options.{settings_of}
-use Rattle.kmin_tidy.specs.Runs.{Tidies, paths_of}
-use Rattle.kmin_report.specs.StandardError.{TakesLines}
-use Rattle.kmin_report.specs.Reports.{ErrorLine}
+use Rattle.kmin_tidy.proofs.Common.{◌≡◌, List, take, settings_of, Tidies, paths_of, TakesLines, ErrorLine}
 use Rattle.kmin_tidy.proofs.whole_run.tidy_each.Given as goal
 
 abbrev pub invariant-loop-path : goal.invariant-loop-path

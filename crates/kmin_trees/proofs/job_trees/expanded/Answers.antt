@@ -1,10 +1,7 @@
-use Rattle.std.proofs.Common.{rules}
-use Rattle.kmin_options.specs.Jobs.{expansion_view}
+use Rattle.kmin_trees.proofs.Common.{rules, expansion_view, IsJobTree, if_err, if_err_map}
 use Rattle.kmin_trees.specs.between.ExpandedStops.{in_expansion}
-use Rattle.kmin_trees.specs.between.JobTrees.{IsJobTree}
 use Rattle.kmin_trees.proofs.JobTrees.{settled_accepted, settled_stopped}
 use Rattle.kmin_trees.proofs.UnfailedStops.{texts_unfailed}
-use Rattle.kmin_report.proofs.Results.{if_err, if_err_map}
 use Rattle.kmin_trees.proofs.job_trees.expanded.Goals as goal
 
 pub returns-in_err-found-clause-stopped : goal.returns-in_err-found-clause-stopped

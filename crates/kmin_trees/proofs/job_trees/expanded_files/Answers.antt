@@ -1,9 +1,7 @@
-use Rattle.std.proofs.Common.{rules}
-use Rattle.kmin_options.specs.Jobs.{expansion_view}
+use Rattle.kmin_trees.proofs.Common.{rules, expansion_view, if_err_map, if_err}
 use Rattle.kmin_trees.specs.Stops.{among_answers}
 use Rattle.kmin_trees.proofs.JobTrees.{stopped_expanding, both_expanded}
 use Rattle.kmin_trees.proofs.UnfailedStops.{expanding_unfailed}
-use Rattle.kmin_report.proofs.Results.{if_err_map, if_err}
 use Rattle.kmin_trees.proofs.job_trees.expanded_files.Goals as goal
 
 pub returns-in_err-answers-clause-stopped : goal.returns-in_err-answers-clause-stopped

@@ -1,7 +1,5 @@
-use Rattle.std.proofs.Common.{ap}
-use Rattle.std.specs.Prelude.{option_map}
-use Rattle.kmin_options.specs.Jobs.{expansion_view, settings_view}
-use Rattle.kmin_trees.specs.between.JobTrees.{IsJobTree}
+use Rattle.kmin_trees.proofs.Common.{ap, option_map, expansion_view, IsJobTree}
+use Rattle.kmin_options.specs.Jobs.{settings_view}
 use Rattle.kmin_trees.proofs.JobTrees.{plain_accepted, plain_stopped, expanded_accepted, expanded_stopped}
 use Rattle.kmin_trees.proofs.job_trees.kept_tree.Goals as goal
 
@@ -21,10 +19,10 @@ pub returns-in-None-clause-accepted : goal.returns-in-None-clause-accepted
 returns-in-None-clause-accepted g c =
     plain_accepted (g.F.Files.surroundings c.args.files.now)
     (settings_view c.args.settings.now) _ _ _ _ (ap (option_map expansion_view) c.in-None.is)
-    (λ t job. IsJobTree _ g.L.KeptLines.are_of t c.args.settings.now.tree.now job) c.as_it_is.result c.as_it_is.ensures.accepted
-    c.as_it_is.ensures.unreported
+    (λ t job. IsJobTree _ g.L.KeptLines.are_of t c.args.settings.now.tree.now job) c.unexpanded_tree.result c.unexpanded_tree.ensures.accepted
+    c.unexpanded_tree.ensures.unreported
 
 pub returns-in-None-clause-stopped : goal.returns-in-None-clause-stopped
 returns-in-None-clause-stopped g c =
     plain_stopped (g.F.Files.surroundings c.args.files.now)
-    (settings_view c.args.settings.now) _ _ _ _ (ap (option_map expansion_view) c.in-None.is) _ _ c.as_it_is.result c.as_it_is.ensures.stopped
+    (settings_view c.args.settings.now) _ _ _ _ (ap (option_map expansion_view) c.in-None.is) _ _ c.unexpanded_tree.result c.unexpanded_tree.ensures.stopped

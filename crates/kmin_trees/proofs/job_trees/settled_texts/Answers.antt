@@ -1,8 +1,5 @@
-use Rattle.kc_tree_model.specs.TreeFiles.{Files}
-use Rattle.kmin_report.specs.between.RunErrors.{status_of}
-use Rattle.kmin_trees.specs.between.FileNames.{texts_named, texts_of}
-use Rattle.kmin_trees.specs.between.TreeStops.{StopsAtTexts}
-use Rattle.std.proofs.Common.{subst}
+use Rattle.kmin_trees.proofs.Common.{Files, status_of, texts_of, StopsAtTexts, subst}
+use Rattle.kmin_trees.specs.between.FileNames.{texts_named}
 use Rattle.kmin_trees.proofs.job_trees.settled_texts.Goals as goal
 
 pub returns-in-Err-clause-stopped : goal.returns-in-Err-clause-stopped

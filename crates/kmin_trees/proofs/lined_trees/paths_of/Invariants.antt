@@ -1,5 +1,4 @@
-use Rattle.std.proofs.Common.{◌≡◌, map, take}
-use Rattle.kmin_trees.specs.between.FileNames.{names_of}
+use Rattle.kmin_trees.proofs.Common.{◌≡◌, map, take, names_of}
 use Rattle.kmin_trees.proofs.PathLists.{name_of_file}
 use Rattle.kmin_trees.proofs.lined_trees.paths_of.Given as goal
 

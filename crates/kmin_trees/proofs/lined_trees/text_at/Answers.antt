@@ -1,6 +1,4 @@
-use Rattle.std.proofs.Common.{ℕ, List, [], Option, ap, ◌∙◌}
-use Rattle.std.specs.Prelude.{option_map, unwrap_or}
-use Rattle.kmin_trees.specs.LinedTrees.{name_text}
+use Rattle.kmin_trees.proofs.Common.{ℕ, List, [], Option, ap, ◌∙◌, option_map, unwrap_or, name_text}
 use Rattle.kmin_trees.proofs.lined_trees.text_at.Goals as goal
 
 pub returns-in-Some : goal.returns-in-Some

@@ -1,8 +1,4 @@
-use Rattle.std.proofs.Common.{subst, arith, refl}
-use Rattle.std.proofs.lemmas.Grind.{common_steps}
-use Rattle.kmin_report.proofs.Results.{if_ok_map}
-use Rattle.kmin_inputs.specs.FileContents.{Surroundings}
-use Rattle.kmin_trees.specs.MissingFiles.{LacksOnlyMissing}
+use Rattle.kmin_trees.proofs.Common.{subst, arith, refl, common_steps, if_ok_map, Surroundings, LacksOnlyMissing}
 use Rattle.kmin_trees.proofs.MissingFiles.{lacks_over, any_err}
 use Rattle.kmin_trees.proofs.TextGrowth.{below_none}
 use Rattle.kmin_trees.proofs.tree_files.gather.Goals as goal

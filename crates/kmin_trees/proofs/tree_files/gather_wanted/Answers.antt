@@ -1,5 +1,4 @@
-use Rattle.std.proofs.Common.{arith}
-use Rattle.std.proofs.lemmas.Grind.{common_steps}
+use Rattle.kmin_trees.proofs.Common.{arith, common_steps}
 use Rattle.kmin_trees.proofs.tree_files.gather_wanted.Goals as goal
 
 pub returns-clause-read : goal.returns-clause-read

@@ -1,10 +1,5 @@
-use Rattle.std.proofs.Common.{rules, ◌≡◌, ◌+◌, ◌∙◌, None, ap, subst, take, arith, refl, List, ℕ, get_or}
-use Rattle.std.specs.Prelude.{string_bytes}
-use Rattle.std.proofs.lemmas.List.{take_all}
+use Rattle.kmin_trees.proofs.Common.{rules, ◌≡◌, ◌+◌, ◌∙◌, None, ap, subst, take, arith, refl, List, ℕ, get_or, string_bytes, take_all, file_at, Surroundings, path_below, MayBeMissing}
 use Rattle.std.proofs.lemmas.List.Elements.{All-map}
-use Rattle.kc_tree_model.specs.TreeFiles.{file_at}
-use Rattle.kmin_inputs.specs.FileContents.{Surroundings, path_below}
-use Rattle.kmin_trees.specs.MissingFiles.{MayBeMissing}
 use Rattle.kmin_trees.proofs.MissingFiles.{insert_step}
 use Rattle.kmin_trees.proofs.tree_files.insert_all.Goals as goal
 

@@ -1,7 +1,4 @@
-use Rattle.std.proofs.Common.{◌≡◌, ◌≤◌, length, take}
-use Rattle.std.specs.Prelude.{string_bytes}
-use Rattle.std.specs.List.{All}
-use Rattle.kmin_inputs.specs.FileContents.{AreTextsBelow}
+use Rattle.kmin_trees.proofs.Common.{◌≡◌, ◌≤◌, length, take, string_bytes, All, AreTextsBelow}
 use Rattle.kmin_trees.proofs.MissingFiles.{IsTried}
 use Rattle.kmin_trees.proofs.tree_files.insert_all.Given as goal
 

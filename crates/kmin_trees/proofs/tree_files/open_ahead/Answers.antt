@@ -1,5 +1,4 @@
-use Rattle.std.proofs.Common.{◌∙◌, arith, refl}
-use Rattle.std.proofs.lemmas.Grind.{common_steps, elements}
+use Rattle.kmin_trees.proofs.Common.{◌∙◌, arith, refl, common_steps, elements}
 use Rattle.kmin_trees.proofs.tree_files.open_ahead.Goals as goal
 
 pub loop-number-preserved : goal.loop-number-preserved

@@ -1,5 +1,4 @@
-use Rattle.std.proofs.Common.{◌≡◌, ◌≤◌}
-use Rattle.kmin_inputs.specs.FileContents.{AreTextsBelow}
+use Rattle.kmin_trees.proofs.Common.{◌≡◌, ◌≤◌, AreTextsBelow}
 use Rattle.kmin_trees.proofs.tree_files.open_ahead.Given as goal
 
 abbrev pub invariant-loop-number : goal.invariant-loop-number

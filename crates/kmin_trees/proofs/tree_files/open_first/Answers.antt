@@ -1,5 +1,4 @@
-use Rattle.std.proofs.Common.{arith}
-use Rattle.std.proofs.lemmas.Grind.{common_steps}
+use Rattle.kmin_trees.proofs.Common.{arith, common_steps}
 use Rattle.kmin_trees.proofs.tree_files.open_first.Goals as goal
 
 pub returns-in_err-insert_one-clause-below : goal.returns-in_err-insert_one-clause-below

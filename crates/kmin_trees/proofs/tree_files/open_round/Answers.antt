@@ -1,9 +1,4 @@
-use Rattle.std.proofs.Common.{◌≤◌, length, map, sym, subst, arith, rules}
-use Rattle.std.specs.Prelude.{◌≢◌, string_bytes}
-use Rattle.std.proofs.lemmas.Grind.{common_steps}
-use Rattle.kc_tree_model.specs.TreeFiles.{Files}
-use Rattle.kc_tree_model.specs.declared.fault.TreeKind.TheVariants.{OutOfMemory}
-use Rattle.kmin_trees.specs.MissingFiles.{LacksOnlyMissing}
+use Rattle.kmin_trees.proofs.Common.{◌≤◌, length, map, sym, subst, arith, rules, ◌≢◌, string_bytes, common_steps, Files, OutOfMemory, LacksOnlyMissing}
 use Rattle.kmin_trees.proofs.MissingFiles.{not_more, lacks_by_tried, lacks_by_fault}
 use Rattle.kmin_trees.proofs.tree_files.open_round.Goals as goal
 

@@ -1,6 +1,4 @@
-use Rattle.std.proofs.Common.{◌∙◌, subst, arith, refl}
-use Rattle.kmin_inputs.specs.FileContents.{Surroundings}
-use Rattle.kmin_trees.specs.MissingFiles.{LacksOnlyMissing}
+use Rattle.kmin_trees.proofs.Common.{◌∙◌, subst, arith, refl, Surroundings, LacksOnlyMissing}
 use Rattle.kmin_trees.proofs.MissingFiles.{lacks_over}
 use Rattle.kmin_trees.proofs.tree_files.open_wanted.Goals as goal
 

@@ -1,7 +1,5 @@
-use Rattle.std.proofs.Common.{◌≡◌, ◌++◌, ◌∷◌, [], ℕ, List, ap, ◌∙◌, append_assoc, arith}
-use Rattle.std.proofs.lemmas.Grind.{common_steps, elements}
-use Rattle.kmin_inputs.specs.FileContents.{path_below}
-use Rattle.kmin_disk.specs.Contents.{OpensAs}
+use Rattle.std.proofs.Common.{append_assoc}
+use Rattle.kmin_trees.proofs.Common.{◌≡◌, ◌++◌, ◌∷◌, [], ℕ, List, ap, ◌∙◌, arith, common_steps, elements, path_below, OpensAs}
 use Rattle.kmin_trees.proofs.TextGrowth.{front_read}
 use Rattle.kmin_trees.proofs.MissingFiles.{unopened, closed_missing}
 use Rattle.kmin_trees.proofs.tree_files.read_below.Goals as goal

@@ -1,8 +1,5 @@
-use Rattle.std.proofs.Common.{[], refl, rules}
-use Rattle.kmin_report.specs.StandardError.{none}
+use Rattle.kmin_trees.proofs.Common.{[], refl, rules, none, at_texts, for_memory, lines_one}
 use Rattle.kmin_trees.specs.Stops.{faulty}
-use Rattle.kmin_trees.specs.between.TreeStops.{at_texts, for_memory}
-use Rattle.kmin_report.proofs.WriterLemmas.{lines_one}
 use Rattle.kmin_trees.proofs.trees.refuse_texts.Goals as goal
 
 pub returns-then-eq-clause-stopped : goal.returns-then-eq-clause-stopped

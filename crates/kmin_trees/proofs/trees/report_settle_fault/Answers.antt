@@ -1,5 +1,4 @@
-use Rattle.kmin_report.specs.StandardError.{none}
-use Rattle.kmin_report.proofs.WriterLemmas.{lines_one}
+use Rattle.kmin_trees.proofs.Common.{none, lines_one}
 use Rattle.kmin_trees.proofs.trees.report_settle_fault.Goals as goal
 
 pub returns-in-OutOfMemory-clause-reported : goal.returns-in-OutOfMemory-clause-reported

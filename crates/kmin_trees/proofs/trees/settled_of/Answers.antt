@@ -1,5 +1,4 @@
-use Rattle.kmin_report.specs.StandardError.{none}
-use Rattle.kmin_trees.specs.between.FileNames.{names_of, texts_of}
+use Rattle.kmin_trees.proofs.Common.{none, names_of, texts_of}
 use Rattle.kmin_trees.proofs.TreeResults.{accepted, settle_stops}
 use Rattle.kmin_trees.proofs.trees.settled_of.Goals as goal
 

@@ -16,21 +16,17 @@ pub conditions_of-given-requires-clause-here : goal.conditions_of-given-requires
 conditions_of-given-requires-clause-here c =
     has_conditions c.args.listing.now c.args.groups.now c.args.conditions.now c.requires.walked c.args.i c.requires.here
 
-pub push_attributes-requires-clause-many : goal.push_attributes-requires-clause-many
-push_attributes-requires-clause-many c =
-    one_for_each c.args.listing.now c.args.groups.now c.args.conditions.now c.requires.walked c.args.i c.requires.here c.lines_of-lines.result.now
-    c.conditions_of-given.result.now c.lines_of-lines.ensures.lines c.conditions_of-given.ensures.value
+pub invariant_of-own : goal.invariant_of-own
+invariant_of-own c = record {
+  many = one_for_each c.args.listing.now c.args.groups.now c.args.conditions.now c.requires.walked c.args.i c.requires.here c.lines_of-lines.result.now
+      c.conditions_of-given.result.now c.lines_of-lines.ensures.lines c.conditions_of-given.ensures.value;
+}
 
 pub push_row-requires : goal.push_row-requires
 push_row-requires c = record {
   many = one_for_each c.args.listing.now c.args.groups.now c.args.conditions.now c.requires.walked c.args.i c.requires.here c.lines_of-lines.result.now
       c.conditions_of-given.result.now c.lines_of-lines.ensures.lines c.conditions_of-given.ensures.value;
 }
-
-pub push_group_defaults-requires-clause-many : goal.push_group_defaults-requires-clause-many
-push_group_defaults-requires-clause-many c =
-    one_for_each c.args.listing.now c.args.groups.now c.args.conditions.now c.requires.walked c.args.i c.requires.here c.lines_of-lines.result.now
-    c.conditions_of-given.result.now c.lines_of-lines.ensures.lines c.conditions_of-given.ensures.value
 
 pub returns : goal.returns
 returns c =

@@ -1,7 +1,6 @@
-use Rattle.std.proofs.Common.{ℕ, ap, ◌∙◌, List, map}
-use Rattle.std.specs.Prelude.{String, string_bytes}
+use Rattle.kc_checks.proofs.Common.{ℕ, ap, ◌∙◌, List, map, string_bytes, with_path}
+use Rattle.std.specs.Prelude.{String}
 use Rattle.std.specs.declared.alloc.Global.{Global}
-use Rattle.kc_checks.specs.checker.MissingPaths.{with_path}
 use Rattle.kc_checks.proofs.MissingPaths.{paths_pushed}
 use Rattle.kc_checks.proofs.paths.Paths.insert.Goals as goal
 

@@ -1,5 +1,4 @@
-use Rattle.std.proofs.Common.{arith}
-use Rattle.std.proofs.lemmas.Grind.{common_steps, elements}
+use Rattle.kc_checks.proofs.Common.{arith, common_steps, elements}
 use Rattle.kc_checks.proofs.paths.Paths.to_list.Goals as goal
 
 pub returns : goal.returns

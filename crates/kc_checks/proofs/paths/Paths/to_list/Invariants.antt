@@ -1,5 +1,4 @@
-use Rattle.std.proofs.Common.{◌≡◌, map, take}
-use Rattle.std.specs.Prelude.{string_bytes}
+use Rattle.kc_checks.proofs.Common.{◌≡◌, map, take, string_bytes}
 use Rattle.kc_checks.proofs.paths.Paths.to_list.Given as goal
 
 abbrev pub invariant-loop-path : goal.invariant-loop-path

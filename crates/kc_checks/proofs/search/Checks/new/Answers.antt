@@ -1,9 +1,6 @@
-use Rattle.std.proofs.Common.{◌≡◌, replicate, length, ap, subst, sym, ◌∙◌, arith}
+use Rattle.kc_checks.proofs.Common.{◌≡◌, replicate, length, ap, subst, sym, ◌∙◌, arith, contents_of, names_defined, AreSmall}
 use Rattle.std.proofs.lemmas.List.{length-replicate}
-use Rattle.kc_tree_model.specs.Contents.{contents_of}
-use Rattle.kc_tree_model.specs.Limits.{names_defined}
-use Rattle.kc_listing.specs.between.ListingView.{RepresentsListing}
-use Rattle.kc_checks.specs.between.FaultSearch.{AreSmall}
+use Rattle.kc_parser.specs.between.ListingView.{RepresentsListing}
 use Rattle.kc_checks.specs.between.Summaries.{IsSummary}
 use Rattle.kc_checks.proofs.GroupPlaces.{count_is}
 use Rattle.kc_checks.proofs.Rounds.{none_counted}

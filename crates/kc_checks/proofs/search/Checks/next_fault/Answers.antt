@@ -1,9 +1,5 @@
-use Rattle.std.proofs.Common.{◌≡◌, ◌+◌, cond, refl, sym, subst, ap, ◌∙◌}
-use Rattle.std.proofs.lemmas.List.{get_or_read}
-use Rattle.kc_tree_model.specs.Limits.{names_defined}
-use Rattle.kc_listing.specs.between.ListingView.{RepresentsListing}
-use Rattle.kc_checks.specs.between.FaultSearch.{AreSmall}
-use Rattle.kc_checks.specs.between.Summaries.{group_at, is_choice_code, no_group}
+use Rattle.kc_checks.proofs.Common.{◌≡◌, ◌+◌, cond, refl, sym, subst, ap, ◌∙◌, get_or_read, names_defined, AreSmall, group_at, is_choice_code, no_group}
+use Rattle.kc_parser.specs.between.ListingView.{RepresentsListing}
 use Rattle.kc_checks.proofs.Rounds.{one_counted}
 use Rattle.kc_checks.proofs.FaultSearch.{at_most_count, fault_here, reported_first}
 use Rattle.kc_checks.proofs.search.Checks.next_fault.Goals as goal

@@ -1,16 +1,9 @@
-use Rattle.std.proofs.Common.{◌≡◌, ◌+◌, ◌<◌, ◌≤◌, ◌^◌, [], ◌∷◌, ◌++◌, true, false, length, reverse, refl, sym, ap, ◌∙◌, arith, append-nil}
-use Rattle.std.specs.Prelude.{filter_map, slice_get}
-use Rattle.std.proofs.lemmas.Grind.{common_steps}
-use Rattle.std.proofs.lemmas.List.{get_or_read}
-use Rattle.kc_tree_model.specs.Conditions.{groups_in_context}
-use Rattle.kc_tree_model.specs.Contents.{contents_of}
-use Rattle.kc_tree_model.specs.Limits.{names_defined}
-use Rattle.kc_listing.specs.between.ListingView.{RepresentsListing}
-use Rattle.kc_listing.specs.declared.listing.GroupHead.TheVariants as codes
-use Rattle.kc_checks.specs.between.FaultSearch.{choices_before}
-use Rattle.kc_checks.specs.between.Summaries.{choices_opened_after, group_at, innermost_choice, no_group, read_before, type_in}
+use Rattle.std.proofs.Common.{◌^◌}
+use Rattle.kc_checks.proofs.Common.{◌≡◌, ◌+◌, ◌<◌, ◌≤◌, [], ◌∷◌, ◌++◌, true, false, length, reverse, refl, sym, ap, ◌∙◌, arith, append-nil, filter_map, slice_get, common_steps, get_or_read, groups_in_context, contents_of, names_defined, choices_before, choices_opened_after, group_at}
+use Rattle.kc_checks.proofs.Common.{innermost_choice, no_group, read_before, type_in, Summary}
+use Rattle.kc_parser.specs.between.ListingView.{RepresentsListing}
+use Rattle.kc_parser.specs.declared.listing.GroupHead.TheVariants as codes
 use Rattle.kc_checks.specs.checker.SummarySteps.{IsSummedTo}
-use Rattle.kc_checks.specs.declared.summary.Summary.{Summary}
 use Rattle.kc_checks.proofs.FaultSearch.{few_choices}
 use Rattle.kc_checks.proofs.GroupPlaces.{count_before, count_is}
 use Rattle.kc_checks.proofs.SummarySteps.{definition_more, no_choice, other_more}

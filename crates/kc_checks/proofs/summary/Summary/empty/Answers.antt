@@ -1,8 +1,6 @@
-use Rattle.std.proofs.Common.{◌≡◌, length, replicate, refl, ap, ◌∙◌, arith}
-use Rattle.kc_tree_model.specs.Limits.{names_defined}
-use Rattle.kc_listing.proofs.NameLemmas.{as_many_names}
-use Rattle.kc_listing.specs.between.ListingView.{RepresentsListing}
-use Rattle.kc_checks.specs.checker.SummarySteps.{nothing_known, IsSummedTo}
+use Rattle.kc_checks.proofs.Common.{◌≡◌, length, replicate, refl, ap, ◌∙◌, arith, names_defined, as_many_names, nothing_known}
+use Rattle.kc_parser.specs.between.ListingView.{RepresentsListing}
+use Rattle.kc_checks.specs.checker.SummarySteps.{IsSummedTo}
 use Rattle.kc_checks.proofs.SummarySteps.{none_summed}
 use Rattle.kc_checks.proofs.summary.Summary.empty.Goals as goal
 

@@ -1,7 +1,5 @@
-use Rattle.std.proofs.Common.{arith}
-use Rattle.std.proofs.lemmas.Grind.{common_steps}
-use Rattle.kc_tree_model.specs.Limits.{names_defined}
-use Rattle.kc_listing.specs.between.ListingView.{RepresentsListing}
+use Rattle.kc_checks.proofs.Common.{arith, common_steps, names_defined}
+use Rattle.kc_parser.specs.between.ListingView.{RepresentsListing}
 use Rattle.kc_checks.specs.checker.SummarySteps.{IsSummedTo}
 use Rattle.kc_checks.proofs.GroupPlaces.{count_is}
 use Rattle.kc_checks.proofs.SummarySteps.{all_summed}

@@ -1,6 +1,4 @@
-use Rattle.std.proofs.Common.{ap, ◌∙◌}
-use Rattle.std.specs.Prelude.{is_some}
-use Rattle.kc_tree_model.specs.Limits.{is_in_list}
+use Rattle.kc_expansion.proofs.Common.{ap, ◌∙◌, is_some, is_in_list}
 use Rattle.kc_files.proofs.TableLemmas.{some_copied}
 use Rattle.kc_expansion.proofs.ChoiceLemmas.{name_is_there}
 use Rattle.kc_expansion.proofs.choice_names.ChoiceNames.has.Goals as goal

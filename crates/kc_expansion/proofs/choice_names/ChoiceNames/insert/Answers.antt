@@ -1,6 +1,4 @@
-use Rattle.std.proofs.Common.{◌≡◌, false, map, reverse, ◌∷◌, ap, ◌∙◌}
-use Rattle.kc_tree_model.specs.Limits.{is_in_list}
-use Rattle.kc_expansion.specs.checker.ChoiceViews.{name_of_entry}
+use Rattle.kc_expansion.proofs.Common.{◌≡◌, false, map, reverse, ◌∷◌, ap, ◌∙◌, is_in_list, name_of_entry}
 use Rattle.kc_expansion.proofs.ChoiceLemmas.{name_inserted}
 use Rattle.kc_expansion.proofs.choice_names.ChoiceNames.insert.Goals as goal
 

@@ -1,10 +1,5 @@
-use Rattle.std.proofs.Common.{[], get_or, Some, ap, sym, ◌∙◌, arith}
-use Rattle.std.proofs.lemmas.Grind.{common_steps}
-use Rattle.kc_expr.specs.between.Arena.{Exprs}
+use Rattle.kc_expr.proofs.Common.{[], get_or, Some, ap, sym, ◌∙◌, arith, common_steps, Exprs, operand_of, stored_names, option_and_then}
 use Rattle.kc_expr.specs.between.Names.{name_of_operand}
-use Rattle.kc_expr.specs.checker.Nodes.{operand_of}
-use Rattle.kc_expr.specs.checker.Store.{stored_names}
-use Rattle.std.specs.Prelude.{option_and_then}
 use Rattle.kc_expr.proofs.ExpressionNameLemmas.{operand_is, operand_none}
 use Rattle.kc_expr.proofs.StoreLemmas.{within_nodes}
 use Rattle.kc_expr.proofs.arena.Arena.bare_name.Goals as goal

@@ -1,5 +1,4 @@
-use Rattle.std.proofs.Common.{arith}
-use Rattle.std.proofs.lemmas.Grind.{common_steps}
+use Rattle.kc_expr.proofs.Common.{arith, common_steps}
 use Rattle.kc_expr.proofs.StoreLemmas.{grows}
 use Rattle.kc_expr.proofs.arena.Arena.constant.Goals as goal
 
@@ -14,6 +13,3 @@ returns-in_err-id-clause-grows c = grind (arith, common_steps)
 
 pub invariant_of-self-2 : goal.invariant_of-self-2
 invariant_of-self-2 c = grind (arith, common_steps)
-
-pub invariant_of-self : goal.invariant_of-self
-invariant_of-self c = grind (arith, common_steps)

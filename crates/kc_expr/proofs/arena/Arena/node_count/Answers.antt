@@ -1,5 +1,4 @@
-use Rattle.std.proofs.Common.{ap, arith, length}
-use Rattle.kc_expr.specs.between.Arena.{Exprs}
+use Rattle.kc_expr.proofs.Common.{ap, arith, length, Exprs}
 use Rattle.kc_expr.proofs.StoreLemmas.{length-nodes}
 use Rattle.kc_expr.proofs.arena.Arena.node_count.Goals as goal
 

@@ -1,6 +1,4 @@
-use Rattle.std.proofs.Common.{ap, length, arith, rules}
-use Rattle.std.proofs.lemmas.Grind.{common_steps}
-use Rattle.kc_expr.specs.between.Arena.{Exprs}
+use Rattle.kc_expr.proofs.Common.{ap, length, arith, common_steps, Exprs}
 use Rattle.kc_expr.proofs.StoreLemmas.{within_nodes, length-nodes}
 use Rattle.kc_expr.proofs.arena.Arena.push_new_names.Goals as goal
 
@@ -15,11 +13,5 @@ push_unvisited-requires-clause-room c = omega (
   ap (λ (x : Exprs). length x.nodes) c.self.view_is,
 )
 
-pub returns-in-Err-clause-err : goal.returns-in-Err-clause-err
-returns-in-Err-clause-err c = search rules
-
 pub returns-in-Ok-clause-held : goal.returns-in-Ok-clause-held
 returns-in-Ok-clause-held c = grind (arith, common_steps)
-
-pub push_unvisited-requires-clause-found : goal.push_unvisited-requires-clause-found
-push_unvisited-requires-clause-found c = grind (arith, common_steps)

@@ -1,6 +1,4 @@
-use Rattle.std.proofs.Common.{◌≡◌, ◌<◌, replicate, arith}
-use Rattle.std.proofs.lemmas.Grind.{common_steps}
-use Rattle.std.proofs.lemmas.List.Elements.{All-replicate}
+use Rattle.kc_expr.proofs.Common.{◌≡◌, ◌<◌, replicate, arith, common_steps, All-replicate}
 use Rattle.kc_expr.proofs.VisitLemmas.{none_stamped}
 use Rattle.kc_expr.proofs.visited_set.VisitedSet.begin.Goals.{then-self, else-self}
 use Rattle.kc_expr.proofs.visited_set.VisitedSet.begin.Goals as goal

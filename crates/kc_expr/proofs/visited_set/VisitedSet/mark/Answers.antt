@@ -1,6 +1,4 @@
-use Rattle.std.proofs.Common.{true, ap, ◌∙◌, arith}
-use Rattle.std.proofs.lemmas.Grind.{common_steps}
-use Rattle.std.specs.Prelude.{slice_set}
+use Rattle.kc_expr.proofs.Common.{true, ap, ◌∙◌, arith, common_steps, slice_set}
 use Rattle.kc_expr.proofs.VisitLemmas.{stamped_set}
 use Rattle.kc_expr.proofs.visited_set.VisitedSet.mark.Goals as goal
 

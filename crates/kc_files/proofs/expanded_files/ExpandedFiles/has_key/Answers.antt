@@ -1,6 +1,4 @@
-use Rattle.std.proofs.Common.{ap, ◌∙◌}
-use Rattle.std.specs.Prelude.{is_some}
-use Rattle.kc_macros_model.specs.ReadingStates.{has_key}
+use Rattle.kc_files.proofs.Common.{ap, ◌∙◌, is_some, has_key}
 use Rattle.kc_files.proofs.TableLemmas.{some_copied}
 use Rattle.kc_files.proofs.KeyLemmas.{key_is_there}
 use Rattle.kc_files.proofs.expanded_files.ExpandedFiles.has_key.Goals as goal

@@ -1,10 +1,4 @@
-use Rattle.std.proofs.Common.{◌≡◌, Some, None, ap, ◌∙◌, sym, subst, ℕ, List, not}
-use Rattle.std.specs.Prelude.{Vec, bytes_eq}
-use Rattle.std.specs.Option.{option_copied}
-use Rattle.std.specs.Map.{lookup}
-use Rattle.std.specs.declared.alloc.Global.{Global}
-use Rattle.kc_macros_model.specs.ReadingStates.{ExpandedFile, is_taken}
-use Rattle.kc_files.specs.checker.ExpandedViews.{HasDistinctKeys}
+use Rattle.kc_files.proofs.Common.{◌≡◌, Some, None, ap, ◌∙◌, sym, subst, ℕ, List, not, Vec, bytes_eq, option_copied, lookup, Global, ExpandedFile, is_taken, HasDistinctKeys}
 use Rattle.kc_files.proofs.KeyLemmas.{taken_otherwise, differs}
 use Rattle.kc_files.proofs.expanded_files.ExpandedFiles.is_taken.Goals as goal
 

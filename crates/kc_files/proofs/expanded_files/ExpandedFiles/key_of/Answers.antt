@@ -1,5 +1,4 @@
-use Rattle.std.proofs.Common.{◌≡◌, ap, ◌∙◌, sym, arith, ◌+◌, ◌-◌, suc, length, true}
-use Rattle.kc_macros_model.specs.ReadingStates.{free_key, is_taken}
+use Rattle.kc_files.proofs.Common.{◌≡◌, ap, ◌∙◌, sym, arith, ◌+◌, ◌-◌, suc, length, true, free_key, is_taken}
 use Rattle.kc_files.proofs.KeyLemmas.{key_taken}
 use Rattle.kc_files.proofs.expanded_files.ExpandedFiles.key_of.Goals as goal
 

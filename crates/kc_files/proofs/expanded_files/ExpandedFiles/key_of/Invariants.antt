@@ -1,5 +1,4 @@
-use Rattle.std.proofs.Common.{◌≡◌, ◌+◌, ◌-◌, length}
-use Rattle.kc_macros_model.specs.ReadingStates.{free_key, key_of}
+use Rattle.kc_files.proofs.Common.{◌≡◌, ◌+◌, ◌-◌, length, free_key, key_of}
 use Rattle.kc_files.proofs.expanded_files.ExpandedFiles.key_of.Given as goal
 
 abbrev pub invariant-loop-number : goal.invariant-loop-number

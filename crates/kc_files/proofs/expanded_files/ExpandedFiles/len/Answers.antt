@@ -1,5 +1,4 @@
-use Rattle.std.proofs.Common.{subst, ap, ◌∙◌, sym, length}
-use Rattle.kc_files.specs.checker.ExpandedViews.{HasDistinctKeys}
+use Rattle.kc_files.proofs.Common.{subst, ap, ◌∙◌, sym, length, HasDistinctKeys}
 use Rattle.kc_files.proofs.KeyLemmas.{distinct_keys, count_files}
 use Rattle.kc_files.proofs.expanded_files.ExpandedFiles.len.Goals as goal
 

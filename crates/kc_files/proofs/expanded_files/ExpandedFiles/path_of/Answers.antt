@@ -1,5 +1,4 @@
-use Rattle.std.proofs.Common.{ap, ◌∙◌, Some}
-use Rattle.kc_files.specs.PathsOfKeys.{path_of_key}
+use Rattle.kc_files.proofs.Common.{ap, ◌∙◌, Some, path_of_key}
 use Rattle.kc_files.proofs.PathOfKeyLemmas.{path_items, find_path}
 use Rattle.kc_files.proofs.expanded_files.ExpandedFiles.path_of.Goals as goal
 

@@ -1,6 +1,4 @@
-use Rattle.std.proofs.Common.{◌≡◌, ap, ◌∙◌, map, false, List, ◌++◌, ◌∷◌, []}
-use Rattle.kc_macros_model.specs.ReadingStates.{ExpandedFile, has_key}
-use Rattle.kc_files.specs.checker.ExpandedViews.{expanded_file}
+use Rattle.kc_files.proofs.Common.{◌≡◌, ap, ◌∙◌, map, false, List, ◌++◌, ◌∷◌, [], ExpandedFile, has_key, expanded_file}
 use Rattle.kc_files.proofs.KeyLemmas.{file_inserted}
 use Rattle.kc_files.proofs.expanded_files.ExpandedFiles.push.Goals as goal
 

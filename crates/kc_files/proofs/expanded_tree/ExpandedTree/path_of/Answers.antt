@@ -1,7 +1,4 @@
-use Rattle.std.proofs.Common.{◌≡◌, ◌∷◌, [], List, Some, None, true, false, sym, ap, ◌∙◌}
-use Rattle.std.specs.Prelude.{bytes_eq}
-use Rattle.kc_macros_model.specs.ReadingStates.{ExpandedFile}
-use Rattle.kc_files.specs.PathsOfKeys.{path_of_key}
+use Rattle.kc_files.proofs.Common.{◌≡◌, ◌∷◌, [], List, Some, None, true, false, sym, ap, ◌∙◌, bytes_eq, ExpandedFile, path_of_key}
 use Rattle.kc_files.proofs.LastFileLemmas.{path_in_front, path_at_end}
 use Rattle.kc_files.proofs.expanded_tree.ExpandedTree.path_of.Goals as goal
 

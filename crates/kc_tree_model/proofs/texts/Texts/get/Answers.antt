@@ -1,7 +1,5 @@
-use Rattle.std.proofs.Common.{ap, ◌∙◌, List, ℕ, Some}
-use Rattle.std.specs.Prelude.{Vec, Option, option_map}
-use Rattle.std.specs.declared.alloc.Global.{Global}
-use Rattle.kc_tree_model.specs.TreeFiles.{file_at}
+use Rattle.kc_tree_model.proofs.Common.{ap, ◌∙◌, List, ℕ, Some, Vec, option_map, Global, file_at}
+use Rattle.std.specs.Prelude.{Option}
 use Rattle.kc_tree_model.proofs.TextsLemmas.{find_file}
 use Rattle.kc_tree_model.proofs.texts.Texts.get.Goals as goal
 

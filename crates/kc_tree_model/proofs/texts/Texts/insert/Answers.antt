@@ -1,7 +1,4 @@
-use Rattle.std.proofs.Common.{ap, ◌∙◌, arith}
-use Rattle.std.proofs.lemmas.Grind.{common_steps}
-use Rattle.kc_tree_model.specs.checker.TextsView.{files_of}
-use Rattle.kc_tree_model.specs.TreeFiles.{with_file}
+use Rattle.kc_tree_model.proofs.Common.{ap, ◌∙◌, arith, common_steps, files_of, with_file}
 use Rattle.kc_tree_model.proofs.TextsLemmas.{insert_files}
 use Rattle.kc_tree_model.proofs.texts.Texts.insert.Goals as goal
 

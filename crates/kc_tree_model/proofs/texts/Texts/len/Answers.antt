@@ -1,5 +1,4 @@
-use Rattle.std.proofs.Common.{subst, arith}
-use Rattle.std.proofs.lemmas.Grind.{common_steps}
+use Rattle.kc_tree_model.proofs.Common.{subst, arith, common_steps}
 use Rattle.kc_tree_model.specs.TreeFiles.{HasDistinctPaths}
 use Rattle.kc_tree_model.proofs.TextsLemmas.{distinct_paths}
 use Rattle.kc_tree_model.proofs.texts.Texts.len.Goals as goal

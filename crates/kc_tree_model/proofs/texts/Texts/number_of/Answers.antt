@@ -1,5 +1,4 @@
-use Rattle.std.proofs.Common.{ap, ◌∙◌, sym}
-use Rattle.kc_tree_model.specs.TreeFiles.{index_of_file}
+use Rattle.kc_tree_model.proofs.Common.{ap, ◌∙◌, sym, index_of_file}
 use Rattle.kc_tree_model.proofs.TextsLemmas.{number_found, number_absent}
 use Rattle.kc_tree_model.proofs.texts.Texts.number_of.Goals as goal
 

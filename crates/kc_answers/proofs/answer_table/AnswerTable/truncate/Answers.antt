@@ -1,9 +1,0 @@
-use Rattle.std.proofs.Common.{ap, ◌∙◌, map, take}
-use Rattle.kc_answers.specs.checker.TableView.{answer_of_entry}
-use Rattle.kc_answers.proofs.TableLemmas.{take_entries}
-use Rattle.kc_answers.proofs.answer_table.AnswerTable.truncate.Goals as goal
-
-pub returns : goal.returns
-returns c =
-    ap (λ es. map answer_of_entry es) c.truncate.ensures.entries ∙ take_entries c.args.len c.self.inside.entries.entries
-    ∙ ap (λ t. take c.args.len t) c.self.view_is

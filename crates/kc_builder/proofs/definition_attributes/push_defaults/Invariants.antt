@@ -1,6 +1,0 @@
-use Rattle.kc_builder.specs.checker.GatheredItems.{own_key, gathered_default}
-use Rattle.kc_builder.proofs.ItemSteps.{IsRest}
-use Rattle.kc_builder.proofs.definition_attributes.push_defaults.Given as goal
-
-abbrev pub invariant-loop-i : goal.invariant-loop-i
-invariant-loop-i l = IsRest (own_key l.symbol gathered_default) gathered_default l.fn.found l.found l.lines l.conditions l.i

@@ -1,9 +1,0 @@
-use Rattle.std.proofs.Common.{sym, ◌∙◌}
-use Rattle.std.proofs.lemmas.Slice.Eq.{bytes_eq-Decides}
-use Rattle.kc_expr.proofs.store.Store.has_at.Goals as goal
-
-pub returns-then-eq : goal.returns-then-eq
-returns-then-eq c = record {
-  name = λ t. sym c.name-held.ensures.value ∙ (bytes_eq-Decides c.name-held.result.now c.args.name.now).0
-      (sym c.eq-then-eq.ensures ∙ t);
-}

@@ -1,6 +1,0 @@
-use Rattle.std.proofs.Common.{◌≡◌, ◌≤◌, count_by, take}
-use Rattle.kc_listing.specs.checker.OpenBlockViews.{is_block}
-use Rattle.kc_listing.proofs.open_blocks.open_block_count.Given as goal
-
-abbrev pub invariant-loop-o : goal.invariant-loop-o
-invariant-loop-o l = record { counted : l.count ≡ count_by is_block (take l.o-index l.stack); few : l.count ≤ l.o-index }

@@ -1,4 +1,0 @@
-use Rattle.kc_macro_forms.proofs.form_words.is_relative_source.Goals as goal
-
-pub returns : goal.returns
-returns c = c.is_among.ensures

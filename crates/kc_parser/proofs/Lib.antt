@@ -1,0 +1,13 @@
+pub mod Common
+pub mod NameLemmas
+pub mod SymbolSteps
+pub mod ListingGrowth
+pub mod AppendSteps
+pub mod OpenBlockSteps
+pub mod FileTexts
+pub mod FileSteps
+pub mod HeadSteps
+pub mod ReaderSteps
+pub mod PlaceSteps
+pub mod StatementSteps
+pub mod RootSteps

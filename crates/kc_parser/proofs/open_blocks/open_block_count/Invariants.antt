@@ -1,0 +1,5 @@
+use Rattle.kc_parser.proofs.Common.{◌≡◌, ◌≤◌, count_by, take, is_block}
+use Rattle.kc_parser.proofs.open_blocks.open_block_count.Given as goal
+
+abbrev pub invariant-loop-o : goal.invariant-loop-o
+invariant-loop-o l = record { counted : l.count ≡ count_by is_block (take l.o-index l.stack); few : l.count ≤ l.o-index }

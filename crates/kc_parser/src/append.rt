@@ -1,0 +1,134 @@
+//! Appends statements to the listing.
+ghost use Rattle.std.specs.Prelude.{◌≡◌, ◌<◌, ◌+◌, ◌≤◌, ℕ, false, slice_get, List, None, Some, IfOk, IfErr, OnOk};
+ghost use Rattle.kc_value.specs.declared.limits.TheConstants.{MAX_CHOICES, MAX_FILES, MAX_TREE_BYTES};
+ghost use Rattle.kc_tree_model.specs.declared.fault.TreeKind.TheVariants.{OutOfMemory};
+ghost use Rattle.kc_tree_model.specs.Blocks.{Group as Placed, GroupHead as Meant, of_head, closing, inside, side_of, from_head};
+ghost use Rattle.kc_tree_model.specs.Statements.{name_of_head, block_of_head, same_block, choice, source};
+ghost use Rattle.kc_tree_model.specs.Limits.{FileSource, size_in};
+ghost use Rattle.kc_tree_model.specs.TreeReading.{with_group};
+ghost use Rattle.kc_parser.specs.between.ListingView.{RepresentsListing};
+ghost use Rattle.kc_parser.specs.checker.StateViews.{Describes, IsMeant, at_line};
+
+use super::listing::{Group, GroupHead, Listing};
+use super::state::{OpenBlock, Position, ReaderState};
+use kc_tree_model::{Block, TreeKind};
+use kc_value::Text;
+
+/// Appends to the listing a statement that defines no symbol, or the end of a file.
+pub(crate) fn push_group(
+    listing: &mut Listing,
+    at: Position,
+    head: GroupHead,
+) -> Result<(), TreeKind>
+    ensures appends { (before : List Placed) (m : Meant) → RepresentsListing listing.old before → IsMeant listing.old before head m
+        → from_head name_of_head m ≡ None → OnOk result (RepresentsListing listing.new (with_group (at_line at.file at.line) m before)) }
+    ensures texts { listing.new.texts ≡ listing.old.texts }
+    ensures memory { IfErr result (λ k. k ≡ OutOfMemory) }
+{
+    let attributes = listing.lines.len();
+    let Ok(()) = listing.groups.push(Group {
+        file: at.file,
+        line: at.line,
+        head,
+        attributes,
+    })
+    else {
+        return Err(TreeKind::OutOfMemory);
+    };
+    Ok(())
+}
+
+/// Appends the end of the innermost block or sourced file, and takes it off the stack.
+pub(crate) fn push_end(
+    read: &mut ReaderState,
+    at: Position,
+    head: GroupHead,
+) -> Result<(), TreeKind>
+    ensures appends { (r : FileSource) (before : List Placed) (m : Meant) → Describes r read.old before → IsMeant read.old.listing before head m
+        → side_of m ≡ closing → OnOk result (Describes r read.new (with_group (at_line at.file at.line) m before)) }
+    ensures memory { IfErr result (λ k. k ≡ OutOfMemory) }
+{
+    let _ = read.stack.pop();
+    push_group(&mut read.listing, at, head)
+}
+
+/// Appends a statement that defines no symbol, and opens and ends no block or file.
+pub(crate) fn push_plain(
+    read: &mut ReaderState,
+    at: Position,
+    head: GroupHead,
+) -> Result<(), TreeKind>
+    ensures appends { (r : FileSource) (before : List Placed) (m : Meant) → Describes r read.old before → IsMeant read.old.listing before head m
+        → side_of m ≡ inside → from_head name_of_head m ≡ None → OnOk result (Describes r read.new (with_group (at_line at.file at.line) m before)) }
+    ensures memory { IfErr result (λ k. k ≡ OutOfMemory) }
+{
+    push_group(&mut read.listing, at, head)
+}
+
+/// Appends the statement that opens a menu or an `if`.
+pub(crate) fn push_block(
+    read: &mut ReaderState,
+    at: Position,
+    head: GroupHead,
+    block: Block,
+) -> Result<(), TreeKind>
+    ensures appends { (r : FileSource) (before : List Placed) (m : Meant) → Describes r read.old before → IsMeant read.old.listing before head m
+        → from_head block_of_head m ≡ Some block → same_block Block.Choice block ≡ false
+        → OnOk result (Describes r read.new (with_group (at_line at.file at.line) m before)) }
+    ensures memory { IfErr result (λ k. k ≡ OutOfMemory) }
+{
+    let Ok(()) = read.stack.push(OpenBlock::Block(block, at.line)) else {
+        return Err(TreeKind::OutOfMemory);
+    };
+    push_group(&mut read.listing, at, head)
+}
+
+/// Appends the statement that opens a choice.
+pub(crate) fn push_choice_group(read: &mut ReaderState, at: Position) -> Result<(), TreeKind>
+    requires few { read.old.choices < MAX_CHOICES }
+    ensures appends { (r : FileSource) (before : List Placed) → Describes r read.old before
+        → OnOk result (Describes r read.new (with_group (at_line at.file at.line) (of_head choice) before)) }
+    ensures memory { IfErr result (λ k. k ≡ OutOfMemory) }
+{
+    let Ok(()) = read.stack.push(OpenBlock::Block(Block::Choice, at.line)) else {
+        return Err(TreeKind::OutOfMemory);
+    };
+    read.choices += 1;
+    push_group(&mut read.listing, at, GroupHead::Choice)
+}
+
+/// Appends a text, which is a title or a path, and returns its index among the texts.
+pub(crate) fn push_text(read: &mut ReaderState, text: Text) -> Result<usize, TreeKind>
+    ensures kept { IfOk result (λ t. slice_get read.new.listing.texts.items t ≡ Some text) }
+    ensures describes { (r : FileSource) (before : List Placed) → Describes r read.old before → OnOk result (Describes r read.new before) }
+    ensures files { read.new.files ≡ read.old.files }
+    ensures bytes { read.new.bytes ≡ read.old.bytes }
+    ensures memory { IfErr result (λ k. k ≡ OutOfMemory) }
+{
+    let place = read.listing.texts.len();
+    let Ok(()) = read.listing.texts.push(text) else {
+        return Err(TreeKind::OutOfMemory);
+    };
+    Ok(place)
+}
+
+/// Appends a `source` whose path is the text at the index `place`, and counts its file and the file's bytes.
+pub(crate) fn push_source(
+    read: &mut ReaderState,
+    at: Position,
+    place: usize,
+    size: usize,
+) -> Result<(), TreeKind>
+    requires files { read.old.files < MAX_FILES }
+    requires bytes { read.old.bytes + size ≤ MAX_TREE_BYTES }
+    ensures appends { (r : FileSource) (before : List Placed) (path : List ℕ) → Describes r read.old before → slice_get read.old.listing.texts.items place ≡ Some path → size ≡ size_in r path
+        → OnOk result (Describes r read.new (with_group (at_line at.file at.line) (of_head (source path)) before)) }
+    ensures memory { IfErr result (λ k. k ≡ OutOfMemory) }
+{
+    let Ok(()) = read.stack.push(OpenBlock::Source(place)) else {
+        return Err(TreeKind::OutOfMemory);
+    };
+    read.files += 1;
+    read.bytes += size;
+    push_group(&mut read.listing, at, GroupHead::Source(place))
+}

@@ -1,0 +1,49 @@
+//! Attributes of the open entry, and their limit.
+ghost use Rattle.std.specs.Prelude.{◌≡◌, List};
+ghost use Rattle.kc_tree_model.specs.Blocks.{Group as Placed};
+ghost use Rattle.kc_tree_model.specs.Limits.{FileSource, too_many_by_attribute};
+ghost use Rattle.kc_statements.specs.between.StatementViews.{attribute_in, AttributeNodesExist};
+ghost use Rattle.kc_parser.specs.checker.StateViews.{Describes};
+ghost use Rattle.kc_parser.specs.checker.Steps.{AppendsAttribute};
+
+use super::listing::Line;
+use super::state::ReaderState;
+use kc_expr::Arena;
+use kc_statements::Attribute;
+use kc_tree_model::TreeKind;
+use kc_value::MAX_NAME_BYTES;
+
+/// Whether an attribute selects or implies a name that is too long.
+fn has_long_name(arena: &Arena, attribute: &Attribute) -> bool
+    requires held { AttributeNodesExist arena.now attribute.now }
+    ensures value { result ≡ too_many_by_attribute (attribute_in arena.now attribute.now) }
+{
+    match attribute {
+        Attribute::Select(aimed) => arena.name(aimed.name).len() > MAX_NAME_BYTES,
+        Attribute::Imply(aimed) => arena.name(aimed.name).len() > MAX_NAME_BYTES,
+        _ => false,
+    }
+}
+
+/// Appends an attribute to the newest group; `TooMany` if it selects or implies a name that is too long.
+pub(crate) fn push_attribute(
+    read: &mut ReaderState,
+    line: u32,
+    attribute: &Attribute,
+) -> Result<(), TreeKind>
+    requires held { AttributeNodesExist read.old.listing.names.arena attribute.now }
+    ensures appends { (r : FileSource) (before : List Placed) → Describes r read.old before
+        → AppendsAttribute r line before (attribute_in read.old.listing.names.arena attribute.now) read.new result }
+{
+    if has_long_name(&read.listing.names.arena, attribute) {
+        return Err(TreeKind::TooMany);
+    }
+    let Ok(()) = read.listing.lines.push(Line {
+        number: line,
+        attribute: *attribute,
+    })
+    else {
+        return Err(TreeKind::OutOfMemory);
+    };
+    Ok(())
+}

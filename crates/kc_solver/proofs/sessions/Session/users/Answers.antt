@@ -1,0 +1,9 @@
+use Rattle.kc_solver.proofs.Common.{ap, ◌∙◌, arith, elements, SessionState}
+use Rattle.kc_solver.proofs.sessions.Session.users.Goals as goal
+
+pub returns : goal.returns
+returns g c = record {
+  users = c.as_slice.ensures.value ∙ ap (λ (h : SessionState _ _ _). h.users) c.self.view_is;
+  fits = grind (arith, elements);
+  gives = grind (arith, elements);
+}

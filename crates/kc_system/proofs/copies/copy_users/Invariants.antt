@@ -1,8 +1,0 @@
-use Rattle.std.proofs.Common.{◌≡◌, ◌≤◌, length, take}
-use Rattle.kc_system.proofs.copies.copy_users.Given as goal
-
-abbrev pub invariant-loop-user : goal.invariant-loop-user
-invariant-loop-user g l = record {
-  within : l.user-index ≤ length l.users;
-  same : l.copy.items ≡ take l.user-index l.users;
-}

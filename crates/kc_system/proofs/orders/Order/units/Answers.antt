@@ -1,4 +1,0 @@
-use Rattle.kc_system.proofs.orders.Order.units.Goals as goal
-
-pub returns : goal.returns
-returns c = rw c.self.view_is at c.as_slice.ensures.value

@@ -1,6 +1,0 @@
-pub mod LoadLines
-pub mod ErrorExits
-pub mod Sequences
-pub mod NamedLines
-pub mod JobOutputs
-pub mod ReadFailures

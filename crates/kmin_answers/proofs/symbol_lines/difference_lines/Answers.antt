@@ -1,9 +1,0 @@
-use Rattle.std.proofs.Common.{arith}
-use Rattle.std.proofs.lemmas.Grind.{common_steps}
-use Rattle.kmin_answers.proofs.symbol_lines.difference_lines.Goals as goal
-
-pub returns : goal.returns
-returns c = grind (arith, common_steps)
-
-pub loop-difference-preserved : goal.loop-difference-preserved
-loop-difference-preserved c = grind (arith, common_steps)

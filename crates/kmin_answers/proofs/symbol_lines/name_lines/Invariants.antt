@@ -1,8 +1,0 @@
-use Rattle.std.proofs.Common.{◌≡◌, take}
-use Rattle.std.specs.List.{flat_map}
-use Rattle.kmin_answers.specs.Answers.{name_line}
-use Rattle.kmin_answers.proofs.symbol_lines.name_lines.Given as goal
-
--- `text` has the lines of the symbols before this one
-abbrev pub invariant-loop-s : goal.invariant-loop-s
-invariant-loop-s l = l.text.items ≡ flat_map (name_line l.front l.tree.tree) (take l.s-index l.symbols)

@@ -1,5 +1,0 @@
-pub mod Statuses
-pub mod Strictness
-pub mod Answers
-pub mod Stops
-pub mod between

@@ -1,0 +1,5 @@
+pub mod Statuses
+pub mod Strictness
+pub mod Outputs
+pub mod Stops
+pub mod between
