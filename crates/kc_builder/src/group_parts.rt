@@ -1,4 +1,4 @@
-//! What the groups of a listing give its tree, gathered group by group behind their checks.
+//! What the groups of a listing give its tree, gathered group by group after their checks.
 ghost use Rattle.std.specs.Prelude.{◌≡◌, ◌⊎◌, ◌<◌, ◌+◌, ◌^◌, List, IfErr, IfOk, None, OnOk, Some, length, slice_get, if◌then◌else◌};
 ghost use Rattle.kc_tokens.specs.declared.language.Language.{Language as AnyLanguage};
 ghost use Rattle.kc_tree_model.specs.Blocks.{Group as ModelGroup};

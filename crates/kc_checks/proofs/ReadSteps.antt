@@ -14,7 +14,6 @@ use Rattle.kc_parser.specs.declared.listing.Listing.{Listing}
 use Rattle.kc_parser.specs.between.ListingView.{RepresentsListing}
 use Rattle.kc_parser.specs.between.MemoryFaults.{no_memory}
 use Rattle.kc_checks.specs.between.Summaries.{IsRepresented}
-use Rattle.kc_checks.specs.between.Surface.{IsOfTree}
 use Rattle.kc_checks.specs.checker.MissingPaths.{is_absent}
 
 after_some : (language : Language) (o : Outcome) (f : TreeFault) → o.fault ≡ Some f → first_fault_after language o ≡ Some f
@@ -67,9 +66,6 @@ module _ (files : Files) (root : List ℕ) (l : Listing) (given : Option TreeFau
       → (f ≡ no_memory) ⊎ (first_tree_fault files root ≡ Some f)
   reported_of_checks f e (inl m) = inl m
   reported_of_checks f e (inr h) = inr (reported_tree_fault (Some f) e h)
-
-  pub of_tree : given ≡ None → None ≡ slice_get (tree_faults files.language (reading files root).read) 0 → IsOfTree files.language l
-  of_tree e h = record { files = files; root = root; written = refl; untold = reported_tree_fault None e h; shows = shown_of_reading e }
 
 -- a returned fault, if not out of memory but the first fault of the files, is their reported fault
 pub reported_or_memory : (files : Files) (root : List ℕ) (f : TreeFault) → (f ≡ no_memory) ⊎ (first_tree_fault files root ≡ Some f)

@@ -1,3 +1,2 @@
 pub mod FaultSearch
 pub mod Summaries
-pub mod Surface

@@ -18,7 +18,6 @@ use Rattle.kmin_options.specs.declared.job.ExplainJob.{ExplainJob}
 use Rattle.kmin_records.specs.declared.output_form.OutputForm.{OutputForm}
 use Rattle.kmin_report.specs.StandardError.{SpelledBytes, TakesLines}
 use Rattle.kmin_trees.specs.declared.lined_trees.LinedTree.{LinedTree}
-use Rattle.kmin_outputs.specs.Statuses.{status_of_list}
 use Rattle.kmin_outputs.specs.between.Comparisons.{AreNoticed}
 use Rattle.kmin_outputs.specs.declared.verb_texts.JobOutput.{JobOutput}
 use Rattle.kmin_outputs.proofs.JobOutputs.{lines_kept}
@@ -81,12 +80,6 @@ pub answer_of_question : (job : ExplainJob) (question : Question) (g : SourcesMo
     → IsAnswerFor job.settings.output_form question g (symbols_in (explain_job_view job) g.tree) text status → IsAnswerOf (explain_job_view job) g text status
 answer_of_question job question g text status is a =
     subst (λ (q : Question). IsAnswerFor job.settings.output_form q g (symbols_in (explain_job_view job) g.tree) text status) (sym is) a
-
--- the status of a list is 0 or 1
-pub list_status_small : {A : Type 0} (exit_code : Bool) (listed : List A) → status_of_list exit_code listed ≤ 1
-list_status_small false listed = omega arith
-list_status_small true [] = omega arith
-list_status_small true (x ∷ xs) = omega arith
 
 -- what symbols are explained by is of the tree and the files that were read
 pub answer_from : (by : Sources) (job : ExplainJob) (tree : LinedTree) (found : LinedFiles) (read : List Group) (meanings : List (List LineMeaning)) (text : List ℕ)

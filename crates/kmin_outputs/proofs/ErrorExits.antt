@@ -1,16 +1,6 @@
 -- What holds where a `?` returns an error.
-use Rattle.std.proofs.Common.{◌≡◌, Result, Ok, Err, IfOk, IfErr, OnOk}
+use Rattle.std.proofs.Common.{◌≡◌, Result, Ok, Err, IfErr}
 use Rattle.std.specs.Result.{IsErrAnd}
-
--- what is said of a value holds of an error
-pub no_value : {T E : Type 0} (r : Result T E) (e : E) (P : T → Type 0) → IsErrAnd r (λ y. y ≡ e) → IfOk r P
-no_value (Ok x) e P h = absurd h
-no_value (Err y) e P h = tt
-
--- what is said of success holds of an error
-pub no_success : {T E : Type 0} (r : Result T E) (e : E) (P : Type 0) → IsErrAnd r (λ y. y ≡ e) → OnOk r P
-no_success (Ok x) e P h = absurd h
-no_success (Err y) e P h = tt
 
 -- what holds of an error is said of the result that has it
 pub with_error : {T E : Type 0} (r : Result T E) (e : E) (P : E → Type 0) → IsErrAnd r (λ y. y ≡ e) → P e → IfErr r P

@@ -4,7 +4,8 @@ use Rattle.kc_dotconfig.specs.declared.fragment.Fragment.{Fragment}
 use Rattle.kc_dotconfig_model.specs.between.Formats.{file_format}
 use Rattle.kc_rules.specs.between.SettledViews.{tree_of_settled}
 use Rattle.kmin_report.proofs.Results.{memory_err}
-use Rattle.kmin_outputs.proofs.ErrorExits.{no_value, with_error}
+use Rattle.kc_solver.proofs.ErrorExits.{no_value}
+use Rattle.kmin_outputs.proofs.ErrorExits.{with_error}
 use Rattle.kmin_outputs.proofs.Sequences.{loaded_one, stopped_noticed, stopped_path, stopped_for_memory}
 use Rattle.kmin_explain_command.specs.between.LinedFiles.{IsLinedFile}
 use Rattle.kmin_explain_command.proofs.LinedFiles.{loaded_of, lined_whole}

@@ -8,7 +8,8 @@ use Rattle.kmin_explain_command.proofs.LinedFiles.{lined_none, lined_append}
 use Rattle.kmin_explain_command.proofs.ReadFiles.{stopped_none}
 use Rattle.kmin_report.proofs.Results.{memory_err}
 use Rattle.kmin_report.proofs.Lists.{paths_next, paths_at}
-use Rattle.kmin_outputs.proofs.ErrorExits.{no_value, with_error}
+use Rattle.kc_solver.proofs.ErrorExits.{no_value}
+use Rattle.kmin_outputs.proofs.ErrorExits.{with_error}
 use Rattle.kmin_explain_command.proofs.lined_files.read_lined.Goals as goal
 
 pub loop-path-init : goal.loop-path-init

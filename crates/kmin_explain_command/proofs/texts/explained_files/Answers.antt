@@ -4,7 +4,8 @@ use Rattle.kc_rules.specs.between.SettledViews.{tree_model_of}
 use Rattle.kc_config.specs.ConfigStates.{tree_in}
 use Rattle.kc_tree_model.specs.Trees.{Tree}
 use Rattle.kmin_outputs.specs.between.Comparisons.{AreNoticed}
-use Rattle.kmin_outputs.proofs.ErrorExits.{no_value, with_error}
+use Rattle.kc_solver.proofs.ErrorExits.{no_value}
+use Rattle.kmin_outputs.proofs.ErrorExits.{with_error}
 use Rattle.kmin_options.specs.Jobs.{explain_job_view}
 use Rattle.kmin_report.proofs.Results.{memory_err}
 use Rattle.kmin_report.specs.between.RunErrors.{status_of}

@@ -1,10 +1,10 @@
 use Rattle.std.proofs.Common.{◌≤◌, ◌∙◌, ap, subst, sym}
 use Rattle.kmin_outputs.specs.Statuses.{status_of_list}
-use Rattle.kmin_explain_command.proofs.TextEnds.{list_status_small}
+use Rattle.kmin_outputs.proofs.JobOutputs.{status_at_most_one}
 use Rattle.kmin_explain_command.proofs.texts.missed_answer.Goals as goal
 
 pub returns-clause-status : goal.returns-clause-status
-returns-clause-status c = subst (λ n. n ≤ 1) (sym c.list_status-status.ensures) (list_status_small c.args.exit_code c.deref-2.result.now)
+returns-clause-status c = subst (λ n. n ≤ 1) (sym c.list_status-status.ensures) (status_at_most_one c.args.exit_code c.deref-2.result.now)
 
 pub returns-clause-answer : goal.returns-clause-answer
 returns-clause-answer c = λ named read meanings are. record {

@@ -1,13 +1,13 @@
 use Rattle.std.proofs.Common.{◌≤◌, ◌∙◌, ap, subst, sym}
 use Rattle.kmin_outputs.specs.Statuses.{status_of_list}
-use Rattle.kmin_explain_command.proofs.TextEnds.{list_status_small}
+use Rattle.kmin_outputs.proofs.JobOutputs.{status_at_most_one}
 use Rattle.kmin_explain_command.proofs.texts.unmet_answer.Goals as goal
 
 pub unmet_text-requires-clause-unmet : goal.unmet_text-requires-clause-unmet
 unmet_text-requires-clause-unmet c = c.deref.ensures.value ∙ (rw (c.settled.ensures, c.values.ensures.values) at c.in_ok-symbols.ensures)
 
 pub returns-clause-status : goal.returns-clause-status
-returns-clause-status c = subst (λ n. n ≤ 1) (sym c.list_status-status.ensures) (list_status_small c.args.exit_code c.deref-2.result.now)
+returns-clause-status c = subst (λ n. n ≤ 1) (sym c.list_status-status.ensures) (status_at_most_one c.args.exit_code c.deref-2.result.now)
 
 pub returns-clause-answer : goal.returns-clause-answer
 returns-clause-answer c = λ named read meanings are.

@@ -6,7 +6,8 @@ use Rattle.kmin_outputs.specs.Outputs as answers
 use Rattle.kmin_report.proofs.Results.{if_err_map, memory_err}
 use Rattle.kmin_inputs.proofs.FailureCounts.{rises_later}
 use Rattle.kmin_outputs.proofs.Sequences.{read_none, read_rest, stopped_more, stopped_later, mapped}
-use Rattle.kmin_outputs.proofs.ErrorExits.{no_value, with_error}
+use Rattle.kc_solver.proofs.ErrorExits.{no_value}
+use Rattle.kmin_outputs.proofs.ErrorExits.{with_error}
 use Rattle.kmin_outputs.proofs.configurations.configured.Goals as goal
 
 pub returns-in_default : goal.returns-in_default

@@ -4,7 +4,8 @@ use Rattle.kc_dotconfig_model.specs.ConfigFiles.{empty_assignment}
 use Rattle.kc_config.proofs.UserValueUnits.{lies_alone}
 use Rattle.kmin_report.proofs.Results.{memory_err}
 use Rattle.kmin_outputs.proofs.Sequences.{loaded_one, read_one, stopped_path, stopped_for_memory}
-use Rattle.kmin_outputs.proofs.ErrorExits.{no_value, with_error}
+use Rattle.kc_solver.proofs.ErrorExits.{no_value}
+use Rattle.kmin_outputs.proofs.ErrorExits.{with_error}
 use Rattle.kmin_outputs.proofs.configurations.configured_by.Goals as goal
 
 pub returns-in_err-fragment : goal.returns-in_err-fragment

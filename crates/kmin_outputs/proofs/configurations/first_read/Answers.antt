@@ -1,4 +1,4 @@
-use Rattle.kmin_outputs.proofs.ErrorExits.{no_value}
+use Rattle.kc_solver.proofs.ErrorExits.{no_value}
 use Rattle.kmin_outputs.proofs.configurations.first_read.Goals as goal
 
 pub returns-in_err-config : goal.returns-in_err-config

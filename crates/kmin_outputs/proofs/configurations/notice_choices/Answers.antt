@@ -6,7 +6,7 @@ use Rattle.kmin_report.specs.StandardError.{TakesLines}
 use Rattle.kmin_outputs.specs.between.LoadStops.{refused, for_memory}
 use Rattle.kmin_report.proofs.Results.{memory_err}
 use Rattle.kmin_outputs.proofs.JobOutputs.{places_by}
-use Rattle.kmin_outputs.proofs.ErrorExits.{no_success}
+use Rattle.kc_solver.proofs.ErrorExits.{no_success}
 use Rattle.kmin_outputs.proofs.configurations.notice_choices.Goals as goal
 
 pub returns-in_err-lines : goal.returns-in_err-lines

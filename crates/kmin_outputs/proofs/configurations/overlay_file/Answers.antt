@@ -2,7 +2,8 @@ use Rattle.std.proofs.Common.{[], ◌∷◌, refl, arith}
 use Rattle.kc_rules.specs.between.SettledViews.{tree_of_settled}
 use Rattle.kmin_report.proofs.Results.{memory_err}
 use Rattle.kmin_outputs.proofs.Sequences.{loaded_one, read_one, stopped_path, stopped_for_memory}
-use Rattle.kmin_outputs.proofs.ErrorExits.{no_success, with_error}
+use Rattle.kc_solver.proofs.ErrorExits.{no_success}
+use Rattle.kmin_outputs.proofs.ErrorExits.{with_error}
 use Rattle.kmin_outputs.proofs.configurations.overlay_file.Goals as goal
 
 pub returns-in_err-fragment : goal.returns-in_err-fragment

@@ -5,7 +5,8 @@ use Rattle.kc_rules.specs.between.SettledViews.{tree_of_settled}
 use Rattle.kmin_inputs.proofs.FailureCounts.{rises_later}
 use Rattle.kmin_outputs.proofs.Sequences.{read_none, read_append, stopped_more, stopped_later}
 use Rattle.kmin_report.proofs.Lists.{paths_next, paths_at}
-use Rattle.kmin_outputs.proofs.ErrorExits.{no_value, with_error}
+use Rattle.kc_solver.proofs.ErrorExits.{no_value}
+use Rattle.kmin_outputs.proofs.ErrorExits.{with_error}
 use Rattle.kmin_outputs.proofs.configurations.overridden_by.Goals as goal
 
 pub loop-path-init : goal.loop-path-init

@@ -3,7 +3,8 @@ use Rattle.kmin_report.specs.Reports.{output_line}
 use Rattle.kmin_run.specs.BundleOutputs.{in_bundle, at_write}
 use Rattle.kmin_report.proofs.WriterLemmas.{lines_append}
 use Rattle.kmin_outputs.proofs.JobOutputs.{lines_kept}
-use Rattle.kmin_outputs.proofs.ErrorExits.{no_success, with_error, value_is_no_error, error_is}
+use Rattle.kc_solver.proofs.ErrorExits.{no_success}
+use Rattle.kmin_outputs.proofs.ErrorExits.{with_error, value_is_no_error, error_is}
 use Rattle.kmin_run.proofs.bundle_answer.run_bundle.Goals as goal
 
 pub returns-in_err-bundle : goal.returns-in_err-bundle

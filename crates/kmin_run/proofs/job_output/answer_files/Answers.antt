@@ -5,7 +5,8 @@ use Rattle.kmin_options.specs.Jobs.{settings_view}
 use Rattle.kmin_report.proofs.Results.{if_err_map}
 use Rattle.kmin_outputs.proofs.ReadFailures.{answering_unfailed}
 use Rattle.kmin_outputs.proofs.JobOutputs.{verb_answers, verb_stops, verb_status_small}
-use Rattle.kmin_outputs.proofs.ErrorExits.{no_value, with_error}
+use Rattle.kc_solver.proofs.ErrorExits.{no_value}
+use Rattle.kmin_outputs.proofs.ErrorExits.{with_error}
 use Rattle.kmin_run.proofs.job_output.answer_files.Goals as goal
 
 pub returns-in_err-read : goal.returns-in_err-read
