@@ -105,8 +105,8 @@ pub record IsParsedToEnd (s : NodeStore) (condition : Bool) (read : Result Expr 
   pub represents : Represents (exprs_in s) id (as_condition condition expr)
 
 -- a fault of the parser that reads all tokens is out of memory, or the fault that reading the tokens to the end gives
-abbrev pub IsExpressionRefused_spec : List Lexeme → Result Expr (ExprKind × List Lexeme) → ExprFault → Type 0
-IsExpressionRefused_spec all read e = IsOutOfMemory e ⊎ ((f : ExprKind × List Lexeme) × (read ≡ Err f) × (e ≡ fault_of all f))
+abbrev pub IsRefusedToEnd : List Lexeme → Result Expr (ExprKind × List Lexeme) → ExprFault → Type 0
+IsRefusedToEnd all read e = IsOutOfMemory e ⊎ ((f : ExprKind × List Lexeme) × (read ≡ Err f) × (e ≡ fault_of all f))
 
 -- a fault that the parser returns is the fault that reading the tokens gives
 abbrev pub MeetsFault : List Lexeme → Read → ExprFault → Type 0
