@@ -13,11 +13,17 @@ use Rattle.kc_config_reasons.specs.declared.file_lines.FileLines.{FileLines}
 use Rattle.kc_config_reasons.specs.declared.places.Overridden.{Overridden}
 use Rattle.kc_config_reasons.specs.between.FileLines.{line_view, KeepsLines}
 use Rattle.kc_config_reasons.specs.between.Places.{file_numbers}
+use Rattle.kc_explanation.proofs.ExplanationLemmas.{joined_three}
 use Rattle.kmin_explain.specs.Explanations.{SourcesModel}
 use Rattle.kmin_missed.specs.MissedLines.{overridden_row, missed_row, missed_rows}
 use Rattle.kmin_explain.specs.checker.FileLineTexts.{line_in}
 use Rattle.kmin_missed.specs.checker.RowTexts.{overridden_row_text}
 use Rattle.kmin_explain.proofs.AskedTexts.{kept_at}
+
+-- four texts, each appended to what was there
+pub joined_four : (old one two three four a b c d : List ℕ) → one ≡ old ++ a → two ≡ one ++ b → three ≡ two ++ c → four ≡ three ++ d
+    → four ≡ old ++ (a ++ (b ++ (c ++ d)))
+joined_four old one two three four a b c d h1 h2 h3 h4 = h4 ∙ ap (λ x. x ++ d) (joined_three old one two three a b c h1 h2 h3) ∙ simp append_assoc
 
 module _ (g : SourcesModel) (s : ℕ) (kind : Kind) (files : List FileLines) (all : AllZip (KeepsLines g.tree) g.meanings files) where
   abbrev u : ℕ

@@ -1,6 +1,6 @@
 use Rattle.std.proofs.Common.{◌++◌, ap, ◌∙◌}
 use Rattle.kc_explanation.specs.Asked.{line_place}
-use Rattle.kc_explanation.proofs.ExplanationLemmas.{joined_four}
+use Rattle.kmin_missed.proofs.RowTexts.{joined_four}
 use Rattle.kmin_missed.proofs.missed_lines.push_both_rows.Goals as goal
 
 pub returns : goal.returns
