@@ -2,18 +2,4 @@
 #![tactic(auto)]
 
 #[cfg(test)]
-mod disks;
-#[cfg(test)]
-mod sessions;
-#[cfg(test)]
-mod streams;
-#[cfg(test)]
-mod sums;
-#[cfg(test)]
-mod systems;
-#[cfg(test)]
-mod text_lines;
-#[cfg(test)]
-mod texts;
-#[cfg(test)]
-mod updated_files;
+mod tests;

@@ -2,7 +2,7 @@ use Rattle.std.proofs.Common.{◌≡◌, ◌<◌, ◌≤◌, arith, get_or, leng
 use Rattle.std.specs.List.{Contains}
 use Rattle.std.proofs.lemmas.List.Elements.{Contains-get_or}
 use Rattle.std.proofs.lemmas.Option.{slice_get-get_or}
-use Rattle.kmin_base_tests.proofs.sums.SumsSystem.eval.Goals as goal
+use Rattle.kmin_base_tests.proofs.tests.sums.SumsSystem.eval.Goals as goal
 
 dependency : (row items : List ℕ) (i : ℕ) → items ≡ row → i < length items → Contains row (get_or items i 0)
 dependency row items i e h = rw (← e) (Contains-get_or items i 0 h)

@@ -1,5 +1,5 @@
 use Rattle.std.proofs.Common.{◌≡◌, ◌+◌, ◌-◌, ◌<◌, ◌≤◌, ℕ, length, slice_index}
-use Rattle.kmin_base_tests.proofs.sums.is_row.Given as goal
+use Rattle.kmin_base_tests.proofs.tests.sums.is_row.Given as goal
 
 abbrev pub invariant-loop-d : goal.invariant-loop-d
 invariant-loop-d l = record {

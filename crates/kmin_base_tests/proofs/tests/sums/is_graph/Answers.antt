@@ -2,7 +2,7 @@ use Rattle.std.proofs.Common.{inl, inr, length, sym, subst, arith}
 use Rattle.std.proofs.lemmas.Bool.{cases_eq}
 use Rattle.kmin_base_tests.specs.Sums.{row_at, IsRow}
 use Rattle.kmin_base_tests.proofs.SumRows.{row_is}
-use Rattle.kmin_base_tests.proofs.sums.is_graph.Goals as goal
+use Rattle.kmin_base_tests.proofs.tests.sums.is_graph.Goals as goal
 
 pub loop-row-preserved : goal.loop-row-preserved
 loop-row-preserved c =

@@ -1,6 +1,6 @@
 use Rattle.std.proofs.Common.{◌<◌, ◌≤◌, ℕ, length}
 use Rattle.kmin_base_tests.specs.Sums.{row_at, IsRow}
-use Rattle.kmin_base_tests.proofs.sums.is_graph.Given as goal
+use Rattle.kmin_base_tests.proofs.tests.sums.is_graph.Given as goal
 
 abbrev pub invariant-loop-row : goal.invariant-loop-row
 invariant-loop-row l = record {

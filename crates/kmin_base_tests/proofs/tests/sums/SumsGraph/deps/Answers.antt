@@ -1,6 +1,6 @@
 use Rattle.std.proofs.Common.{sym, ◌∙◌}
 use Rattle.kmin_base_tests.proofs.SumRows.{row_at-is}
-use Rattle.kmin_base_tests.proofs.sums.SumsGraph.deps.Goals as goal
+use Rattle.kmin_base_tests.proofs.tests.sums.SumsGraph.deps.Goals as goal
 
 pub returns : goal.returns
 returns c = record {

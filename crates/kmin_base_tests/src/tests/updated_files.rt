@@ -52,12 +52,9 @@ fn is_replaced_or_made(rt: &HostRuntime) -> Result<bool, Fail> {
     Ok(holds)
 }
 
-// Where an allocation is refused the disk differs, so each test tries once more, over a new disk.
 #[test]
 fn a_file_is_given_other_bytes(rt: HostRuntime) -> Result<(), Fail> {
-    let holds = is_replaced_or_made(&rt)? || is_replaced_or_made(&rt)?;
-    assert!(rt; holds);
-    Ok(())
+    holds_over_disk!(rt, is_replaced_or_made)
 }
 
 /// Whether files that have the wanted bytes already are left as they are, on a disk where every change would fail.
@@ -104,9 +101,7 @@ fn is_kept_by_each_failure(rt: &HostRuntime) -> Result<bool, Fail> {
 
 #[test]
 fn each_call_fails_in_turn(rt: HostRuntime) -> Result<(), Fail> {
-    let holds = is_kept_by_each_failure(&rt)? || is_kept_by_each_failure(&rt)?;
-    assert!(rt; holds);
-    Ok(())
+    holds_over_disk!(rt, is_kept_by_each_failure)
 }
 
 /// Whether the faults report a new file that can't be removed, and then a folder that isn't synced. In the second run the name
@@ -129,9 +124,7 @@ fn are_reported(rt: &HostRuntime) -> Result<bool, Fail> {
 
 #[test]
 fn a_remaining_new_file_and_an_unsynced_folder_are_reported(rt: HostRuntime) -> Result<(), Fail> {
-    let holds = are_reported(&rt)? || are_reported(&rt)?;
-    assert!(rt; holds);
-    Ok(())
+    holds_over_disk!(rt, are_reported)
 }
 
 /// Whether a file stays as it is where a read of it fails, even if it has the wanted bytes, and the read is counted. Then, with
@@ -155,9 +148,7 @@ fn are_unread(rt: &HostRuntime) -> Result<bool, Fail> {
 
 #[test]
 fn a_file_is_unread(rt: HostRuntime) -> Result<(), Fail> {
-    let holds = are_unread(&rt)? || are_unread(&rt)?;
-    assert!(rt; holds);
-    Ok(())
+    holds_over_disk!(rt, are_unread)
 }
 
 #[test]

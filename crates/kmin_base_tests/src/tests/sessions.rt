@@ -5,7 +5,7 @@ ghost use Rattle.kmin_base_tests.specs.Sums.{row_at};
 
 use super::sums::{Sums, Tally, fit_changes};
 use super::systems::{order_of, sums_of};
-use kc_solver::{Order, ChangedUnits, Session};
+use kc_solver::{ChangedUnits, Order, Session};
 use kmin_fakes::twice;
 use std::alloc::{AllocError, Global};
 use std::process::Abort;

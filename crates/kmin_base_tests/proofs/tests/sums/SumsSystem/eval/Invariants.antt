@@ -1,5 +1,5 @@
 use Rattle.std.proofs.Common.{◌≡◌, ◌+◌, ◌≤◌, take, length, min, sum_by, slice_index}
-use Rattle.kmin_base_tests.proofs.sums.SumsSystem.eval.Given as goal
+use Rattle.kmin_base_tests.proofs.tests.sums.SumsSystem.eval.Given as goal
 
 abbrev pub invariant-loop-d : goal.invariant-loop-d
 invariant-loop-d l = record {

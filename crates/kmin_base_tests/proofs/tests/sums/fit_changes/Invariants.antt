@@ -1,6 +1,6 @@
 use Rattle.std.proofs.Common.{◌≡◌, ◌<◌, ◌≤◌, ℕ, Option, Some, IfSome, length, slice_get}
 use Rattle.kmin_base_tests.specs.Sums.{IsSmall}
-use Rattle.kmin_base_tests.proofs.sums.fit_changes.Given as goal
+use Rattle.kmin_base_tests.proofs.tests.sums.fit_changes.Given as goal
 
 abbrev pub invariant-loop-u : goal.invariant-loop-u
 invariant-loop-u l = record {

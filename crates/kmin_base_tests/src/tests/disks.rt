@@ -44,12 +44,9 @@ fn is_replaced_or_made(rt: &HostRuntime) -> Result<bool, Fail> {
     Ok(holds)
 }
 
-// Where an allocation is refused the disk differs, so each test tries once more, over a new disk.
 #[test]
 fn a_file_is_replaced_or_made(rt: HostRuntime) -> Result<(), Fail> {
-    let holds = is_replaced_or_made(&rt)? || is_replaced_or_made(&rt)?;
-    assert!(rt; holds);
-    Ok(())
+    holds_over_disk!(rt, is_replaced_or_made)
 }
 
 /// Whether the old file stays where any call fails. The calls are a creation, three writes, a sync and a rename; where the
@@ -68,9 +65,7 @@ fn is_kept_by_each_failure(rt: &HostRuntime) -> Result<bool, Fail> {
 
 #[test]
 fn each_call_fails_in_turn(rt: HostRuntime) -> Result<(), Fail> {
-    let holds = is_kept_by_each_failure(&rt)? || is_kept_by_each_failure(&rt)?;
-    assert!(rt; holds);
-    Ok(())
+    holds_over_disk!(rt, is_kept_by_each_failure)
 }
 
 /// Whether the new bytes are in place where the folder isn't synced.
@@ -87,9 +82,7 @@ fn is_in_place_unsynced(rt: &HostRuntime) -> Result<bool, Fail> {
 
 #[test]
 fn a_folder_is_not_synced(rt: HostRuntime) -> Result<(), Fail> {
-    let holds = is_in_place_unsynced(&rt)? || is_in_place_unsynced(&rt)?;
-    assert!(rt; holds);
-    Ok(())
+    holds_over_disk!(rt, is_in_place_unsynced)
 }
 
 /// The path of the new file that a failed replacement couldn't remove.
@@ -118,8 +111,8 @@ fn remains_after(rt: &HostRuntime, calls: u64) -> Result<bool, Fail> {
 #[test]
 fn a_new_file_remains_where_its_removal_fails(rt: HostRuntime) -> Result<(), Fail> {
     for calls in 1..6 {
-        let holds = remains_after(&rt, calls)? || remains_after(&rt, calls)?;
-        assert!(rt; holds);
+        let result: Result<(), Fail> = holds_over_disk!(rt, remains_after, calls);
+        result?;
     }
     Ok(())
 }
@@ -139,9 +132,7 @@ fn is_kept_where_names_are_taken(rt: &HostRuntime) -> Result<bool, Fail> {
 
 #[test]
 fn all_names_of_new_files_are_taken(rt: HostRuntime) -> Result<(), Fail> {
-    let holds = is_kept_where_names_are_taken(&rt)? || is_kept_where_names_are_taken(&rt)?;
-    assert!(rt; holds);
-    Ok(())
+    holds_over_disk!(rt, is_kept_where_names_are_taken)
 }
 
 /// Whether a write that takes nothing is a failure, and a file without bytes needs none.
@@ -157,9 +148,7 @@ fn is_unchanged_by_an_empty_write(rt: &HostRuntime) -> Result<bool, Fail> {
 
 #[test]
 fn a_write_takes_nothing(rt: HostRuntime) -> Result<(), Fail> {
-    let holds = is_unchanged_by_an_empty_write(&rt)? || is_unchanged_by_an_empty_write(&rt)?;
-    assert!(rt; holds);
-    Ok(())
+    holds_over_disk!(rt, is_unchanged_by_an_empty_write)
 }
 
 #[test]
