@@ -6,7 +6,7 @@ ghost use Rattle.kc_answers.specs.ReadAnswers.{end_of_file};
 ghost use Rattle.kc_answers.specs.checker.AnswerFaults.{no_memory};
 ghost use Rattle.kc_answers.specs.checker.LinesView.{bytes_of, lines_view, last_line};
 
-use super::answer_table::AnswerTable;
+use super::answers::Answers;
 use super::line_records::{fault_of_size, fault_on_next_line, malformed_line, record_line};
 use bstr::ByteSlice;
 use kc_macros_model::{AnswersFault, AnswersKind};
@@ -44,7 +44,7 @@ fn fault_of_cut_line(count: u32, line: &[u8], kind: AnswersKind) -> AnswersFault
 
 /// Records what comes after the last newline of a file, and its end.
 fn record_last<'a>(
-    table: &mut AnswerTable,
+    table: &mut Answers,
     count: u32,
     waiting: Option<&'a [u8]>,
     rest: &'a [u8],
@@ -67,7 +67,7 @@ fn record_last<'a>(
 
 /// Records the answers of all lines of a file of answers; `cut` is the fault that ended the bytes of the file early, if one did.
 pub(crate) fn record_lines(
-    table: &mut AnswerTable,
+    table: &mut Answers,
     bytes: &[u8],
     cut: Option<AnswersKind>,
 ) -> Result<(), AnswersFault>

@@ -8,7 +8,7 @@ ghost use Rattle.kc_answers.specs.checker.LineView.{line_view};
 ghost use Rattle.kc_answers.specs.checker.LinesView.{bytes_of, lines_view};
 
 use super::answer_lines::{AnswerLine, meaning_of_line, without_white_end};
-use super::answer_table::AnswerTable;
+use super::answers::Answers;
 use kc_macros_model::{AnswersFault, AnswersKind};
 use kc_value::{MAX_ANSWER_LINE_BYTES, MAX_ANSWER_LINES};
 
@@ -97,7 +97,7 @@ fn is_same_answer(first: Option<&[u8]>, second: Option<&[u8]>) -> bool
 
 /// Records an answer, unless the question has another one.
 fn record_answer(
-    table: &mut AnswerTable,
+    table: &mut Answers,
     count: u32,
     question: &[u8],
     answer: Option<&[u8]>,
@@ -107,7 +107,7 @@ fn record_answer(
     ensures err { IfErr result (λ f. (f ≡ no_memory) ⊎ (with_answer (lines_view count None table.old) question.now (bytes_of answer.entry) (keyword_in_table table.old question.now) ≡ Err f)) }
     ensures extends { take (length table.old) table.new ≡ table.old }
 {
-    if let Some(earlier) = table.get(question) {
+    if let Some(earlier) = table.answer(question) {
         if is_same_answer(earlier, answer) {
             return Ok(());
         }
@@ -119,7 +119,7 @@ fn record_answer(
 
 /// Records a line by its meaning. Returns the question of a command that waits for its answer after it.
 fn record_meaning<'a>(
-    table: &mut AnswerTable,
+    table: &mut Answers,
     count: u32,
     waiting: Option<&'a [u8]>,
     meaning: AnswerLine<'a>,
@@ -143,7 +143,7 @@ fn record_meaning<'a>(
 /// Records the answer that line `count + 1` of a file of answers gives; `line` is without its newline. Returns the question of a
 /// command on the line, whose answer must come on the next one.
 pub(crate) fn record_line<'a>(
-    table: &mut AnswerTable,
+    table: &mut Answers,
     count: u32,
     waiting: Option<&'a [u8]>,
     line: &'a [u8],

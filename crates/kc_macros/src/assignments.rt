@@ -10,8 +10,8 @@ ghost use Rattle.kc_macros.specs.Runs.{place_of, Runs, end_of};
 use super::bindings::Bindings;
 use super::bytes::Bytes;
 use super::events::{fault, spend};
-use super::partial_value::value_length;
 use super::expansion_state::ExpansionState;
+use super::partial_value::value_length;
 use super::stop::{Place, Stop};
 use super::text_values::text_value;
 use super::variable::Variable;
@@ -38,7 +38,11 @@ fn store(run: &mut ExpansionState<'_>, at: Place<'_>, length: usize) -> Result<(
 }
 
 /// Stores a value as a simple variable.
-fn stored_simple(run: &mut ExpansionState<'_>, at: Place<'_>, value: Option<Bytes>) -> Result<Variable, Stop>
+fn stored_simple(
+    run: &mut ExpansionState<'_>,
+    at: Place<'_>,
+    value: Option<Bytes>,
+) -> Result<Variable, Stop>
     ensures { Runs run.old run.new (stored_simple (place_of at.entry) value) (end_of variable_of result) }
 {
     store(run, at, value_length(&value))?;
@@ -46,7 +50,11 @@ fn stored_simple(run: &mut ExpansionState<'_>, at: Place<'_>, value: Option<Byte
 }
 
 /// Stores a text as a recursive variable.
-fn stored_recursive(run: &mut ExpansionState<'_>, at: Place<'_>, text: Bytes) -> Result<Variable, Stop>
+fn stored_recursive(
+    run: &mut ExpansionState<'_>,
+    at: Place<'_>,
+    text: Bytes,
+) -> Result<Variable, Stop>
     ensures { Runs run.old run.new (stored_recursive (place_of at.entry) text) (end_of variable_of result) }
 {
     store(run, at, text.as_slice().len())?;

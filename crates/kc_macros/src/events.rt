@@ -98,7 +98,11 @@ fn unanswered_value(
 
 /// The text of the answer to a question, empty for a name that isn't set. Without an answer it is `None`, or a fault where each
 /// question must have an answer.
-pub(crate) fn ask(run: &mut ExpansionState<'_>, at: Place<'_>, question: &[u8]) -> Result<Option<Bytes>, Stop>
+pub(crate) fn ask(
+    run: &mut ExpansionState<'_>,
+    at: Place<'_>,
+    question: &[u8],
+) -> Result<Option<Bytes>, Stop>
     ensures { Runs run.old run.new (asked_value (place_of at.entry) question.now) (end_of (λ v. v) result) }
 {
     match run.answer(question) {

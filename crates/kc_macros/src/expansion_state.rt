@@ -7,7 +7,7 @@ ghost use Rattle.kc_answers.specs.RunStates.{run_at_start, open_questions, with_
 ghost use Rattle.kc_macros.specs.Runs.{notice_of};
 
 use super::stop::MacroNotice;
-use kc_answers::{AnswerTable, Answers};
+use kc_answers::Answers;
 use kc_value::{MAX_WORK, Seed};
 use std::alloc::{AllocError, Global};
 use std::marker::Model;
@@ -21,7 +21,7 @@ pub struct ExpansionState<'a> {
     all_answered: bool,
     left: usize,
     notices: Vec<MacroNotice>,
-    questions: AnswerTable,
+    questions: Answers,
 }
 
 impl<'a> Model for ExpansionState<'a> {
@@ -29,14 +29,19 @@ impl<'a> Model for ExpansionState<'a> {
     ghost use Rattle.kc_answers.specs.RunStates.{RunState, questions_of};
     ghost use Rattle.kc_macros.specs.Runs.{notice_of};
 
-    ghost Value = { ExpansionState_spec };
+    ghost Value = { RunState };
 
     ghost view = { λ r. record { answers = r.answers.now; all_answered = r.all_answered; left = r.left; notices = map notice_of r.notices.items; questions = questions_of r.questions } };
 }
 
 impl<'a> ExpansionState<'a> {
     /// A run of the expansion at its start; with `all_answered` a question without an answer is a fault.
-    pub fn new(alloc: Global, seed: Seed, answers: &'a Answers, all_answered: bool) -> ExpansionState<'a>
+    pub fn new(
+        alloc: Global,
+        seed: Seed,
+        answers: &'a Answers,
+        all_answered: bool,
+    ) -> ExpansionState<'a>
         ensures { result ≡ run_at_start answers.now all_answered }
     {
         ExpansionState {
@@ -45,7 +50,7 @@ impl<'a> ExpansionState<'a> {
             all_answered,
             left: MAX_WORK,
             notices: Vec::new(alloc),
-            questions: AnswerTable::new(alloc, seed),
+            questions: Answers::new(alloc, seed),
         }
     }
 
@@ -93,7 +98,7 @@ impl<'a> ExpansionState<'a> {
     pub fn keep_not_asked(&self, questions: &mut Vec<Vec<u8>>)
         ensures { map (λ (q : Vec ℕ Global). q.items) questions.new.items ≡ not_in self.now.questions (map (λ (q : Vec ℕ Global). q.items) questions.old.items) }
     {
-        self.questions.keep_missing(questions);
+        self.questions.keep_open(questions);
     }
 
     /// The work that the run may still spend.

@@ -6,12 +6,12 @@ mod bindings;
 mod built_in_functions;
 mod bytes;
 mod events;
+mod expansion_state;
 mod frame;
 mod names;
 mod parameter;
 mod partial_value;
 mod references;
-mod expansion_state;
 mod steps;
 mod stop;
 mod text_values;
@@ -22,6 +22,7 @@ pub use bindings::Bindings;
 pub use built_in_functions::is_text;
 pub use bytes::Bytes;
 pub use events::fault;
+pub use expansion_state::ExpansionState;
 pub use frame::with_innermost;
 pub use kc_macros_model::{
     AnswersFault, AnswersKind, MacroKind, MacroNoticeKind, Operator, TokenSort,
@@ -31,7 +32,6 @@ pub use kc_value::{
     MAX_TEXT_BYTES, MAX_WORK,
 };
 pub use references::{begins_reference_at, inside_length, reference_at_front};
-pub use expansion_state::ExpansionState;
 pub use stop::{MacroFault, MacroNotice, Place, Stop};
 pub use text_values::text_value;
 pub use variable::Variable;

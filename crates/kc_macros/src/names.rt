@@ -9,8 +9,8 @@ ghost use Rattle.kc_macros.specs.checker.BuiltIns.{message_text, message_value};
 use super::built_in_functions::{arity, built_in, is_text};
 use super::bytes::Bytes;
 use super::events::{ask, fault, report};
-use super::parameter::is_number;
 use super::expansion_state::ExpansionState;
+use super::parameter::is_number;
 use super::stop::{Place, Stop};
 use itoa::Buffer;
 use kc_answers::{is_environment_name, without_white_end};
@@ -88,7 +88,11 @@ fn notice_value(
 }
 
 /// The value of `error-if`: a fault with this text, if there is one, and else empty.
-fn error_value(run: &mut ExpansionState<'_>, at: Place<'_>, text: Option<&[u8]>) -> Result<Option<Bytes>, Stop>
+fn error_value(
+    run: &mut ExpansionState<'_>,
+    at: Place<'_>,
+    text: Option<&[u8]>,
+) -> Result<Option<Bytes>, Stop>
     ensures { Runs run.old run.new (message_value (fault_program (place_of at.entry) MacroKind.Error) (option_map (λ t. t.now) text.entry)) (end_of (λ v. v) result) }
 {
     match text {

@@ -13,10 +13,10 @@ ghost use Rattle.kc_macros.specs.checker.Frames.{frame_place, frame_item, frame_
 
 use super::bytes::Bytes;
 use super::events::{fault, spend};
+use super::expansion_state::ExpansionState;
 use super::frame::{Frame, is_recursion, with_innermost};
 use super::partial_value::{PartialValue, push_text, value_length};
 use super::references::{pieces, plain_length, reference_at_front};
-use super::expansion_state::ExpansionState;
 use super::stop::{Place, Stop};
 use kc_macros_model::MacroKind;
 use kc_value::MAX_PIECES;
@@ -65,7 +65,7 @@ pub(crate) fn names_within<'a>(
     name: &'a [u8],
     args: &[Option<Bytes>],
 ) -> Result<Vec<&'a [u8]>, Stop>
-    ensures { (sub : Expander) (s : ExpansionState_spec) (t : List ℕ) → Steps s s (named_value sub (place_of at.entry) (texts_of_slices names.now) name.now args.now (Some (recursive t))) (λ ns. sub (texts_of_slices ns.items) args.now t) result }
+    ensures { (sub : Expander) (s : RunState) (t : List ℕ) → Steps s s (named_value sub (place_of at.entry) (texts_of_slices names.now) name.now args.now (Some (recursive t))) (λ ns. sub (texts_of_slices ns.items) args.now t) result }
 {
     if is_recursion(names, name, args) {
         return Err(fault(alloc, at, MacroKind::Recursion, name));
@@ -80,7 +80,7 @@ pub(crate) fn reference_pieces<'t>(
     inside: &'t [u8],
 ) -> Result<Vec<&'t [u8]>, Stop>
     requires no_argument { argument_of frame.now.args.now inside.now ≡ None }
-    ensures { (s : ExpansionState_spec) → Steps s s (frame_item frame.now (reference inside.now)) (λ ps. frame_call frame.now (texts_of_slices ps.items)) result }
+    ensures { (s : RunState) → Steps s s (frame_item frame.now (reference inside.now)) (λ ps. frame_call frame.now (texts_of_slices ps.items)) result }
 {
     let pieces = pieces(alloc, inside)?;
     if pieces.len() > MAX_PIECES {
@@ -98,7 +98,7 @@ pub(crate) fn next_reference<'t>(
     out: &mut PartialValue,
 ) -> Result<Option<(&'t [u8], &'t [u8])>, Stop>
     requires small { length out.old.bytes.items ≤ MAX_TEXT_BYTES }
-    ensures steps { (s : ExpansionState_spec) → Steps s s (values_left (frame_place frame.now) (frame_item frame.now) out.old.known out.old.bytes.items (items false 0 text.now)) (λ r. values_left (frame_place frame.now) (frame_item frame.now) out.new.known out.new.bytes.items (items_from r)) result }
+    ensures steps { (s : RunState) → Steps s s (values_left (frame_place frame.now) (frame_item frame.now) out.old.known out.old.bytes.items (items false 0 text.now)) (λ r. values_left (frame_place frame.now) (frame_item frame.now) out.new.known out.new.bytes.items (items_from r)) result }
     ensures shorter { IfOk result (λ r. IfSome r (λ p. length p.1.now < length text.now)) }
     ensures small { IfOk result (λ r. length out.new.bytes.items ≤ MAX_TEXT_BYTES) }
 {

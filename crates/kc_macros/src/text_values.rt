@@ -1,7 +1,6 @@
 //! The value of a text: each reference in it replaced by its value, from left to right.
-ghost use Rattle.std.specs.Prelude.{◌≤◌, ◌∷◌, List, Some, length, OnOk};
+ghost use Rattle.std.specs.Prelude.{◌≤◌, ◌∷◌, List, length, OnOk};
 ghost use Rattle.kc_macros_model.specs.References.{Item, reference};
-ghost use Rattle.kc_macros_model.specs.Variables.{recursive};
 ghost use Rattle.kc_macros_model.specs.Expansion.{piece_values, call_value, named_value, text_value};
 ghost use Rattle.kc_value.specs.declared.limits.TheConstants.{MAX_TEXT_BYTES};
 ghost use Rattle.kc_macros.specs.between.Variables.{bindings_of};
@@ -14,11 +13,11 @@ ghost use Rattle.kc_macros.specs.checker.Frames.{frame_place, frame_bindings, fr
 use super::bindings::Bindings;
 use super::bytes::Bytes;
 use super::events::fault;
+use super::expansion_state::ExpansionState;
 use super::frame::Frame;
 use super::names::unbound_value;
 use super::parameter::argument_of;
 use super::partial_value::{PartialValue, copied_value, empty_value, push_value, value_if_known};
-use super::expansion_state::ExpansionState;
 use super::steps::{inner_frame, names_within, next_reference, paid_value, reference_pieces};
 use super::stop::{Place, Stop};
 use super::variable::Variable;
@@ -27,7 +26,11 @@ use kc_value::MAX_OPEN_EXPANSIONS;
 
 /// The value of a text in a frame; a fault where too many expansions are open within each other.
 #[cycle(expansion)]
-fn expanded(run: &mut ExpansionState<'_>, frame: &Frame<'_>, text: &[u8]) -> Result<Option<Bytes>, Stop>
+fn expanded(
+    run: &mut ExpansionState<'_>,
+    frame: &Frame<'_>,
+    text: &[u8],
+) -> Result<Option<Bytes>, Stop>
     ensures { Runs run.old run.new (frame_value frame.now text.now) (end_of (λ v. v) result) }
 {
     let inner = inner_frame(run, frame, text)?;
@@ -37,7 +40,11 @@ fn expanded(run: &mut ExpansionState<'_>, frame: &Frame<'_>, text: &[u8]) -> Res
 
 /// The values of the items of a text, one after the other.
 #[cycle(expansion)]
-fn text_items(run: &mut ExpansionState<'_>, frame: &Frame<'_>, text: &[u8]) -> Result<Option<Bytes>, Stop>
+fn text_items(
+    run: &mut ExpansionState<'_>,
+    frame: &Frame<'_>,
+    text: &[u8],
+) -> Result<Option<Bytes>, Stop>
     ensures { Runs run.old run.new (frame_items frame.now text.now) (end_of (λ v. v) result) }
 {
     let mut out = empty_value(run.alloc());
@@ -131,31 +138,17 @@ fn named_value(
         None => unbound_value(run, frame.at, name, args),
         Some(Variable::Simple(value)) => copied_value(run.alloc(), value),
         Some(Variable::Recursive(text)) => {
-            recursive_value(run, frame, name, args, text.as_slice())
+            let names = names_within(run.alloc(), frame.at, frame.names, name, args)?;
+            let inner = Frame {
+                at: frame.at,
+                bindings: frame.bindings,
+                names: names.as_slice(),
+                args,
+                more: frame.more,
+            };
+            expanded(run, &inner, text.as_slice())
         }
     }
-}
-
-/// The value of a recursive variable with this text, called with these arguments.
-#[cycle(expansion)]
-fn recursive_value(
-    run: &mut ExpansionState<'_>,
-    frame: &Frame<'_>,
-    name: &[u8],
-    args: &[Option<Bytes>],
-    text: &[u8],
-) -> Result<Option<Bytes>, Stop>
-    ensures { Runs run.old run.new (named_value (frame_expander frame.now) (frame_place frame.now) (frame_names frame.now) name.now args.now (Some (recursive text.now))) (end_of (λ v. v) result) }
-{
-    let names = names_within(run.alloc(), frame.at, frame.names, name, args)?;
-    let inner = Frame {
-        at: frame.at,
-        bindings: frame.bindings,
-        names: names.as_slice(),
-        args,
-        more: frame.more,
-    };
-    expanded(run, &inner, text)
 }
 
 /// The value of a text of a line: each reference in it is replaced by its value, from left to right; unknown where it

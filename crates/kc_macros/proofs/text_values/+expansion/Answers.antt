@@ -2,6 +2,7 @@ use Rattle.std.proofs.Common.{◌∙◌, ◌-◌, false, [], ◌∷◌, Some, le
 use Rattle.std.proofs.lemmas.List.{at_drop_all}
 use Rattle.kc_macros_model.specs.Worlds.{returned}
 use Rattle.kc_macros.specs.between.Variables.{variable_of}
+use Rattle.kc_macros.specs.declared.variable.Variable.TheVariants.{Recursive}
 use Rattle.kc_macros.specs.checker.Pieces.{pieces_left}
 use Rattle.kc_macros_model.specs.References.{reference, items}
 use Rattle.kc_macros_model.specs.Expansion.{call_value, named_value, piece_values}
@@ -162,20 +163,32 @@ named_value-returns-in-Some-Simple t c =
     (ap (named_value (frame_expander f) (frame_place f) (frame_names f) c.args.name.now c.args.args.now)
     (sym c.in-Some-Simple.ensures ∙ ap (λ v. Some (variable_of v)) c.in-Some-Simple.field-0-is)) (c.copied_value.ensures s)
 
-pub recursive_value-returns-in_err-names : goal.recursive_value-returns-in_err-names
-recursive_value-returns-in_err-names t c =
-    passes_on _ _ _ _ c.in_err-names.field-0.0 _ c.from_residual.ensures.1 (c.in_err-names.ensures (frame_expander c.args.frame.now) c.args.run.now c.args.text.now)
+pub named_value-returns-in_err-names-in-Some-Recursive : goal.named_value-returns-in_err-names-in-Some-Recursive
+named_value-returns-in_err-names-in-Some-Recursive t c =
+    let f = c.args.frame.now in
+    let s = c.args.run.now in
+    let stop = c.in_err-names-in-Some-Recursive.field-0.0 in
+    let value = named_value (frame_expander f) (frame_place f) (frame_names f) c.args.name.now c.args.args.now in
+    passes_on _ _ _ _ stop _ c.from_residual.ensures.1
+    (runs_same s s (value (frame_bindings f c.args.name.now)) (value (Some (variable_of (Recursive c.in-Some-Recursive.text)))) (end_of_stop stop)
+    (ap value (sym c.in-Some-Recursive.ensures ∙ ap (λ v. Some (variable_of v)) c.in-Some-Recursive.field-0-is))
+    (c.in_err-names-in-Some-Recursive.ensures (frame_expander f) s c.in-Some-Recursive.text))
 
-pub recursive_value-returns : goal.recursive_value-returns
-recursive_value-returns t c =
+pub named_value-returns-in_ok-names-in-Some-Recursive : goal.named_value-returns-in_ok-names-in-Some-Recursive
+named_value-returns-in_ok-names-in-Some-Recursive t c =
     let f = c.args.frame.now in
     let s = c.args.run.now in
     let u = c.expanded.new.run in
     let e = end_of (λ v. v) c.expanded.result in
-    (c.in_ok-names.ensures (frame_expander f) s c.args.text.now).leads u e
-    (runs_same s u (frame_expander f (texts_of_slices c.in_ok-names.names.items) c.args.args.now c.args.text.now)
-    (frame_expander f (texts_of_slices c.as_slice.result.now) c.args.args.now c.args.text.now) e
-    (ap (λ ns. frame_expander f (texts_of_slices ns) c.args.args.now c.args.text.now) (sym c.as_slice.ensures.value)) c.expanded.ensures)
+    let value = named_value (frame_expander f) (frame_place f) (frame_names f) c.args.name.now c.args.args.now in
+    let expander = frame_expander f (texts_of_slices c.in_ok-names-in-Some-Recursive.names.items) c.args.args.now in
+    runs_same s u (value (frame_bindings f c.args.name.now)) (value (Some (variable_of (Recursive c.in-Some-Recursive.text)))) e
+    (ap value (sym c.in-Some-Recursive.ensures ∙ ap (λ v. Some (variable_of v)) c.in-Some-Recursive.field-0-is))
+    ((c.in_ok-names-in-Some-Recursive.ensures (frame_expander f) s c.in-Some-Recursive.text).leads u e
+    (runs_same s u (expander c.in-Some-Recursive.text)
+    (frame_expander f (texts_of_slices c.as_slice.result.now) c.args.args.now c.as_slice-in-Some-Recursive.result.now) e
+    (ap expander (sym c.as_slice-in-Some-Recursive.ensures) ∙ ap (λ ns. frame_expander f (texts_of_slices ns) c.args.args.now c.as_slice-in-Some-Recursive.result.now) (sym c.as_slice.ensures.value))
+    c.expanded.ensures))
 
 pub reference_value-returns-in-Some : goal.reference_value-returns-in-Some
 reference_value-returns-in-Some t c =

@@ -27,9 +27,6 @@ decreases-call_value l = 8 * l.frame.now.more + 4
 abbrev pub decreases-named_value : goal.decreases-named_value
 decreases-named_value l = 8 * l.frame.now.more + 3
 
-abbrev pub decreases-recursive_value : goal.decreases-recursive_value
-decreases-recursive_value l = 8 * l.frame.now.more + 2
-
 abbrev pub decreases-piece_values : goal.decreases-piece_values
 decreases-piece_values l = 8 * l.frame.now.more + 1
 

@@ -1,5 +1,15 @@
-use Rattle.std.proofs.Common.{rules}
+use Rattle.std.proofs.Common.{ap, ◌∙◌, cond, map, Some}
+use Rattle.std.specs.Prelude.{bytes_eq}
+use Rattle.kc_tree_model.specs.Keywords.{keyword_in_table}
+use Rattle.kc_answers.specs.checker.TableView.{answer_of_entry}
+use Rattle.kc_answers.proofs.TableLemmas.{answer_items}
+use Rattle.kc_answers.proofs.EntryLemmas.{inserted_at}
 use Rattle.kc_answers.proofs.answers.Answers.set.Goals as goal
 
-pub returns : goal.returns
-returns c = search rules
+pub returns-clause-ok : goal.returns-clause-ok
+returns-clause-ok c other =
+    ap (λ es. keyword_in_table (map answer_of_entry es) other) c.in_ok-insert.ensures.entries
+    ∙ inserted_at answer_items c.in_ok-question.question c.in_ok-text.text other c.self.inside.entries.entries
+    ∙ ap (λ t. cond (bytes_eq other c.in_ok-question.question.items) (Some (answer_items c.in_ok-text.text)) (keyword_in_table t other)) c.self.view_is
+    ∙ ap (λ q. cond (bytes_eq other q) (Some (answer_items c.in_ok-text.text)) (keyword_in_table c.args.self.now other)) c.in_ok-question.ensures.items
+    ∙ ap (λ a. cond (bytes_eq other c.args.question.now) (Some a) (keyword_in_table c.args.self.now other)) c.in_ok-text.ensures

@@ -9,4 +9,4 @@ use Rattle.kc_macros.proofs.expansion_state.ExpansionState.keep_not_asked.Goals 
 pub returns : goal.returns
 returns c =
     let questions = map (λ (q : Vec ℕ Global). q.items) c.args.questions.now.items in
-    c.keep_missing.ensures ∙ missing_are_not_in c.self.inside.questions questions ∙ ap (λ (s : RunState). not_in s.questions questions) c.self.view_is
+    c.keep_open.ensures ∙ missing_are_not_in c.self.inside.questions questions ∙ ap (λ (s : RunState). not_in s.questions questions) c.self.view_is

@@ -4,7 +4,7 @@ use Rattle.std.specs.declared.alloc.Global.{Global}
 use Rattle.std.proofs.lemmas.Fn.{filter_same}
 use Rattle.kc_tree_model.specs.Keywords.{keyword_in_table}
 use Rattle.kc_answers.proofs.TableLemmas.{filtered_items}
-use Rattle.kc_answers.proofs.answer_table.AnswerTable.keep_missing.Goals as goal
+use Rattle.kc_answers.proofs.answers.Answers.keep_open.Goals as goal
 
 pub returns : goal.returns
 returns c =

@@ -2,7 +2,7 @@ use Rattle.std.proofs.lemmas.Iterator.{items_from_collect}
 use Rattle.std.proofs.lemmas.Iterator.Consumers.{YieldsList-from_rest}
 use Rattle.std.specs.Map.{keys_of}
 use Rattle.kc_answers.proofs.TableLemmas.{questions_collected}
-use Rattle.kc_answers.proofs.answer_table.AnswerTable.into_questions.Goals as goal
+use Rattle.kc_answers.proofs.answers.Answers.into_questions.Goals as goal
 
 pub returns : goal.returns
 returns c =

@@ -2,7 +2,7 @@ use Rattle.std.proofs.Common.{ap, ◌∙◌, sym, Some}
 use Rattle.std.specs.Prelude.{option_map}
 use Rattle.kc_tree_model.specs.Keywords.{keyword_in_table}
 use Rattle.kc_answers.proofs.TableLemmas.{answer_items, find_answer}
-use Rattle.kc_answers.proofs.answer_table.AnswerTable.get.Goals as goal
+use Rattle.kc_answers.proofs.answers.Answers.answer.Goals as goal
 
 pub returns-in_err-text : goal.returns-in_err-text
 returns-in_err-text c =

@@ -1,5 +1,5 @@
 use Rattle.std.proofs.Common.{rules}
-use Rattle.kc_answers.proofs.answers.read_whole.Goals as goal
+use Rattle.kc_answers.proofs.answer_files.read_whole.Goals as goal
 
 pub returns-in-AtEnd : goal.returns-in-AtEnd
 returns-in-AtEnd g c = search rules

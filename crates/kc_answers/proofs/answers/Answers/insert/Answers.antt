@@ -3,7 +3,7 @@ use Rattle.std.specs.Prelude.{◌≡◌}
 use Rattle.kc_tree_model.specs.Keywords.{keyword_in_table}
 use Rattle.kc_answers.specs.checker.TableView.{answer_of_entry}
 use Rattle.kc_answers.proofs.TableLemmas.{answer_items, insert_absent}
-use Rattle.kc_answers.proofs.answer_table.AnswerTable.insert.Goals as goal
+use Rattle.kc_answers.proofs.answers.Answers.insert.Goals as goal
 
 pub returns-clause-ok : goal.returns-clause-ok
 returns-clause-ok c =

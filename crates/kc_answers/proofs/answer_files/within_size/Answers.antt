@@ -1,7 +1,7 @@
 use Rattle.std.proofs.Common.{sym, arith}
 use Rattle.std.proofs.lemmas.List.{length-take-le, take_all}
 use Rattle.kc_value.specs.declared.limits.TheConstants.{MAX_ANSWER_BYTES}
-use Rattle.kc_answers.proofs.answers.within_size.Goals as goal
+use Rattle.kc_answers.proofs.answer_files.within_size.Goals as goal
 
 pub slice_bounds-result-end : goal.slice_bounds-result-end
 slice_bounds-result-end c = sym (length-take-le MAX_ANSWER_BYTES c.args.bytes.now (omega arith))

@@ -1,7 +1,7 @@
 use Rattle.std.proofs.Common.{ap, ◌∙◌, map, take}
 use Rattle.kc_answers.specs.checker.TableView.{answer_of_entry}
 use Rattle.kc_answers.proofs.TableLemmas.{take_entries}
-use Rattle.kc_answers.proofs.answer_table.AnswerTable.truncate.Goals as goal
+use Rattle.kc_answers.proofs.answers.Answers.truncate.Goals as goal
 
 pub returns : goal.returns
 returns c =

@@ -6,7 +6,7 @@ use Rattle.std.proofs.lemmas.List.{append-nil}
 use Rattle.std.proofs.lemmas.Map.Iter.{rest_all}
 use Rattle.kc_answers.specs.RunStates.{questions_of}
 use Rattle.kc_answers.proofs.TableLemmas.{questions_of_keys}
-use Rattle.kc_answers.proofs.answer_table.AnswerTable.questions.Goals as goal
+use Rattle.kc_answers.proofs.answers.Answers.questions.Goals as goal
 
 pub returns : goal.returns
 returns c =
