@@ -9,7 +9,7 @@ ghost use Rattle.kc_macros.specs.checker.Events.{spent};
 
 use super::bytes::Bytes;
 use super::expansion_state::ExpansionState;
-use super::stop::{MacroFault, MacroNotice, Place, Stop};
+use super::stop::{MacroFault, MacroNotice, Place, Stop, ValueResult};
 use kc_macros_model::{MacroKind, MacroNoticeKind};
 use std::alloc::{AllocError, Global};
 
@@ -57,7 +57,7 @@ pub(crate) fn report(
     at: Place<'_>,
     kind: MacroNoticeKind,
     text: &[u8],
-) -> Result<Option<Bytes>, Stop>
+) -> ValueResult
     ensures { Runs run.old run.new (reported (place_of at.entry) kind text.now) (end_of (λ v. v) result) }
 {
     let notice = MacroNotice {
@@ -81,11 +81,7 @@ fn answered_value(alloc: Global, answer: Option<&[u8]>) -> Result<Bytes, AllocEr
 }
 
 /// The value of a question without an answer: unknown, or a fault where each question must have one.
-fn unanswered_value(
-    run: &mut ExpansionState<'_>,
-    at: Place<'_>,
-    question: &[u8],
-) -> Result<Option<Bytes>, Stop>
+fn unanswered_value(run: &mut ExpansionState<'_>, at: Place<'_>, question: &[u8]) -> ValueResult
     requires unanswered { keyword_in_table run.old.answers question.now ≡ None }
     ensures run { Runs run.old run.new (asked_value (place_of at.entry) question.now) (end_of (λ v. v) result) }
 {
@@ -98,11 +94,7 @@ fn unanswered_value(
 
 /// The text of the answer to a question, empty for a name that isn't set. Without an answer it is `None`, or a fault where each
 /// question must have an answer.
-pub(crate) fn ask(
-    run: &mut ExpansionState<'_>,
-    at: Place<'_>,
-    question: &[u8],
-) -> Result<Option<Bytes>, Stop>
+pub(crate) fn ask(run: &mut ExpansionState<'_>, at: Place<'_>, question: &[u8]) -> ValueResult
     ensures { Runs run.old run.new (asked_value (place_of at.entry) question.now) (end_of (λ v. v) result) }
 {
     match run.answer(question) {

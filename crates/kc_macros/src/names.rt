@@ -11,7 +11,7 @@ use super::bytes::Bytes;
 use super::events::{ask, fault, report};
 use super::expansion_state::ExpansionState;
 use super::parameter::is_number;
-use super::stop::{Place, Stop};
+use super::stop::{Place, ValueResult};
 use itoa::Buffer;
 use kc_answers::{is_environment_name, without_white_end};
 use kc_macros_model::{BuiltIn, MacroKind, MacroNoticeKind};
@@ -36,11 +36,7 @@ fn command_question(alloc: Global, command: &[u8]) -> Result<Vec<u8>, AllocError
 }
 
 /// The value of `shell`: the answer to its command, if both are known.
-fn shell_value(
-    run: &mut ExpansionState<'_>,
-    at: Place<'_>,
-    command: &Option<Bytes>,
-) -> Result<Option<Bytes>, Stop>
+fn shell_value(run: &mut ExpansionState<'_>, at: Place<'_>, command: &Option<Bytes>) -> ValueResult
     ensures { Runs run.old run.new (shell_value (place_of at.entry) command.now) (end_of (λ v. v) result) }
 {
     match command {
@@ -78,7 +74,7 @@ fn notice_value(
     at: Place<'_>,
     kind: MacroNoticeKind,
     text: Option<&[u8]>,
-) -> Result<Option<Bytes>, Stop>
+) -> ValueResult
     ensures { Runs run.old run.new (message_value (reported (place_of at.entry) kind) (option_map (λ t. t.now) text.entry)) (end_of (λ v. v) result) }
 {
     match text {
@@ -88,11 +84,7 @@ fn notice_value(
 }
 
 /// The value of `error-if`: a fault with this text, if there is one, and else empty.
-fn error_value(
-    run: &mut ExpansionState<'_>,
-    at: Place<'_>,
-    text: Option<&[u8]>,
-) -> Result<Option<Bytes>, Stop>
+fn error_value(run: &mut ExpansionState<'_>, at: Place<'_>, text: Option<&[u8]>) -> ValueResult
     ensures { Runs run.old run.new (message_value (fault_program (place_of at.entry) MacroKind.Error) (option_map (λ t. t.now) text.entry)) (end_of (λ v. v) result) }
 {
     match text {
@@ -108,7 +100,7 @@ fn built_in_value(
     name: &[u8],
     function: BuiltIn,
     args: &[Option<Bytes>],
-) -> Result<Option<Bytes>, Stop>
+) -> ValueResult
     ensures { Runs run.old run.new (built_in_value (place_of at.entry) name.now function args.now) (end_of (λ v. v) result) }
 {
     if args.len() != arity(function) {
@@ -137,7 +129,7 @@ fn other_value(
     at: Place<'_>,
     name: &[u8],
     args: &[Option<Bytes>],
-) -> Result<Option<Bytes>, Stop>
+) -> ValueResult
     ensures { Runs run.old run.new (other_value (place_of at.entry) name.now args.now) (end_of (λ v. v) result) }
 {
     if !args.is_empty() {
@@ -159,7 +151,7 @@ pub(crate) fn unbound_value(
     at: Place<'_>,
     name: &[u8],
     args: &[Option<Bytes>],
-) -> Result<Option<Bytes>, Stop>
+) -> ValueResult
     ensures { Runs run.old run.new (unbound_value (place_of at.entry) name.now args.now (keyword_in_table built_ins name.now)) (end_of (λ v. v) result) }
 {
     match built_in(name) {

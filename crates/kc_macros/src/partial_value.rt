@@ -9,7 +9,7 @@ ghost use Rattle.kc_macros.specs.checker.PartialValues.{known_bytes, value_if_kn
 
 use super::bytes::Bytes;
 use super::events::fault;
-use super::stop::{Place, Stop};
+use super::stop::{Place, Stop, ValueResult};
 use kc_macros_model::MacroKind;
 use kc_value::MAX_TEXT_BYTES;
 use std::alloc::Global;
@@ -94,7 +94,7 @@ pub(crate) fn value_if_known(out: PartialValue) -> Option<Bytes>
 }
 
 /// A copy of a value, which is `None` if it is unknown.
-pub(crate) fn copied_value(alloc: Global, value: &Option<Bytes>) -> Result<Option<Bytes>, Stop>
+pub(crate) fn copied_value(alloc: Global, value: &Option<Bytes>) -> ValueResult
     ensures { (s : RunState) → Runs s s (returns value.now) (end_of (λ v. v) result) }
 {
     match value {

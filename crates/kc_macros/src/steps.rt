@@ -17,7 +17,7 @@ use super::expansion_state::ExpansionState;
 use super::frame::{Frame, is_recursion, with_innermost};
 use super::partial_value::{PartialValue, push_text, value_length};
 use super::references::{pieces, plain_length, reference_at_front};
-use super::stop::{Place, Stop};
+use super::stop::{Place, Stop, ValueResult};
 use kc_macros_model::MacroKind;
 use kc_value::MAX_PIECES;
 use std::alloc::Global;
@@ -50,7 +50,7 @@ pub(crate) fn paid_value(
     run: &mut ExpansionState<'_>,
     at: Place<'_>,
     value: Option<Bytes>,
-) -> Result<Option<Bytes>, Stop>
+) -> ValueResult
     ensures { Runs run.old run.new (paid (place_of at.entry) value) (end_of (λ v. v) result) }
 {
     spend(run, at, value_length(&value))?;

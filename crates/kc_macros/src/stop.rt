@@ -39,6 +39,9 @@ pub enum Stop {
     OutOfMemory,
 }
 
+/// The value of a text, `None` where it depends on a question without an answer; or why the expansion stops.
+pub(crate) type ValueResult = Result<Option<Bytes>, Stop>;
+
 impl From<AllocError> for Stop {
     ghost use Rattle.std.specs.Prelude.{◌≡◌};
     ghost use Rattle.kc_macros.specs.declared.stop.Stop.TheVariants.{OutOfMemory};

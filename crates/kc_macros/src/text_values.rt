@@ -19,18 +19,14 @@ use super::names::unbound_value;
 use super::parameter::argument_of;
 use super::partial_value::{PartialValue, copied_value, empty_value, push_value, value_if_known};
 use super::steps::{inner_frame, names_within, next_reference, paid_value, reference_pieces};
-use super::stop::{Place, Stop};
+use super::stop::{Place, Stop, ValueResult};
 use super::variable::Variable;
 use kc_macros_model::MacroKind;
 use kc_value::MAX_OPEN_EXPANSIONS;
 
 /// The value of a text in a frame; a fault where too many expansions are open within each other.
 #[cycle(expansion)]
-fn expanded(
-    run: &mut ExpansionState<'_>,
-    frame: &Frame<'_>,
-    text: &[u8],
-) -> Result<Option<Bytes>, Stop>
+fn expanded(run: &mut ExpansionState<'_>, frame: &Frame<'_>, text: &[u8]) -> ValueResult
     ensures { Runs run.old run.new (frame_value frame.now text.now) (end_of (λ v. v) result) }
 {
     let inner = inner_frame(run, frame, text)?;
@@ -40,11 +36,7 @@ fn expanded(
 
 /// The values of the items of a text, one after the other.
 #[cycle(expansion)]
-fn text_items(
-    run: &mut ExpansionState<'_>,
-    frame: &Frame<'_>,
-    text: &[u8],
-) -> Result<Option<Bytes>, Stop>
+fn text_items(run: &mut ExpansionState<'_>, frame: &Frame<'_>, text: &[u8]) -> ValueResult
     ensures { Runs run.old run.new (frame_items frame.now text.now) (end_of (λ v. v) result) }
 {
     let mut out = empty_value(run.alloc());
@@ -74,11 +66,7 @@ fn push_reference(
 
 /// The value of a reference, by the bytes between its parentheses.
 #[cycle(expansion)]
-fn reference_value(
-    run: &mut ExpansionState<'_>,
-    frame: &Frame<'_>,
-    inside: &[u8],
-) -> Result<Option<Bytes>, Stop>
+fn reference_value(run: &mut ExpansionState<'_>, frame: &Frame<'_>, inside: &[u8]) -> ValueResult
     ensures { Runs run.old run.new (frame_item frame.now (reference inside.now)) (end_of (λ v. v) result) }
 {
     if let Some(value) = argument_of(frame.args, inside) {
@@ -112,7 +100,7 @@ fn call_value(
     run: &mut ExpansionState<'_>,
     frame: &Frame<'_>,
     values: &[Option<Bytes>],
-) -> Result<Option<Bytes>, Stop>
+) -> ValueResult
     ensures { Runs run.old run.new (call_value (frame_expander frame.now) (frame_place frame.now) (frame_bindings frame.now) (frame_names frame.now) values.now) (end_of (λ v. v) result) }
 {
     if values.is_empty() {
@@ -131,7 +119,7 @@ fn named_value(
     frame: &Frame<'_>,
     name: &[u8],
     args: &[Option<Bytes>],
-) -> Result<Option<Bytes>, Stop>
+) -> ValueResult
     ensures { Runs run.old run.new (named_value (frame_expander frame.now) (frame_place frame.now) (frame_names frame.now) name.now args.now (frame_bindings frame.now name.now)) (end_of (λ v. v) result) }
 {
     match frame.bindings.get(name) {
@@ -162,7 +150,7 @@ pub fn text_value(
     at: Place<'_>,
     bindings: &Bindings,
     text: &[u8],
-) -> Result<Option<Bytes>, Stop>
+) -> ValueResult
     ensures { Runs run.old run.new (text_value (place_of at.entry) (bindings_of bindings.now) text.now) (end_of (λ v. v) result) }
 {
     let frame = Frame {
