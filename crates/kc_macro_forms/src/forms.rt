@@ -62,7 +62,7 @@ fn sort_of_source(word: &[u8]) -> SourceSort
 
 /// The form of a line of two tokens, of which the first is this word.
 fn form_of_two_words<'t>(word: &[u8], token: &'t WrittenToken) -> LineForm<'t>
-    ensures { form_view result ≡ form_of_two_words word.now (token_of token.now) }
+    ensures { form_view result ≡ form_of_pair word.now (token_of token.now) }
 {
     let bytes = token.bytes.as_slice();
     if is_source_word(word) && is_path(token) {
@@ -82,7 +82,7 @@ fn form_of_two_words<'t>(word: &[u8], token: &'t WrittenToken) -> LineForm<'t>
 
 /// The form of a line by its first word, its second token, and whether no token comes after it.
 fn form_of_words<'t>(word: &[u8], token: &'t WrittenToken, alone: bool) -> LineForm<'t>
-    ensures { form_view result ≡ form_of_words word.now (token_of token.now) alone }
+    ensures { form_view result ≡ form_by word.now (token_of token.now) alone }
 {
     if is_prompt_word(word) && is_bare_prompt(token) {
         return LineForm::BarePrompt(token.bytes.as_slice());
