@@ -60,21 +60,15 @@ fn take_assignment(gathered: &mut Accumulator, unit: u32, user: UserValue) -> Re
 }
 
 /// Lists what the next line gives to a member of a choice, whose unit is `unit`. An `Err` means out of memory.
-fn list_choice(
-    gathered: &mut Accumulator,
-    unit: u32,
-    member: Sym,
-    is_y: bool,
-) -> Result<(), AllocError>
+fn list_choice(gathered: &mut Accumulator, unit: u32, given: MemberLine) -> Result<(), AllocError>
     requires few { gathered.old.lines < MAX_CONFIG_LINES }
     ensures entries { gathered.new.assigns ≡ gathered.old.assigns }
     ensures members { gathered.new.members.entries ≡ gathered.old.members.entries }
     ensures notices { gathered.new.notices.items ≡ gathered.old.notices.items }
-    ensures chosen { OnOk result (gathered.new.chosen.items ≡ gathered.old.chosen.items ++ record { unit = unit; given = record { member = member; is_y = is_y }; line = gathered.old.lines + 1 } ∷ []) }
+    ensures chosen { OnOk result (gathered.new.chosen.items ≡ gathered.old.chosen.items ++ record { unit = unit; given = given; line = gathered.old.lines + 1 } ∷ []) }
     ensures lines { gathered.new.lines ≡ gathered.old.lines }
 {
     let line = gathered.lines + 1;
-    let given = MemberLine { member, is_y };
     gathered.chosen.push(ChoiceLine { unit, given, line })?;
     Ok(())
 }
@@ -89,7 +83,8 @@ fn take_chosen(gathered: &mut Accumulator, unit: u32, s: Sym) -> Result<(), Allo
     ensures lines { OnOk result (gathered.new.lines ≡ gathered.old.lines + 1) }
     ensures err { OnErr result (gathered.new.lines ≡ gathered.old.lines) }
 {
-    list_choice(gathered, unit, s, true)?;
+    let is_y = true;
+    list_choice(gathered, unit, MemberLine { member: s, is_y })?;
     take_assignment(gathered, unit, UserValue::Member(s))
 }
 
@@ -104,7 +99,8 @@ fn take_unchosen(gathered: &mut Accumulator, unit: u32, s: Sym) -> Result<(), Al
     ensures lines { OnOk result (gathered.new.lines ≡ gathered.old.lines + 1) }
     ensures err { OnErr result (gathered.new.lines ≡ gathered.old.lines) }
 {
-    list_choice(gathered, unit, s, false)?;
+    let is_y = false;
+    list_choice(gathered, unit, MemberLine { member: s, is_y })?;
     gathered.lines += 1;
     Ok(())
 }

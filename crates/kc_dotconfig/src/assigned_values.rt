@@ -91,15 +91,10 @@ impl AssignedValues {
     pub(crate) fn into_map(self) -> Result<BTreeMap<u32, UserValue>, AllocError>
         ensures { IfOk result (λ map. map.entries ≡ self) }
     {
-        let AssignedValues {
-            alloc,
-            listed,
-            mapped,
-        } = self;
-        if mapped.is_empty() {
-            map_of(alloc, listed)
+        if self.mapped.is_empty() {
+            map_of(self.alloc, self.listed)
         } else {
-            Ok(mapped)
+            Ok(self.mapped)
         }
     }
 
@@ -107,14 +102,9 @@ impl AssignedValues {
     pub(crate) fn into_list(self) -> Result<Vec<(u32, UserValue)>, AllocError>
         ensures { IfOk result (λ list. list.items ≡ self) }
     {
-        let AssignedValues {
-            alloc,
-            listed,
-            mapped,
-        } = self;
-        if mapped.is_empty() {
-            return Ok(listed);
+        if self.mapped.is_empty() {
+            return Ok(self.listed);
         }
-        mapped.into_iter().collect(alloc)
+        self.mapped.into_iter().collect(self.alloc)
     }
 }
