@@ -30,19 +30,18 @@ pub fn parts_at<'a>(under: &Valuation<'a>, id: ExprId) -> ExprParts<'a>
     under.rules.tree.arena().parts(id)
 }
 
-/// Appends an expression, if it is below what is wanted of it.
+/// Appends an expression with what is wanted of it, if it is below that.
 fn push_if_low(
     under: &Valuation<'_>,
-    id: ExprId,
-    wanted: Tri,
+    part: LowPart,
     found: &mut Vec<LowPart>,
 ) -> Result<(), AllocError>
-    requires there { id < length (valuation_exprs under.now).nodes }
-    ensures parts { OnOk result (found.new.items ≡ found.old.items ++ (if below (condition (valuation_tree under.now) (valuation_values under.now) (node_expr (valuation_exprs under.now) id)) wanted then record { expr = id; wanted = wanted } ∷ [] else [])) }
+    requires there { IsThere (valuation_exprs under.now) part }
+    ensures parts { OnOk result (found.new.items ≡ found.old.items ++ (if below (condition (valuation_tree under.now) (valuation_values under.now) (node_expr (valuation_exprs under.now) part.expr)) part.wanted then part ∷ [] else [])) }
     ensures there { OnOk result (All (IsThere (valuation_exprs under.now)) found.old.items → All (IsThere (valuation_exprs under.now)) found.new.items) }
 {
-    if is_below(under.condition(id), wanted) {
-        found.push(LowPart { expr: id, wanted })?;
+    if is_below(under.condition(part.expr), part.wanted) {
+        found.push(part)?;
         Ok(())
     } else {
         Ok(())
@@ -64,6 +63,10 @@ fn push_lacking(
     let mut at = id;
     let mut least = wanted;
     'down: loop {
+        let here = LowPart {
+            expr: at,
+            wanted: least,
+        };
         match parts_at(under, at) {
             ExprParts::Both(left, right) => {
                 push_lacking(under, right, least, found)?;
@@ -76,10 +79,10 @@ fn push_lacking(
                 least = Tri::M;
                 at = part;
             }
-            ExprParts::Alone(_) => return push_if_low(under, at, least, found),
-            ExprParts::Related(_, _, _) => return push_if_low(under, at, least, found),
-            ExprParts::Negated(_) => return push_if_low(under, at, least, found),
-            ExprParts::Either(_, _) => return push_if_low(under, at, least, found),
+            ExprParts::Alone(_) => return push_if_low(under, here, found),
+            ExprParts::Related(_, _, _) => return push_if_low(under, here, found),
+            ExprParts::Negated(_) => return push_if_low(under, here, found),
+            ExprParts::Either(_, _) => return push_if_low(under, here, found),
         }
     }
 }

@@ -1,11 +1,12 @@
 //! What hinders that a choice has the member that its user value asks for.
-ghost use Rattle.std.specs.Prelude.{◌≡◌, ◌<◌, ◌==◌, ◌&&◌, not, length, IfOk, Some};
+ghost use Rattle.std.specs.Prelude.{◌≡◌, ◌<◌, ◌==◌, ◌&&◌, not, length, IfOk, IfSome, Some};
 ghost use Rattle.std.specs.List.{list_any};
 ghost use Rattle.kc_tree.specs.between.Views.{choice_view, ChoiceFits};
 ghost use Rattle.kc_evaluation.specs.checker.ValuationView.{valuation_tree, valuation_exprs, valuation_values};
 ghost use Rattle.kc_rules_model.specs.declared.values.UserValue.TheVariants.{Lines as LinesUser};
+ghost use Rattle.kc_rules_model.specs.Rule.{assigned_member};
 ghost use Rattle.kc_dotconfig_model.specs.MissedAssignments.{is_given_n};
-ghost use Rattle.kc_reasons_model.specs.declared.cases.Hindrance.TheVariants.{FirstOfAll};
+ghost use Rattle.kc_reasons_model.specs.Cases.{choice_case};
 ghost use Rattle.kc_reasons_model.specs.Hindrances.{hinders_member, hinders_listed, holds_of_member, is_given_y, is_asked_n, is_this, is_another, is_first_listed};
 
 use super::choices::choice_case;
@@ -114,24 +115,19 @@ fn is_first_listed(case: ChoiceCase) -> bool
     }
 }
 
-/// Whether a member is selected though it has `n`, as the first of all.
-fn is_first_of_all(
+/// Whether a choice with this user value has its member as the first that has `n`. An `Err` means out of memory.
+fn has_first_listed(
     alloc: Global,
     under: &Valuation<'_>,
     choice: &Choice<'_>,
-    s: Sym,
-    lines: &[MemberLine],
     user: &UserValue,
 ) -> Result<bool, AllocError>
     requires fits { ChoiceFits (valuation_exprs under.now) (length (valuation_tree under.now).symbols) choice.now }
-    requires lines { user.now ≡ LinesUser lines.now }
-    ensures ok { IfOk result (λ b. b ≡ hinders_listed FirstOfAll (valuation_tree under.now) (choice_view (valuation_exprs under.now) choice.now) s lines.now (valuation_values under.now)) }
+    requires user { IfSome (assigned_member (Some user.now)) (λ s. s < length (valuation_tree under.now).symbols) }
+    ensures ok { IfOk result (λ b. b ≡ is_first_listed (choice_case (valuation_tree under.now) (choice_view (valuation_exprs under.now) choice.now) (Some user.now) (valuation_values under.now))) }
 {
-    if !is_asked_n(lines, s) {
-        return Ok(false);
-    }
     let case = choice_case(alloc, under, choice, Some(user))?;
-    Ok(is_first_listed(case) && is_this(s, first_listed(under, lines)))
+    Ok(is_first_listed(case))
 }
 
 /// Whether a hindrance holds of what assignments of members ask of member `s`. An `Err` means out of memory.
@@ -152,7 +148,13 @@ pub(crate) fn hinders_listed(
     match hindrance {
         Hindrance::MemberHidden => Ok(is_given_y(lines, s) && !is_member_visible(under, s)),
         Hindrance::LaterY => Ok(is_given_y(lines, s) && is_another(s, last_y(under, lines))),
-        Hindrance::FirstOfAll => is_first_of_all(alloc, under, choice, s, lines, user),
+        Hindrance::FirstOfAll => {
+            if is_asked_n(lines, s) && is_this(s, first_listed(under, lines)) {
+                has_first_listed(alloc, under, choice, user)
+            } else {
+                Ok(false)
+            }
+        }
         Hindrance::BelowSelected => Ok(false),
         Hindrance::FromEnvironment => Ok(false),
         Hindrance::Hidden => Ok(false),

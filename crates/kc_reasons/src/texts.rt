@@ -1,15 +1,13 @@
 //! What gives a string its value, and what an int or hex has by default.
-ghost use Rattle.std.specs.Prelude.{◌≡◌, length, is_some};
-ghost use Rattle.std.specs.Option.{option_copied};
+ghost use Rattle.std.specs.Prelude.{◌≡◌, length, if◌then◌else◌};
 ghost use Rattle.kc_tree.specs.between.Views.{symbol_view, SymbolFits};
 ghost use Rattle.kc_evaluation.specs.checker.ValuationView.{valuation_tree, valuation_exprs, valuation_values};
 ghost use Rattle.kc_rules_model.specs.Rule.{active_default};
-ghost use Rattle.kc_reasons_model.specs.Cases.{default_case, number_default_case, string_case};
+ghost use Rattle.kc_reasons_model.specs.Cases.{default_case, number_default_case};
 
 use super::tristates::active_mark;
-use kc_evaluation::{Valuation, assigned_text, is_visible};
+use kc_evaluation::Valuation;
 use kc_reasons_model::TextCase;
-use kc_rules_model::UserValue;
 use kc_tree::Symbol;
 
 /// By the active default.
@@ -56,19 +54,14 @@ pub(crate) fn number_default_case(
     }
 }
 
-/// What gives a string its value.
-pub(crate) fn string_case(
-    under: &Valuation<'_>,
-    symbol: &Symbol<'_>,
-    user: Option<&UserValue>,
-) -> TextCase
+/// What gives a string its value, by whether the user's text counts.
+pub(crate) fn string_case(under: &Valuation<'_>, symbol: &Symbol<'_>, by_user: bool) -> TextCase
     requires fits { SymbolFits (valuation_exprs under.now) (length (valuation_tree under.now).symbols) symbol.now }
-    ensures value { result ≡ string_case (valuation_tree under.now) (symbol_view (valuation_exprs under.now) symbol.now) (option_copied user.entry) (valuation_values under.now) }
+    ensures value { result ≡ (if by_user then TextCase::User else default_case (active_default (valuation_tree under.now) (valuation_values under.now) (symbol_view (valuation_exprs under.now) symbol.now))) }
 {
-    if assigned_text(user).is_some() {
-        if is_visible(under, symbol) {
-            return TextCase::User;
-        }
+    if by_user {
+        TextCase::User
+    } else {
+        default_case(under, symbol)
     }
-    default_case(under, symbol)
 }
