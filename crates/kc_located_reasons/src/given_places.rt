@@ -5,25 +5,29 @@ ghost use Rattle.kc_tree.specs.between.Views.{symbol_view, default_view, range_v
 ghost use Rattle.kc_dependencies.specs.checker.StoredRules.{AreDefaults, AreRanges};
 ghost use Rattle.kc_evaluation.specs.checker.ValuationView.{valuation_tree, valuation_exprs, valuation_values};
 ghost use Rattle.kc_symbol_lines.specs.between.LinesView.{position_view, symbol_lines_view};
-ghost use Rattle.kc_located_reasons.specs.checker.ActivePlaces.{is_active_default, is_active_range};
+ghost use Rattle.kc_located_reasons.specs.checker.ActivePlaces.{is_active, is_active_default, is_active_range};
 ghost use Rattle.kc_located_reasons.specs.GivenPlaces.{default_place, range_place, given_place};
 
 use kc_evaluation::{Valuation, is_n};
+use kc_expr::ExprId;
 use kc_reasons::{Case, TextCase, TriCase};
 use kc_symbol_lines::{Position, SymbolLines};
 use kc_tree::{Default, Range, Symbol};
+
+/// Whether a condition isn't `n`.
+fn is_active(under: &Valuation<'_>, condition: ExprId) -> bool
+    requires there { condition < length (valuation_exprs under.now).nodes }
+    ensures { result ≡ is_active (valuation_tree under.now) (valuation_values under.now) (valuation_exprs under.now) condition }
+{
+    !is_n(under.condition(condition))
+}
 
 /// The number of the first default whose condition isn't `n`.
 fn active_default(under: &Valuation<'_>, defaults: &[Default]) -> Option<usize>
     requires fits { AreDefaults (valuation_exprs under.now) defaults.now }
     ensures { result ≡ position (is_active_default (valuation_tree under.now) (valuation_values under.now) (valuation_exprs under.now)) defaults.now }
 {
-    for i in 0..defaults.len() {
-        if !is_n(under.condition(defaults[i].condition)) {
-            return Some(i);
-        }
-    }
-    None
+    defaults.iter().position(|d| is_active(under, d.condition))
 }
 
 /// The number of the first range whose condition isn't `n`.
@@ -31,12 +35,7 @@ fn active_range(under: &Valuation<'_>, ranges: &[Range]) -> Option<usize>
     requires fits { AreRanges (valuation_exprs under.now) ranges.now }
     ensures { result ≡ position (is_active_range (valuation_tree under.now) (valuation_values under.now) (valuation_exprs under.now)) ranges.now }
 {
-    for i in 0..ranges.len() {
-        if !is_n(under.condition(ranges[i].condition)) {
-            return Some(i);
-        }
-    }
-    None
+    ranges.iter().position(|r| is_active(under, r.condition))
 }
 
 /// The place with a number, if there are both.
