@@ -5,7 +5,7 @@ use Rattle.std.specs.declared.alloc.AllocError.{AllocError}
 use Rattle.std.proofs.lemmas.Result.{IfOk-weaker}
 use Rattle.std.specs.Prelude.{unwrap_or, slice_get}
 use Rattle.std.proofs.lemmas.Bool.{cases_eq, ne_eqb}
-use Rattle.kc_minimal.specs.checker.LineGroups.{group_in, group_more, lines_at, line_from}
+use Rattle.kc_minimal.specs.checker.LineGroups.{group_in, group_more, lines_at, line_from, by_group}
 use Rattle.std.specs.List.{filter_map, range_with_len, cons_option, AllByRecursion}
 use Rattle.std.specs.List.Sorted.{IsStrictlySortedBy}
 use Rattle.std.specs.Map.{lookup, keys_of}
@@ -138,9 +138,6 @@ none_below u (g ∷ groups) all =
     other_group u g groups apart ∙ none_below u groups all.1
 
 module _ (tree : Tree) (values : List UnitValue) (lines : List (ℕ × ChoiceLine)) where
-  abbrev pub by_group : ℕ × Vec (ℕ × ChoiceLine) → Option (ℕ × ChoiceLine)
-  by_group g = line_from tree values g.0 (slice_get tree.units g.0) g.1.items
-
   abbrev by_unit : ℕ → Option (ℕ × ChoiceLine)
   by_unit u = other_line_of_unit tree values u (slice_get tree.units u) lines
 
@@ -153,11 +150,11 @@ module _ (tree : Tree) (values : List UnitValue) (lines : List (ℕ × ChoiceLin
 
   -- groups past the last unit give no line
   past_units : (a : ℕ) (groups : List (ℕ × Vec (ℕ × ChoiceLine))) → length tree.units ≤ a → AllByRecursion (λ u. a ≤ u) (keys_of groups)
-      → filter_map by_group groups ≡ []
+      → filter_map (by_group tree values) groups ≡ []
   past_units a [] h all = refl
   past_units a (g ∷ groups) h all =
       let past : slice_get tree.units g.0 ≡ None = slice_get_past tree.units g.0 (let more = all.0 in omega arith) in
-      ap (λ o. cons_option o (filter_map by_group groups)) (ap (λ unit. line_from tree values g.0 unit g.1.items) past)
+      ap (λ o. cons_option o (filter_map (by_group tree values) groups)) (ap (λ unit. line_from tree values g.0 unit g.1.items) past)
       ∙ past_units a groups h all.1
 
   -- a unit without lines gives no line
@@ -171,14 +168,14 @@ module _ (tree : Tree) (values : List UnitValue) (lines : List (ℕ × ChoiceLin
 
   -- one unit more before those that groups give the lines of
   one_unit : (n a : ℕ) (groups : List (ℕ × Vec (ℕ × ChoiceLine))) → FromUnit a groups
-      → ((others : List (ℕ × Vec (ℕ × ChoiceLine))) → FromUnit (a + 1) others → filter_map by_group others ≡ filter_map by_unit (range_with_len (a + 1) n))
-      → filter_map by_group groups ≡ filter_map by_unit (range_with_len a (suc n))
+      → ((others : List (ℕ × Vec (ℕ × ChoiceLine))) → FromUnit (a + 1) others → filter_map (by_group tree values) others ≡ filter_map by_unit (range_with_len (a + 1) n))
+      → filter_map (by_group tree values) groups ≡ filter_map by_unit (range_with_len a (suc n))
   one_unit n a [] from next = next [] (from.0, tt, λ u h. from.2 u (omega arith)) ∙ sym (skipped n a (sym (from.2 a (omega arith))))
   one_unit n a (g ∷ groups) from next = elim (cases_eq a g.0) [
     | inl here ↦
         let further : AllByRecursion (λ u. suc g.0 ≤ u) (keys_of groups) = above_first g.0 (keys_of groups) from.0 in
         let own_lines : g.1.items ≡ lines_of g.0 lines = sym (first_group g groups) ∙ from.2 g.0 (omega arith) in
-        ap (λ o. cons_option o (filter_map by_group groups)) (same_line g.0 (slice_get tree.units g.0) g.1.items own_lines ∙ ap by_unit (sym here))
+        ap (λ o. cons_option o (filter_map (by_group tree values) groups)) (same_line g.0 (slice_get tree.units g.0) g.1.items own_lines ∙ ap by_unit (sym here))
         ∙ ap (cons_option (by_unit a))
         (next groups (
           sorted_tail nat_cmp g.0 (keys_of groups) from.0,
@@ -195,12 +192,12 @@ module _ (tree : Tree) (values : List UnitValue) (lines : List (ℕ × ChoiceLin
 
   -- groups in order of units give the lines that all units give
   by_groups : (n a : ℕ) (groups : List (ℕ × Vec (ℕ × ChoiceLine))) → FromUnit a groups → a + n ≡ length tree.units
-      → filter_map by_group groups ≡ filter_map by_unit (range_with_len a n)
+      → filter_map (by_group tree values) groups ≡ filter_map by_unit (range_with_len a n)
   by_groups zero a groups from count = past_units a groups (omega arith) from.1
   by_groups (suc n) a groups from count = one_unit n a groups from (λ others further. by_groups n (a + 1) others further (omega arith))
 
   pub places_of_groups : (groups : List (ℕ × Vec (ℕ × ChoiceLine))) (found : List (ℕ × ℕ)) → IsStrictlySortedBy nat_cmp (keys_of groups)
-      → ((u : ℕ) → lines_at groups u ≡ lines_of u lines) → found ≡ map place_of (filter_map by_group groups) → found ≡ other_places tree values lines
+      → ((u : ℕ) → lines_at groups u ≡ lines_of u lines) → found ≡ map place_of (filter_map (by_group tree values) groups) → found ≡ other_places tree values lines
   places_of_groups groups found rising own is =
       is ∙ ap (map place_of) (by_groups (length tree.units) 0 groups (rising, from_zero (keys_of groups), λ u h. own u) (omega arith))
 

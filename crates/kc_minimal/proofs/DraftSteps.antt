@@ -129,6 +129,11 @@ module _ (format : FileFormat) (tree : Tree) (values : List UnitValue) (left : L
             ∙ sym (ap (λ p. old.text.items ++ p) (definition_pieces d true e)) ∙ d.whole;
       }
 
+-- a line that comes after an empty one where the last line ends a menu
+pub after_gap : (gap : Bool) (old mid new line : List ℕ) → mid ≡ cond gap (old ++ 10 ∷ []) old → new ≡ mid ++ line → new ≡ old ++ cond gap (10 ∷ line) line
+after_gap true old mid new line m n = n ∙ ap (λ t. t ++ line) m ∙ append_assoc old (10 ∷ []) line
+after_gap false old mid new line m n = n ∙ ap (λ t. t ++ line) m
+
 -- the entries of a tree from place `i` on are the entry at `i` and the entries from the next place on
 pub next_left : (entries : List Entry) (i : ℕ) (entry : Entry) → slice_get entries i ≡ Some entry → drop i entries ≡ entry ∷ drop (i + 1) entries
 next_left entries i entry at =

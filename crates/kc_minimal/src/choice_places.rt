@@ -1,6 +1,7 @@
 //! Choices of which lines select another member by the rules of Linux from 6.10 on than by those before.
 ghost use Rattle.std.specs.Prelude.{◌≡◌, ◌<◌, ◌++◌, ℕ, Some, length, map, option_to_list, slice_get, IfOk, OnOk};
 ghost use Rattle.std.specs.Global.{Vec};
+ghost use Rattle.std.specs.List.{filter_map};
 ghost use Rattle.std.specs.List.Sorted.{IsStrictlySortedBy};
 ghost use Rattle.std.specs.Map.{keys_of};
 ghost use Rattle.std.specs.Ordering.{nat_cmp};
@@ -10,8 +11,8 @@ ghost use Rattle.kc_rules_model.specs.declared.values.UnitValue.TheVariants.{Mem
 ghost use Rattle.kc_rules_model.specs.Equality.{value_is};
 ghost use Rattle.kc_rules_model.specs.SymbolValues.{member_of};
 ghost use Rattle.kc_rules.specs.between.SettledViews.{tree_of_settled};
-ghost use Rattle.kc_dotconfig_model.specs.OtherChoices.{has_no_version, placed_from, lines_of, given_by, last_line, last_n_line, noticed_line, other_line, place_of, other_places, other_choices_of};
-ghost use Rattle.kc_minimal.specs.checker.LineGroups.{lines_at, line_from};
+ghost use Rattle.kc_dotconfig_model.specs.OtherChoices.{has_no_version, placed_from, lines_of, given_by, last_line, last_n_line, noticed_line, other_line, place_of, other_choices_of};
+ghost use Rattle.kc_minimal.specs.checker.LineGroups.{lines_at, line_from, by_group};
 
 use kc_dotconfig::{ChoiceLine, add_item, last_lines};
 use kc_rules::{MemberLine, Settled, UnitValue};
@@ -214,6 +215,23 @@ fn push_place(
     Ok(())
 }
 
+/// The places of the notices on choices, in order of the choices, from the lines of each choice that has lines.
+fn group_places(
+    alloc: Global,
+    settled: &Settled,
+    values: &[UnitValue],
+    groups: Vec<(u32, Vec<(usize, ChoiceLine)>)>,
+) -> Result<Vec<(usize, u32)>, AllocError>
+    ensures { IfOk result (λ found. found.items ≡ map place_of (filter_map (by_group (tree_of_settled settled.now) values.now) groups.items)) }
+{
+    let mut found = Vec::new(alloc);
+    for (u, group) in groups {
+        let line = line_of_group(alloc, settled, values, u, &group)?;
+        push_place(&mut found, line)?;
+    }
+    Ok(found)
+}
+
 /// The places of the notices on choices of which the lines of members select another member by the rules of Linux from 6.10 on, with
 /// these values: the number of a file and of its line, in order of the choices. There are none where the tree has other rules than
 /// those before Linux 6.10, or its language says that these are meant. An `Err` means out of memory.
@@ -231,23 +249,6 @@ pub fn other_choices(
     if !has_no_version(settled.tree().language()) {
         return Ok(Vec::new(alloc));
     }
-    other_places(alloc, settled, values, lines)
-}
-
-/// The places of those notices, where the tree's language doesn't say its version.
-fn other_places(
-    alloc: Global,
-    settled: &Settled,
-    values: &[UnitValue],
-    lines: &[(usize, ChoiceLine)],
-) -> Result<Vec<(usize, u32)>, AllocError>
-    ensures { IfOk result (λ found. found.items ≡ other_places (tree_of_settled settled.now) values.now lines.now) }
-{
     let groups = groups_of(alloc, lines)?;
-    let mut found = Vec::new(alloc);
-    for (u, group) in groups {
-        let line = line_of_group(alloc, settled, values, u, &group)?;
-        push_place(&mut found, line)?;
-    }
-    Ok(found)
+    group_places(alloc, settled, values, groups)
 }

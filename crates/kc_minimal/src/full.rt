@@ -7,11 +7,10 @@ ghost use Rattle.kc_rules_model.specs.Reports.{is_written};
 ghost use Rattle.kc_rules.specs.between.SettledViews.{tree_of_settled, tree_model_of};
 ghost use Rattle.kc_dotconfig_model.specs.between.Formats.{file_format};
 ghost use Rattle.kc_dotconfig_model.specs.between.Prefixes.{prefix_bytes};
-ghost use Rattle.kc_minimal_model.specs.SymbolLine.{ended_line};
 ghost use Rattle.kc_minimal_model.specs.FullFile.{has_second_space, heading, end_line, applies, full_file};
 ghost use Rattle.kc_minimal.specs.checker.Drafts.{IsDraft};
 
-use crate::symbol_line::{is_n, push_symbol};
+use crate::symbol_line::{Written, is_n, push_between, push_symbol};
 use kc_dotconfig_model::{Format, Prefix, is_unset_text};
 use kc_expr::ExprId;
 use kc_rules::{Settled, UnitValue};
@@ -43,23 +42,18 @@ fn has_second_space(prefix: &Prefix, title: &str) -> bool
 fn push_heading(out: &mut Vec<u8>, prefix: &Prefix, title: &str) -> Result<(), AllocError>
     ensures { OnOk result (out.new.items ≡ out.old.items ++ heading (prefix_bytes prefix.now) title.now) }
 {
-    out.extend_from_slice(b"\n#\n# ")?;
     if has_second_space(prefix, title) {
-        out.push(b' ')?;
+        push_between(out, b"\n#\n#  ", title, b"\n#\n")
+    } else {
+        push_between(out, b"\n#\n# ", title, b"\n#\n")
     }
-    out.extend_from_slice(title.as_bytes())?;
-    out.extend_from_slice(b"\n#\n")?;
-    Ok(())
 }
 
 /// Appends the line that ends a menu, which has its title.
 fn push_end(out: &mut Vec<u8>, title: &str) -> Result<(), AllocError>
     ensures { OnOk result (out.new.items ≡ out.old.items ++ end_line title.now) }
 {
-    out.extend_from_slice(b"# end of ")?;
-    out.extend_from_slice(title.as_bytes())?;
-    out.push(b'\n')?;
-    Ok(())
+    push_between(out, b"# end of ", title, b"\n")
 }
 
 /// Whether a condition isn't `n`.
@@ -91,24 +85,17 @@ fn mark(defined: &mut Vec<bool>, s: Sym) -> bool
     fresh
 }
 
-/// Appends the line of a symbol; an empty line comes before it if the last line ends a menu (`gap`).
-fn push_spaced_line(
-    out: &mut Vec<u8>,
-    gap: bool,
-    settled: &Settled,
-    format: &Format,
-    values: &[UnitValue],
-    s: Sym,
-) -> Result<(), AllocError>
-    requires there { s < length (tree_of_settled settled.now).symbols }
-    ensures ok { OnOk result (out.new.items ≡ out.old.items ++ (if gap then 10 ∷ ended_line (file_format format.now) (tree_of_settled settled.now) values.now s else ended_line (file_format format.now) (tree_of_settled settled.now) values.now s)) }
+/// Appends an empty line if the last line that was written ends a menu.
+fn push_gap(draft: &mut Draft) -> Result<(), AllocError>
+    ensures text { OnOk result (draft.new.text.items ≡ (if draft.old.gap then draft.old.text.items ++ 10 ∷ [] else draft.old.text.items)) }
+    ensures gap { OnOk result (draft.new.gap ≡ false) }
+    ensures marks { draft.new.defined.items ≡ draft.old.defined.items }
 {
-    if gap {
-        out.push(b'\n')?;
-        push_symbol(out, settled, format, values, s)
-    } else {
-        push_symbol(out, settled, format, values, s)
+    if draft.gap {
+        draft.text.push(b'\n')?;
+        draft.gap = false;
     }
+    Ok(())
 }
 
 /// Whether a symbol's line is written at this definition, if it is the first one.
@@ -124,23 +111,16 @@ fn is_written_here(settled: &Settled, values: &[UnitValue], s: Sym, fresh: bool)
 }
 
 /// Goes over a definition: at its first one a symbol is written if a full file has it.
-fn push_definition(
-    draft: &mut Draft,
-    settled: &Settled,
-    format: &Format,
-    values: &[UnitValue],
-    s: Sym,
-) -> Result<(), AllocError>
-    requires symbol { s < length (tree_of_settled settled.now).symbols }
-    requires marks { length draft.old.defined.items ≡ length (tree_of_settled settled.now).symbols }
+fn push_definition(draft: &mut Draft, written: &Written<'_>, s: Sym) -> Result<(), AllocError>
+    requires symbol { s < length (tree_of_settled written.now.settled.now).symbols }
+    requires marks { length draft.old.defined.items ≡ length (tree_of_settled written.now.settled.now).symbols }
     ensures marks { length draft.new.defined.items ≡ length draft.old.defined.items }
-    ensures goes { OnOk result ((left : List TreeEntry) → IsDraft (file_format format.now) (tree_of_settled settled.now) values.now (definition s ∷ left) draft.old → IsDraft (file_format format.now) (tree_of_settled settled.now) values.now left draft.new) }
+    ensures goes { OnOk result ((left : List TreeEntry) → IsDraft (file_format written.now.format.now) (tree_of_settled written.now.settled.now) written.now.values.now (definition s ∷ left) draft.old → IsDraft (file_format written.now.format.now) (tree_of_settled written.now.settled.now) written.now.values.now left draft.new) }
 {
     let fresh = mark(&mut draft.defined, s);
-    if is_written_here(settled, values, s, fresh) {
-        push_spaced_line(&mut draft.text, draft.gap, settled, format, values, s)?;
-        draft.gap = false;
-        Ok(())
+    if is_written_here(written.settled, written.values, s, fresh) {
+        push_gap(draft)?;
+        push_symbol(&mut draft.text, written, s)
     } else {
         Ok(())
     }
@@ -176,20 +156,14 @@ fn push_menu_end(draft: &mut Draft, title: &str, shown: bool) -> Result<(), Allo
 }
 
 /// Goes over an entry.
-fn push_entry(
-    draft: &mut Draft,
-    settled: &Settled,
-    format: &Format,
-    values: &[UnitValue],
-    entry: &Entry<'_>,
-) -> Result<(), AllocError>
-    requires entry { EntryFits (length (tree_model_of settled.now).exprs.nodes) (length (tree_of_settled settled.now).symbols) (length (tree_of_settled settled.now).choices) entry.now }
-    requires marks { length draft.old.defined.items ≡ length (tree_of_settled settled.now).symbols }
+fn push_entry(draft: &mut Draft, written: &Written<'_>, entry: &Entry<'_>) -> Result<(), AllocError>
+    requires entry { EntryFits (length (tree_model_of written.now.settled.now).exprs.nodes) (length (tree_of_settled written.now.settled.now).symbols) (length (tree_of_settled written.now.settled.now).choices) entry.now }
+    requires marks { length draft.old.defined.items ≡ length (tree_of_settled written.now.settled.now).symbols }
     ensures marks { length draft.new.defined.items ≡ length draft.old.defined.items }
-    ensures goes { OnOk result ((left : List TreeEntry) → IsDraft (file_format format.now) (tree_of_settled settled.now) values.now (entry_view (tree_model_of settled.now).exprs entry.now ∷ left) draft.old → IsDraft (file_format format.now) (tree_of_settled settled.now) values.now left draft.new) }
+    ensures goes { OnOk result ((left : List TreeEntry) → IsDraft (file_format written.now.format.now) (tree_of_settled written.now.settled.now) written.now.values.now (entry_view (tree_model_of written.now.settled.now).exprs entry.now ∷ left) draft.old → IsDraft (file_format written.now.format.now) (tree_of_settled written.now.settled.now) written.now.values.now left draft.new) }
 {
     match *entry {
-        Entry::Definition(s) => push_definition(draft, settled, format, values, s),
+        Entry::Definition(s) => push_definition(draft, written, s),
         Entry::ChoiceBegins(_) => Ok(()),
         Entry::MenuBegins {
             title,
@@ -197,9 +171,9 @@ fn push_entry(
             visible,
         } => push_title(
             draft,
-            &format.prefix,
+            &written.format.prefix,
             title,
-            both_apply(settled, values, dependency, visible),
+            both_apply(written.settled, written.values, dependency, visible),
         ),
         Entry::MenuEnds {
             title,
@@ -208,14 +182,14 @@ fn push_entry(
         } => push_menu_end(
             draft,
             title,
-            both_apply(settled, values, dependency, visible),
+            both_apply(written.settled, written.values, dependency, visible),
         ),
         Entry::Comment { title, dependency } => {
             push_title(
                 draft,
-                &format.prefix,
+                &written.format.prefix,
                 title,
-                applies(settled, values, dependency),
+                applies(written.settled, written.values, dependency),
             )
         }
     }
@@ -238,8 +212,13 @@ pub(crate) fn full_lines(
         defined,
         gap: false,
     };
+    let written = Written {
+        settled,
+        format,
+        values,
+    };
     for i in 0..tree.entry_count() {
-        push_entry(&mut draft, settled, format, values, &tree.entry(i))?;
+        push_entry(&mut draft, &written, &tree.entry(i))?;
     }
     let Draft { text, .. } = draft;
     Ok(text)

@@ -6,7 +6,7 @@ ghost use Rattle.kc_minimal_model.specs.SymbolLine.{ended_line};
 ghost use Rattle.kc_minimal_model.specs.MinimalFile.{is_kept, has_line, minimal_file};
 ghost use Rattle.kc_minimal.specs.checker.Values.{FitValues, AreGivenBy};
 
-use crate::symbol_line::{is_n, push_symbol};
+use crate::symbol_line::{Written, is_n, push_symbol};
 use kc_dotconfig_model::Format;
 use kc_rules::{Settled, Steps, UnitValue, UserValue};
 use kc_solver::System;
@@ -70,7 +70,12 @@ fn push_if_kept(
 {
     let line = has_line(alloc, solved, s)?;
     if line {
-        push_symbol(out, solved.settled, format, solved.values, s)
+        let written = Written {
+            settled: solved.settled,
+            format,
+            values: solved.values,
+        };
+        push_symbol(out, &written, s)
     } else {
         Ok(())
     }

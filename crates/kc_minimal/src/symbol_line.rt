@@ -57,14 +57,25 @@ fn push_plain(out: &mut Vec<u8>, text: &str) -> Result<(), AllocError>
     }
 }
 
+/// Appends a text after some bytes and before others.
+pub(crate) fn push_between(
+    out: &mut Vec<u8>,
+    before: &[u8],
+    text: &str,
+    after: &[u8],
+) -> Result<(), AllocError>
+    ensures { OnOk result (out.new.items ≡ out.old.items ++ (before.now ++ (text.now ++ after.now))) }
+{
+    out.extend_from_slice(before)?;
+    out.extend_from_slice(text.as_bytes())?;
+    out.extend_from_slice(after)
+}
+
 /// Appends a text as it is between two `"`.
 fn push_raw(out: &mut Vec<u8>, text: &str) -> Result<(), AllocError>
     ensures { OnOk result (out.new.items ≡ out.old.items ++ between_quotes text.now) }
 {
-    out.push(b'"')?;
-    out.extend_from_slice(text.as_bytes())?;
-    out.push(b'"')?;
-    Ok(())
+    push_between(out, b"\"", text, b"\"")
 }
 
 /// Appends a string between quotes, escaped or raw as `strings` says.
@@ -126,18 +137,25 @@ fn push_line(
     }
 }
 
+/// What a file is written of: a settled tree with values of its units, and the file's format.
+#[derive(Clone, Copy)]
+pub(crate) struct Written<'a> {
+    pub settled: &'a Settled,
+    pub format: &'a Format,
+    pub values: &'a [UnitValue],
+}
+
 /// Appends the line of a symbol's value, with its newline: `is not set` for a bool or tristate of value `n`, otherwise an
 /// assignment. An `Err` means out of memory.
 pub(crate) fn push_symbol(
     out: &mut Vec<u8>,
-    settled: &Settled,
-    format: &Format,
-    values: &[UnitValue],
+    written: &Written<'_>,
     s: Sym,
 ) -> Result<(), AllocError>
-    requires there { s < length (tree_of_settled settled.now).symbols }
-    ensures ok { OnOk result (out.new.items ≡ out.old.items ++ ended_line (file_format format.now) (tree_of_settled settled.now) values.now s) }
+    requires there { s < length (tree_of_settled written.now.settled.now).symbols }
+    ensures ok { OnOk result (out.new.items ≡ out.old.items ++ ended_line (file_format written.now.format.now) (tree_of_settled written.now.settled.now) written.now.values.now s) }
 {
-    let value = settled.value_of_symbol(s, values);
-    push_line(out, format, settled.tree().name(s), &value)
+    let settled = written.settled;
+    let value = settled.value_of_symbol(s, written.values);
+    push_line(out, written.format, settled.tree().name(s), &value)
 }

@@ -30,3 +30,7 @@ line_from tree values u None lines = None
 line_from tree values u (Some (of_symbol s)) lines = None
 line_from tree values u (Some (of_choice c)) lines =
     option_and_then (λ (choice : Choice). other_line tree values choice (slice_get values u) lines) (slice_get tree.choices c)
+
+-- the line with the notice on the choice whose lines a group has
+abbrev pub by_group : Tree → List UnitValue → ℕ × Vec (ℕ × ChoiceLine) → Option (ℕ × ChoiceLine)
+by_group tree values g = line_from tree values g.0 (slice_get tree.units g.0) g.1.items
