@@ -464,12 +464,13 @@ white_first c s e =
     after_white c s = cond (c == 35) (gap (c ∷ s)) (cond (is_run_byte c) (run_token (take (extent false (λ d. not (is_run_byte d)) 0 (c ∷ s)) (c ∷ s)))
         (cond (c == 34 || (c == 39)) (quoted_token (extent true (λ d. d == c) 0 s) c s) (other (c ∷ []))))
 
-pub white_dropped : (c : ℕ) (s : List ℕ) → is_white_byte c ≡ true → without_front is_white_byte (c ∷ s) ≡ without_front is_white_byte s
-white_dropped c s e = ap (λ b. drop (cond b (1 + prefix_len is_white_byte s) 0) (c ∷ s)) e ∙ ap (λ n. drop n (c ∷ s))
-    (let n : 1 + prefix_len is_white_byte s ≡ suc (prefix_len is_white_byte s) = omega arith in n)
+-- a byte at the front that passes a test is dropped, and one that doesn't pass stays
+pub passed_dropped : (p : ℕ → Bool) (c : ℕ) (s : List ℕ) → p c ≡ true → without_front p (c ∷ s) ≡ without_front p s
+passed_dropped p c s e = ap (λ b. drop (cond b (1 + prefix_len p s) 0) (c ∷ s)) e ∙ ap (λ n. drop n (c ∷ s))
+    (let n : 1 + prefix_len p s ≡ suc (prefix_len p s) = omega arith in n)
 
-pub ink_stays : (c : ℕ) (s : List ℕ) → is_white_byte c ≡ false → without_front is_white_byte (c ∷ s) ≡ c ∷ s
-ink_stays c s e = ap (λ b. drop (cond b (1 + prefix_len is_white_byte s) 0) (c ∷ s)) e
+pub failed_stays : (p : ℕ → Bool) (c : ℕ) (s : List ℕ) → p c ≡ false → without_front p (c ∷ s) ≡ c ∷ s
+failed_stays p c s e = ap (λ b. drop (cond b (1 + prefix_len p s) 0) (c ∷ s)) e
 
 -- a line is quiet, as `IsQuiet` defines, if it is without the white bytes at its front
 pub quiet_front : (text : List ℕ) → IsQuiet (line_tokens 0 (without_front is_white_byte text)) → IsQuiet (line_tokens 0 text)
@@ -478,8 +479,8 @@ quiet_front (c ∷ s) q = by_test (λ k. quiet_front s k) (is_white_byte c) refl
   where
     by_test : (IsQuiet (line_tokens 0 (without_front is_white_byte s)) → IsQuiet (line_tokens 0 s)) → (b : Bool) → is_white_byte c ≡ b
         → IsQuiet (line_tokens 0 (c ∷ s))
-    by_test ih true e = subst IsQuiet (sym (white_first c s e)) (ih (subst (λ x. IsQuiet (line_tokens 0 x)) (white_dropped c s e) q))
-    by_test ih false e = subst (λ x. IsQuiet (line_tokens 0 x)) (ink_stays c s e) q
+    by_test ih true e = subst IsQuiet (sym (white_first c s e)) (ih (subst (λ x. IsQuiet (line_tokens 0 x)) (passed_dropped is_white_byte c s e) q))
+    by_test ih false e = subst (λ x. IsQuiet (line_tokens 0 x)) (failed_stays is_white_byte c s e) q
 
 -- a line whose tokens, without the white bytes at its front, are these ones is quiet if they are
 pub quiet_by : (text rest : List ℕ) (t : LineToken) (ts : List LineToken) → rest ≡ without_front is_white_byte text → line_tokens 0 rest ≡ t ∷ ts
@@ -515,8 +516,8 @@ front_word (c ∷ s) h = by_test (λ k. front_word s k) (is_white_byte c) refl
   where
     by_test : (is_run_byte (get_or (without_front is_white_byte s) 0 0) ≡ false → HasNoWordNext (line_tokens 0 s)) → (b : Bool) → is_white_byte c ≡ b
         → HasNoWordNext (line_tokens 0 (c ∷ s))
-    by_test ih true e = subst HasNoWordNext (sym (white_first c s e)) (ih (ap (λ x. is_run_byte (get_or x 0 0)) (sym (white_dropped c s e)) ∙ h))
-    by_test ih false e = ink_first c s e (ap (λ x. is_run_byte (get_or x 0 0)) (sym (ink_stays c s e)) ∙ h)
+    by_test ih true e = subst HasNoWordNext (sym (white_first c s e)) (ih (ap (λ x. is_run_byte (get_or x 0 0)) (sym (passed_dropped is_white_byte c s e)) ∙ h))
+    by_test ih false e = ink_first c s e (ap (λ x. is_run_byte (get_or x 0 0)) (sym (failed_stays is_white_byte c s e)) ∙ h)
 
 pub no_word_after : (text rest : List ℕ) → rest ≡ without_front is_white_byte text → is_run_byte (get_or rest 0 0) ≡ false → HasNoWordNext (line_tokens 0 text)
 no_word_after text rest e h = front_word text (ap (λ x. is_run_byte (get_or x 0 0)) (sym e) ∙ h)

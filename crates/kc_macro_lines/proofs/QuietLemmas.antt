@@ -22,7 +22,7 @@ use Rattle.kc_macros_model.specs.LineForms.{prompt_words, source_words, help_wor
 use Rattle.kc_macro_lines.specs.checker.Bodies.{has_dollar_or_backslash}
 use Rattle.kc_macro_lines.specs.checker.QuietLines.{ends_acting, is_acting_word, may_begin_prompt, has_dollar_or_wide, IsQuiet}
 use Rattle.kc_macro_lines.proofs.LineTokenLemmas.{tokens_skip}
-use Rattle.kc_macro_lines.proofs.CopiedLineLemmas.{has_dollar, all_terminated, either_false, first_plain, rest_plain, take_plain, first_is, white_dropped, ink_stays, quiet_front, quiet_by}
+use Rattle.kc_macro_lines.proofs.CopiedLineLemmas.{has_dollar, all_terminated, either_false, first_plain, rest_plain, take_plain, first_is, passed_dropped, failed_stays, quiet_front, quiet_by}
 
 -- the first item of a text without `$`, outside quotes, is its first byte
 one_byte : (c : ℕ) (s : List ℕ) → (c == 36) ≡ false → first_item false c s ≡ byte c
@@ -54,8 +54,8 @@ front_ink (c ∷ s) = by_test (front_ink s) (is_white_byte c) refl
   where
     by_test : is_white_byte (get_or (without_front is_white_byte s) 0 0) ≡ false → (b : Bool) → is_white_byte c ≡ b
         → is_white_byte (get_or (without_front is_white_byte (c ∷ s)) 0 0) ≡ false
-    by_test ih true e = ap (λ x. is_white_byte (get_or x 0 0)) (white_dropped c s e) ∙ ih
-    by_test ih false e = ap (λ x. is_white_byte (get_or x 0 0)) (ink_stays c s e) ∙ e
+    by_test ih true e = ap (λ x. is_white_byte (get_or x 0 0)) (passed_dropped is_white_byte c s e) ∙ ih
+    by_test ih false e = ap (λ x. is_white_byte (get_or x 0 0)) (failed_stays is_white_byte c s e) ∙ e
 
 module _ (c : ℕ) (s : List ℕ) (m : ℕ) (h : has_dollar (c ∷ s) ≡ false) (e : suc m ≡ length (take_while is_run_byte (c ∷ s))) (w : is_white_byte c ≡ false)
     (k : (c == 35) ≡ false) where

@@ -1,5 +1,5 @@
 //! The names, operators and texts of assignments, as lines have them.
-ghost use Rattle.std.specs.Prelude.{◌≡◌, true, IfSome, option_map};
+ghost use Rattle.std.specs.Prelude.{◌≡◌, ℕ, Bool, true, IfSome, option_map};
 ghost use Rattle.kc_tokens.specs.Token.{is_white_byte};
 ghost use Rattle.kc_macros_model.specs.LineTokens.{line_tokens};
 ghost use Rattle.kc_macros_model.specs.Assignments.{assigned, without_front, is_blank_byte, operator_at, assignment_to, assignment_at};
@@ -27,13 +27,14 @@ fn is_blank(byte: u8) -> bool
     byte == b' ' || byte == b'\t'
 }
 
-/// A text without the white bytes at its front.
-pub(crate) fn without_white_front(text: &[u8]) -> &[u8]
-    ensures { result.now ≡ without_front is_white_byte text.now }
+/// A text without the bytes at its front that pass a test.
+fn without_front<F: Fn(u8) -> bool>(text: &[u8], passes: F) -> &[u8]
+    requires callable { F.IsAlwaysCallable passes }
+    ensures value { (test : ℕ → Bool) → ((byte : ℕ) (passed : Bool) → F.post passes byte passed → passed ≡ test byte) → result.now ≡ without_front test text.now }
 {
     let mut rest = text;
     'bytes: while !rest.is_empty() {
-        if !is_white(rest[0]) {
+        if !passes(rest[0]) {
             return rest;
         }
         rest = &rest[1..];
@@ -41,18 +42,18 @@ pub(crate) fn without_white_front(text: &[u8]) -> &[u8]
     rest
 }
 
+/// A text without the white bytes at its front.
+pub(crate) fn without_white_front(text: &[u8]) -> &[u8]
+    ensures { result.now ≡ without_front is_white_byte text.now }
+{
+    without_front(text, |byte| is_white(byte))
+}
+
 /// A text without the spaces and tabs at its front.
 fn without_blank_front(text: &[u8]) -> &[u8]
     ensures { result.now ≡ without_front is_blank_byte text.now }
 {
-    let mut rest = text;
-    'bytes: while !rest.is_empty() {
-        if !is_blank(rest[0]) {
-            return rest;
-        }
-        rest = &rest[1..];
-    }
-    rest
+    without_front(text, |byte| is_blank(byte))
 }
 
 /// The assignment operator at the front of a text, and the bytes after it.

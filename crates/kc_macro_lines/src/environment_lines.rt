@@ -10,8 +10,9 @@ ghost use Rattle.kc_macro_lines.specs.checker.LineTexts.{token_view, has_equals_
 
 use super::line_content::{LineContent, front_token, read_tokens};
 use super::line_tokens::LineToken;
+use super::scope::Scope;
 use kc_answers::is_environment_name;
-use kc_macros::{Bindings, Place, ExpansionState, Stop, is_text};
+use kc_macros::{Bindings, ExpansionState, Place, Stop, is_text};
 use std::alloc::{AllocError, Global};
 
 /// Whether a token is white or a comment.
@@ -164,11 +165,12 @@ pub fn read_line(
 ) -> Result<LineContent, Stop>
     ensures { Runs run.old run.new (line_content (place_of at.entry) (bindings_of bindings.now) true (line_tokens 0 (meant_line text.now))) (end_of content_of result) }
 {
+    let scope = Scope { at, bindings };
     match environment_asked(text) {
         Some(name) => {
             let line = environment_line(run.alloc(), name)?;
-            read_tokens(run, at, bindings, &line)
+            read_tokens(run, &scope, &line)
         }
-        None => read_tokens(run, at, bindings, text),
+        None => read_tokens(run, &scope, text),
     }
 }

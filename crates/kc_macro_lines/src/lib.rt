@@ -8,6 +8,7 @@ mod line_content;
 mod line_tokens;
 mod marked_bytes;
 mod quoted_tokens;
+mod scope;
 mod token_values;
 
 pub use copied_lines::is_copied;

@@ -13,9 +13,10 @@ ghost use Rattle.kc_macro_lines.specs.checker.LineFronts.{name_token, assigned_o
 use super::assignment_syntax::{FoundAssignment, assignment_at, without_white_front};
 use super::line_tokens::{LineToken, first_token};
 use super::quoted_tokens::written_token;
+use super::scope::Scope;
 use super::token_values::run_value;
 use kc_macro_forms::{WrittenToken, is_gap, is_unknown, token_of_text};
-use kc_macros::{Assignment, Bindings, Bytes, Place, ExpansionState, Stop};
+use kc_macros::{Assignment, Bytes, ExpansionState, Stop};
 
 /// The content of a logical line: an assignment to a variable, or written tokens.
 #[derive(Drop)]
@@ -90,16 +91,15 @@ fn may_still_assign(may_assign: bool, written: &WrittenToken) -> bool
 /// Writes a token that is no name of an assignment, and appends it to those before it.
 fn push_token(
     run: &mut ExpansionState<'_>,
-    at: Place<'_>,
-    bindings: &Bindings,
+    scope: &Scope<'_>,
     token: LineToken<'_>,
     after: &[u8],
     front: &mut LineFront,
 ) -> Result<(), Stop>
     requires unassigned { assignment_at front.old.may_assign (token_view token) (line_tokens 0 after.now) ≡ None }
-    ensures steps { Steps run.old run.new (front_left (place_of at.entry) (bindings_of bindings.now) front.old (token_view token.entry ∷ line_tokens 0 after.now)) (λ u. front_left (place_of at.entry) (bindings_of bindings.now) front.new (line_tokens 0 after.now)) result }
+    ensures steps { Steps run.old run.new (front_left (place_of scope.now.at) (bindings_of scope.now.bindings.now) front.old (token_view token.entry ∷ line_tokens 0 after.now)) (λ u. front_left (place_of scope.now.at) (bindings_of scope.now.bindings.now) front.new (line_tokens 0 after.now)) result }
 {
-    let written = written_token(run, at, bindings, token)?;
+    let written = written_token(run, scope, token)?;
     if is_open_front(front.may_assign, &written, after) {
         return Err(Stop::Unanswered);
     }
@@ -111,18 +111,17 @@ fn push_token(
 /// The assignment that a line is; a name whose value is empty is a gap, and the line goes on.
 fn assigned_or_gap<'t>(
     run: &mut ExpansionState<'_>,
-    at: Place<'_>,
-    bindings: &Bindings,
+    scope: &Scope<'_>,
     found: FoundAssignment<'t>,
     after: &'t [u8],
     front: &mut LineFront,
 ) -> Result<ContentStep<'t>, Stop>
     requires found { assignment_to (name_token found.name.now) (line_tokens 0 after.now) ≡ Some (assigned_of found) }
     requires may_assign { front.old.may_assign ≡ true }
-    ensures steps { Steps run.old run.new (front_left (place_of at.entry) (bindings_of bindings.now) front.old (name_token found.entry.name.now ∷ line_tokens 0 after.now)) (step_left (place_of at.entry) (bindings_of bindings.now) front.new) result }
+    ensures steps { Steps run.old run.new (front_left (place_of scope.now.at) (bindings_of scope.now.bindings.now) front.old (name_token found.entry.name.now ∷ line_tokens 0 after.now)) (step_left (place_of scope.now.at) (bindings_of scope.now.bindings.now) front.new) result }
     ensures shorter { IfOk result (λ s. IsShorter s (length after.now + 1)) }
 {
-    let Some(name) = run_value(run, at, bindings, found.name)? else {
+    let Some(name) = run_value(run, scope, found.name)? else {
         return Err(Stop::Unanswered);
     };
     if name.as_slice().is_empty() {
@@ -141,20 +140,19 @@ fn assigned_or_gap<'t>(
 /// Reads the token at the front of the rest of a line.
 fn next_token<'t>(
     run: &mut ExpansionState<'_>,
-    at: Place<'_>,
-    bindings: &Bindings,
+    scope: &Scope<'_>,
     text: &'t [u8],
     front: &mut LineFront,
 ) -> Result<ContentStep<'t>, Stop>
     requires not_empty { 0 < length text.now }
-    ensures steps { Steps run.old run.new (front_left (place_of at.entry) (bindings_of bindings.now) front.old (line_tokens 0 text.now)) (step_left (place_of at.entry) (bindings_of bindings.now) front.new) result }
+    ensures steps { Steps run.old run.new (front_left (place_of scope.now.at) (bindings_of scope.now.bindings.now) front.old (line_tokens 0 text.now)) (step_left (place_of scope.now.at) (bindings_of scope.now.bindings.now) front.new) result }
     ensures shorter { IfOk result (λ s. IsShorter s (length text.now)) }
 {
     let (token, after) = front_token(text);
     match assignment_at(front.may_assign, token, after) {
-        Some(found) => assigned_or_gap(run, at, bindings, found, after, front),
+        Some(found) => assigned_or_gap(run, scope, found, after, front),
         None => {
-            push_token(run, at, bindings, token, after, front)?;
+            push_token(run, scope, token, after, front)?;
             Ok(ContentStep::Rest(after))
         }
     }
@@ -163,11 +161,10 @@ fn next_token<'t>(
 /// The content of a logical line by its tokens: an assignment, or the tokens with the values of their references.
 pub(crate) fn read_tokens(
     run: &mut ExpansionState<'_>,
-    at: Place<'_>,
-    bindings: &Bindings,
+    scope: &Scope<'_>,
     text: &[u8],
 ) -> Result<LineContent, Stop>
-    ensures { Runs run.old run.new (line_content (place_of at.entry) (bindings_of bindings.now) true (line_tokens 0 text.now)) (end_of content_of result) }
+    ensures { Runs run.old run.new (line_content (place_of scope.now.at) (bindings_of scope.now.bindings.now) true (line_tokens 0 text.now)) (end_of content_of result) }
 {
     let mut front = LineFront {
         tokens: Vec::new(run.alloc()),
@@ -175,7 +172,7 @@ pub(crate) fn read_tokens(
     };
     let mut rest = text;
     'tokens: while !rest.is_empty() {
-        match next_token(run, at, bindings, rest, &mut front)? {
+        match next_token(run, scope, rest, &mut front)? {
             ContentStep::Rest(after) => rest = after,
             ContentStep::Assigns(assignment) => return Ok(LineContent::Assigns(assignment)),
         }

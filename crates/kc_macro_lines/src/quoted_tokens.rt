@@ -10,10 +10,11 @@ ghost use Rattle.kc_macros.specs.checker.ProgramSteps.{Steps};
 ghost use Rattle.kc_macro_lines.specs.checker.LineTexts.{token_view};
 
 use super::line_tokens::{LineToken, is_pair};
+use super::scope::Scope;
 use super::token_values::{QuotedText, push_byte, push_pair, push_reference, written_word};
 use kc_macro_forms::{WrittenToken, new_token};
 use kc_macros::{
-    Bindings, Bytes, Place, ExpansionState, Stop, begins_reference_at, fault, reference_at_front, text_value,
+    Bytes, ExpansionState, Stop, begins_reference_at, fault, reference_at_front, text_value,
 };
 use kc_macros_model::{MacroKind, TokenSort};
 use std::alloc::{AllocError, Global};
@@ -21,21 +22,20 @@ use std::alloc::{AllocError, Global};
 /// Appends the item at the front of a text between quotes to `out`, of a reference its value; returns the rest.
 fn next_item<'t>(
     run: &mut ExpansionState<'_>,
-    at: Place<'_>,
-    bindings: &Bindings,
+    scope: &Scope<'_>,
     quote: u8,
     text: &'t [u8],
     out: &mut QuotedText,
 ) -> Result<&'t [u8], Stop>
     requires not_empty { 0 < length text.now }
-    ensures steps { Steps run.old run.new (bodies_left (place_of at.entry) (bindings_of bindings.now) quote (body_of_code out.old) (items true 0 text.now)) (λ rest. bodies_left (place_of at.entry) (bindings_of bindings.now) quote (body_of_code out.new) (items true 0 rest.now)) result }
+    ensures steps { Steps run.old run.new (bodies_left (place_of scope.now.at) (bindings_of scope.now.bindings.now) quote (body_of_code out.old) (items true 0 text.now)) (λ rest. bodies_left (place_of scope.now.at) (bindings_of scope.now.bindings.now) quote (body_of_code out.new) (items true 0 rest.now)) result }
     ensures shorter { IfOk result (λ rest. length rest.now < length text.now) }
 {
     if begins_reference_at(text, 0) {
         let Some((inside, after)) = reference_at_front(text) else {
-            return Err(fault(run.alloc(), at, MacroKind::Unterminated, b""));
+            return Err(fault(run.alloc(), scope.at, MacroKind::Unterminated, b""));
         };
-        let value = text_value(run, at, bindings, &text[..inside.len() + 3])?;
+        let value = text_value(run, scope.at, scope.bindings, &text[..inside.len() + 3])?;
         push_reference(out, quote, &value)?;
         return Ok(after);
     }
@@ -83,12 +83,11 @@ fn empty_body(alloc: Global, room: usize) -> Result<QuotedText, AllocError>
 /// The bytes between quotes as they are written.
 fn written_body(
     run: &mut ExpansionState<'_>,
-    at: Place<'_>,
-    bindings: &Bindings,
+    scope: &Scope<'_>,
     quote: u8,
     text: &[u8],
 ) -> Result<QuotedText, Stop>
-    ensures { Runs run.old run.new (written_items (place_of at.entry) (bindings_of bindings.now) quote (items true 0 text.now)) (end_of body_of_code result) }
+    ensures { Runs run.old run.new (written_items (place_of scope.now.at) (bindings_of scope.now.bindings.now) quote (items true 0 text.now)) (end_of body_of_code result) }
 {
     if !has_dollar_or_backslash(text) {
         return Ok(plain_body(run.alloc(), text)?);
@@ -96,7 +95,7 @@ fn written_body(
     let mut out = empty_body(run.alloc(), text.len())?;
     let mut rest = text;
     'items: while !rest.is_empty() {
-        rest = next_item(run, at, bindings, quote, rest, &mut out)?;
+        rest = next_item(run, scope, quote, rest, &mut out)?;
     }
     Ok(out)
 }
@@ -124,20 +123,19 @@ fn token_of_body(alloc: Global, quote: u8, body: QuotedText) -> Result<WrittenTo
 /// A token of a line as the expansion writes it, with the values of its references.
 pub(crate) fn written_token(
     run: &mut ExpansionState<'_>,
-    at: Place<'_>,
-    bindings: &Bindings,
+    scope: &Scope<'_>,
     token: LineToken<'_>,
 ) -> Result<WrittenToken, Stop>
-    ensures { Runs run.old run.new (written_token (place_of at.entry) (bindings_of bindings.now) (token_view token.entry)) (end_of token_of result) }
+    ensures { Runs run.old run.new (written_token (place_of scope.now.at) (bindings_of scope.now.bindings.now) (token_view token.entry)) (end_of token_of result) }
 {
     match token {
         LineToken::Gap(text) => Ok(new_token(run.alloc(), TokenSort::Gap, text, b"")?),
-        LineToken::Word(text) => written_word(run, at, bindings, text),
+        LineToken::Word(text) => written_word(run, scope, text),
         LineToken::Quoted(quote, text) => {
-            let body = written_body(run, at, bindings, quote, text)?;
+            let body = written_body(run, scope, quote, text)?;
             Ok(token_of_body(run.alloc(), quote, body)?)
         }
         LineToken::Other(text) => Ok(new_token(run.alloc(), TokenSort::Other, text, b"")?),
-        LineToken::Broken(_) => Err(fault(run.alloc(), at, MacroKind::Unterminated, b"")),
+        LineToken::Broken(_) => Err(fault(run.alloc(), scope.at, MacroKind::Unterminated, b"")),
     }
 }

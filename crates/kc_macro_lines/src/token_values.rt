@@ -11,10 +11,9 @@ ghost use Rattle.kc_macro_lines.specs.checker.RunContents.{IsRunContent};
 ghost use Rattle.kc_macro_lines.specs.checker.LineTexts.{first_item_of};
 
 use super::line_tokens::item_length;
+use super::scope::Scope;
 use kc_macro_forms::{WrittenToken, new_token, push_escaped, token_of_value};
-use kc_macros::{
-    Bindings, Bytes, Place, ExpansionState, Stop, begins_reference_at, inside_length, text_value,
-};
+use kc_macros::{Bytes, ExpansionState, Stop, begins_reference_at, inside_length, text_value};
 use kc_macros_model::TokenSort;
 use std::alloc::AllocError;
 
@@ -28,14 +27,13 @@ pub(crate) fn has_dollar(text: &[u8]) -> bool
 /// The value of a run, a token of word bytes and references; it is its own text if it has no `$`.
 pub(crate) fn run_value(
     run: &mut ExpansionState<'_>,
-    at: Place<'_>,
-    bindings: &Bindings,
+    scope: &Scope<'_>,
     text: &[u8],
 ) -> Result<Option<Bytes>, Stop>
-    ensures { Runs run.old run.new (run_value (place_of at.entry) (bindings_of bindings.now) text.now) (end_of (λ v. v) result) }
+    ensures { Runs run.old run.new (run_value (place_of scope.now.at) (bindings_of scope.now.bindings.now) text.now) (end_of (λ v. v) result) }
 {
     if has_dollar(text) {
-        return text_value(run, at, bindings, text);
+        return text_value(run, scope.at, scope.bindings, text);
     }
     Ok(Some(Bytes::copied(run.alloc(), text)?))
 }
@@ -88,16 +86,15 @@ fn run_content(text: &[u8]) -> RunContent
 /// no reference is kept, so that the reader of the written line refuses it.
 pub(crate) fn written_word(
     run: &mut ExpansionState<'_>,
-    at: Place<'_>,
-    bindings: &Bindings,
+    scope: &Scope<'_>,
     text: &[u8],
 ) -> Result<WrittenToken, Stop>
-    ensures { Runs run.old run.new (written_word (place_of at.entry) (bindings_of bindings.now) text.now) (end_of token_of result) }
+    ensures { Runs run.old run.new (written_run (place_of scope.now.at) (bindings_of scope.now.bindings.now) text.now) (end_of token_of result) }
 {
     match run_content(text) {
         RunContent::PlainDollar => Ok(new_token(run.alloc(), TokenSort::Other, text, b"")?),
         RunContent::Reference => {
-            let value = text_value(run, at, bindings, text)?;
+            let value = text_value(run, scope.at, scope.bindings, text)?;
             Ok(token_of_value(run.alloc(), &value)?)
         }
         RunContent::Word => Ok(new_token(run.alloc(), TokenSort::Word, text, text)?),

@@ -13,12 +13,12 @@ use Rattle.kc_macro_lines.proofs.line_content.assigned_or_gap.Goals as goal
 pub returns-in_err-name-clause-steps : goal.returns-in_err-name-clause-steps
 returns-in_err-name-clause-steps c =
     steps_stopped _ _ _ _ c.in_err-name.field-0.0 _ c.from_residual.ensures.1
-    (name_stopped (place_of c.args.at) (bindings_of c.args.bindings.now) c.args.run.now (tokens_of c.args.front.now.tokens.items)
+    (name_stopped (place_of c.args.scope.now.at) (bindings_of c.args.scope.now.bindings.now) c.args.run.now (tokens_of c.args.front.now.tokens.items)
     c.args.front.now.may_assign c.requires.may_assign c.args.found.name.now (line_tokens 0 c.args.after.now)
     (assigned_of c.args.found) c.requires.found c.run_value.new.run c.in_err-name.field-0.0 c.in_err-name.ensures)
 
 pub returns-in_default-clause-steps : goal.returns-in_default-clause-steps
-returns-in_default-clause-steps c = name_unknown (place_of c.args.at) (bindings_of c.args.bindings.now) c.args.run.now
+returns-in_default-clause-steps c = name_unknown (place_of c.args.scope.now.at) (bindings_of c.args.scope.now.bindings.now) c.args.run.now
     (tokens_of c.args.front.now.tokens.items) c.args.front.now.may_assign c.requires.may_assign c.args.found.name.now (line_tokens 0 c.args.after.now)
     (assigned_of c.args.found) c.requires.found c.run_value.new.run c.in_ok-name.field-0 c.in_ok-name.ensures c.in_default.is
 
@@ -30,7 +30,7 @@ returns-in_err-push-clause-steps c = steps_out _ _ _ _ _ c.from_residual-in_err-
 
 pub returns-then-is_empty-clause-steps : goal.returns-then-is_empty-clause-steps
 returns-then-is_empty-clause-steps c =
-    name_empty (place_of c.args.at) (bindings_of c.args.bindings.now) c.args.run.now (tokens_of c.args.front.now.tokens.items) c.args.front.now.may_assign
+    name_empty (place_of c.args.scope.now.at) (bindings_of c.args.scope.now.bindings.now) c.args.run.now (tokens_of c.args.front.now.tokens.items) c.args.front.now.may_assign
     c.requires.may_assign c.args.found.name.now (line_tokens 0 c.args.after.now) (assigned_of c.args.found) c.requires.found c.run_value.new.run
     c.in_ok-name.field-0 c.in_ok-name.ensures c.in-Some.name c.in-Some.is
     (ap length (sym c.as_slice.ensures) ∙ none_of (length c.as_slice.result.now) c.is_empty.result c.is_empty.ensures c.if-is_empty.true)
@@ -45,7 +45,7 @@ pub returns-clause-steps : goal.returns-clause-steps
 returns-clause-steps c =
     let some : 0 < length c.in-Some.name =
     omega (arith, ap length c.as_slice.ensures, some_of (length c.as_slice.result.now) c.is_empty.result c.is_empty.ensures c.if-is_empty.false) in
-    name_assigned (place_of c.args.at) (bindings_of c.args.bindings.now) c.args.run.now (tokens_of c.args.front.now.tokens.items) c.args.front.now.may_assign
+    name_assigned (place_of c.args.scope.now.at) (bindings_of c.args.scope.now.bindings.now) c.args.run.now (tokens_of c.args.front.now.tokens.items) c.args.front.now.may_assign
     c.requires.may_assign c.args.found.name.now (line_tokens 0 c.args.after.now) (assigned_of c.args.found) c.requires.found c.run_value.new.run
     c.in_ok-name.field-0 c.in_ok-name.ensures c.in-Some.name c.in-Some.is some (assigned c.args.found.operator c.in_ok-text.text)
     (ap (λ t. assigned c.args.found.operator t) c.in_ok-text.ensures)

@@ -17,7 +17,7 @@ returns-in_err-plain_body c = runs_out _ _ _ _ _ c.from_residual.ensures.1
 pub returns-then-not-has_dollar_or_backslash : goal.returns-then-not-has_dollar_or_backslash
 returns-then-not-has_dollar_or_backslash c =
     returns_so c.args.run.now _ _
-    (plain_written (place_of c.args.at) (bindings_of c.args.bindings.now) c.args.quote c.args.text.now
+    (plain_written (place_of c.args.scope.now.at) (bindings_of c.args.scope.now.bindings.now) c.args.quote c.args.text.now
     (sym c.has_dollar_or_backslash.ensures ∙ c.if-not-has_dollar_or_backslash.true)
     ∙ ap returns_value (sym c.in_ok-plain_body.ensures))
 
@@ -25,9 +25,9 @@ pub returns-in_err-out : goal.returns-in_err-out
 returns-in_err-out c = runs_out _ _ _ _ _ c.from_residual-in_err-out.ensures.1
 
 pub items-init : goal.items-init
-items-init c = body_begins (place_of c.args.at) (bindings_of c.args.bindings.now) c.args.quote c.args.run.now _
+items-init c = body_begins (place_of c.args.scope.now.at) (bindings_of c.args.scope.now.bindings.now) c.args.quote c.args.run.now _
     (items true 0 c.args.text.now) c.in_ok-out.ensures
 
 pub returns : goal.returns
-returns c = body_ends (place_of c.args.at) (bindings_of c.args.bindings.now) c.args.quote c.items.run (body_of_code c.items.out) c.args.run.now _
+returns c = body_ends (place_of c.args.scope.now.at) (bindings_of c.args.scope.now.bindings.now) c.args.quote c.items.run (body_of_code c.items.out) c.args.run.now _
     (items true 0 c.items.rest.now) (ap (items true 0) (no_element c.items.rest.now (search rules))) c.items.invariant

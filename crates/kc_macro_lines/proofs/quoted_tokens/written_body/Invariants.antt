@@ -9,8 +9,8 @@ use Rattle.kc_macro_lines.proofs.quoted_tokens.written_body.Given as goal
 
 -- the body of the whole text is the bytes written so far followed by the items of `rest`
 abbrev pub invariant-items : goal.invariant-items
-invariant-items l = Leads l.fn.run (written_items (place_of l.at) (bindings_of l.bindings) l.quote (items true 0 l.fn.text)) l.run
-    (bodies_left (place_of l.at) (bindings_of l.bindings) l.quote (body_of_code l.out) (items true 0 l.rest))
+invariant-items l = Leads l.fn.run (written_items (place_of l.scope.at) (bindings_of l.scope.bindings.now) l.quote (items true 0 l.fn.text)) l.run
+    (bodies_left (place_of l.scope.at) (bindings_of l.scope.bindings.now) l.quote (body_of_code l.out) (items true 0 l.rest))
 
 abbrev pub decreases-items : goal.decreases-items
 decreases-items l = length l.rest

@@ -17,8 +17,8 @@ returns-in_err-new_token-in-Gap c = runs_out _ _ _ _ _ c.from_residual.ensures.1
 
 pub returns-in_err-body-in-Quoted : goal.returns-in_err-body-in-Quoted
 returns-in_err-body-in-Quoted c =
-    let at = place_of c.args.at in
-    let b = bindings_of c.args.bindings.now in
+    let at = place_of c.args.scope.now.at in
+    let b = bindings_of c.args.scope.now.bindings.now in
     passes_on _ _ _ _ c.in_err-body-in-Quoted.field-0.0 _ c.from_residual-in_err-body-in-Quoted.ensures.1
     (runs_same c.args.run.now c.written_body.new.run _ (quoted_written at b c.in-Quoted.quote c.in-Quoted.text.now) _
     (ap (λ t. written_token at b (token_view t)) c.in-Quoted.is)
@@ -29,8 +29,8 @@ returns-in_err-token_of_body-in-Quoted c = runs_out _ _ _ _ _ c.from_residual-in
 
 pub returns-in_ok-token_of_body-in-Quoted : goal.returns-in_ok-token_of_body-in-Quoted
 returns-in_ok-token_of_body-in-Quoted c =
-    let at = place_of c.args.at in
-    let b = bindings_of c.args.bindings.now in
+    let at = place_of c.args.scope.now.at in
+    let b = bindings_of c.args.scope.now.bindings.now in
     runs_same c.args.run.now c.written_body.new.run _ (quoted_written at b c.in-Quoted.quote c.in-Quoted.text.now) _
     (ap (λ t. written_token at b (token_view t)) c.in-Quoted.is)
     (quoted_returned at b c.in-Quoted.quote c.in-Quoted.text.now c.args.run.now c.written_body.new.run
@@ -41,14 +41,14 @@ returns-in_err-new_token-in-Other c = runs_out _ _ _ _ _ c.from_residual-in_err-
 
 pub returns-in_ok-new_token-in-Gap : goal.returns-in_ok-new_token-in-Gap
 returns-in_ok-new_token-in-Gap c =
-    returns_so c.args.run.now _ _ (ap (λ t. written_token (place_of c.args.at) (bindings_of c.args.bindings.now) (token_view t)) c.in-Gap.is
+    returns_so c.args.run.now _ _ (ap (λ t. written_token (place_of c.args.scope.now.at) (bindings_of c.args.scope.now.bindings.now) (token_view t)) c.in-Gap.is
     ∙ ap returns_value (sym c.in_ok-new_token-in-Gap.ensures))
 
 pub returns-in_ok-new_token-in-Other : goal.returns-in_ok-new_token-in-Other
 returns-in_ok-new_token-in-Other c =
-    returns_so c.args.run.now _ _ (ap (λ t. written_token (place_of c.args.at) (bindings_of c.args.bindings.now) (token_view t)) c.in-Other.is
+    returns_so c.args.run.now _ _ (ap (λ t. written_token (place_of c.args.scope.now.at) (bindings_of c.args.scope.now.bindings.now) (token_view t)) c.in-Other.is
     ∙ ap returns_value (sym c.in_ok-new_token-in-Other.ensures))
 
 pub returns-in-Broken : goal.returns-in-Broken
-returns-in-Broken c = fails_so c.args.run.now _ _ c.fault.result (ap (λ t. written_token (place_of c.args.at) (bindings_of c.args.bindings.now) (token_view t))
+returns-in-Broken c = fails_so c.args.run.now _ _ c.fault.result (ap (λ t. written_token (place_of c.args.scope.now.at) (bindings_of c.args.scope.now.bindings.now) (token_view t))
     c.in-Broken.is) c.fault.ensures

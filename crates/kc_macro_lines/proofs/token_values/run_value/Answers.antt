@@ -11,5 +11,5 @@ pub returns-in_err-copied : goal.returns-in_err-copied
 returns-in_err-copied c = runs_out _ _ _ _ _ c.from_residual.ensures.1
 
 pub returns : goal.returns
-returns c = returns_so c.args.run.now _ _ (plain_run (place_of c.args.at) (bindings_of c.args.bindings.now) c.args.text.now
+returns c = returns_so c.args.run.now _ _ (plain_run (place_of c.args.scope.now.at) (bindings_of c.args.scope.now.bindings.now) c.args.text.now
     (sym c.has_dollar.ensures ∙ c.if-has_dollar.false) ∙ ap (λ v. returns_value (Some v)) (sym c.in_ok-copied.ensures))
