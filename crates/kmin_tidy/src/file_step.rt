@@ -44,7 +44,7 @@ pub(crate) fn tidy_file<D: WriteDisk>(
     ensures step { IfOk result (λ report. (line : List ℕ) × (text.new.items ≡ text.old.items ++ line)
         × Step (settings_of config.old.system format.now options) (D.disk disk.old)
         (D.disk disk.new) path.now line (report_lines (tree_of_settled config.old.system) path.now report) report.outcome) }
-    ensures stopped { IfErr result (TidyStop_spec (settings_of config.old.system format.now options) (D.disk disk.old) (D.disk disk.new) path.now) }
+    ensures stopped { IfErr result (StopsFile (settings_of config.old.system format.now options) (D.disk disk.old) (D.disk disk.new) path.now) }
 {
     if is_refused_unread(options, path, disk) {
         return Ok(report_of_problem(alloc, Problem::NotRegular, FileOutcome::Failed));
@@ -120,7 +120,7 @@ fn tidy_accepted<D: WriteDisk>(
     ensures step { IfOk result (λ report. (line : List ℕ) × (text.new.items ≡ text.old.items ++ line)
         × Step (settings_of config.old.system format.now options) (D.disk disk.old)
         (D.disk disk.new) path.now line (report_lines (tree_of_settled config.old.system) path.now report) report.outcome) }
-    ensures stopped { IfErr result (TidyStop_spec (settings_of config.old.system format.now options) (D.disk disk.old) (D.disk disk.new) path.now) }
+    ensures stopped { IfErr result (StopsFile (settings_of config.old.system format.now options) (D.disk disk.old) (D.disk disk.new) path.now) }
 {
     let AcceptedFile { bytes, fragment } = file;
     if is_refused_for(options, &fragment.notices) {
