@@ -18,12 +18,14 @@ use super::choice_names::ChoiceNames;
 use super::faults::fault;
 use super::line_steps::LineState;
 use super::open_files::OpenFiles;
-use super::tree_expander::TreeExpander;
 use super::source_faults::ReadCounts;
+use super::tree_expander::TreeExpander;
 use super::tree_reading::read_lines;
 use kc_answers::Answers;
-use kc_files::{ExpandedFiles, ExpandedTree, FileRead, FileCache, TreeFiles};
-use kc_macros::{Bindings, MacroFault, MacroKind, MacroNotice, Place, ExpansionState, Stop, with_innermost};
+use kc_files::{ExpandedFiles, ExpandedTree, FileCache, FileRead, TreeFiles};
+use kc_macros::{
+    Bindings, ExpansionState, MacroFault, MacroKind, MacroNotice, Place, Stop, with_innermost,
+};
 use kc_value::{MAX_FILES, MAX_TREE_BYTES, Seed};
 use std::alloc::{AllocError, Global};
 use std::rc::Rc;

@@ -10,12 +10,12 @@ mod laws;
 mod line_places;
 mod line_steps;
 mod open_files;
-mod tree_expander;
 mod same_lines;
 mod source_faults;
 mod source_lines;
 mod source_paths;
 mod source_reads;
+mod tree_expander;
 mod tree_reading;
 mod written_file;
 

@@ -22,7 +22,7 @@ use kc_macro_forms::{
     with_bare_prompt, with_replacement, without_choice_name,
 };
 use kc_macro_lines::{LineContent, read_line};
-use kc_macros::{Assignment, Bindings, MacroKind, Place, ExpansionState, Stop, assign};
+use kc_macros::{Assignment, Bindings, ExpansionState, MacroKind, Place, Stop, assign};
 use kc_value::MAX_TEXT_BYTES;
 use std::alloc::{AllocError, Global};
 

@@ -16,7 +16,7 @@ ghost use Rattle.kc_files.specs.TreeContents.{StaysKnown};
 use super::faults::fault;
 use super::tree_expander::TreeExpander;
 use kc_files::{
-    FoundPaths, PatternStop, FileCache, TreeFiles, files_of_pattern, is_pattern, paths_with_files,
+    FileCache, FoundPaths, PatternStop, TreeFiles, files_of_pattern, is_pattern, paths_with_files,
 };
 use kc_macro_forms::SourceSort;
 use kc_macros::{MacroKind, Place, Stop};

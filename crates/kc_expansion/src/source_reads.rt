@@ -12,8 +12,8 @@ ghost use Rattle.kc_expansion.specs.checker.StepResults.{StepsTo};
 
 use super::faults::fault;
 use super::open_files::OpenFiles;
-use super::tree_expander::TreeExpander;
 use super::source_faults::bytes_to_read;
+use super::tree_expander::TreeExpander;
 use kc_files::{FileRead, TreeFiles};
 use kc_macros::{Place, Stop};
 use kc_value::MAX_OPEN_FILES;
