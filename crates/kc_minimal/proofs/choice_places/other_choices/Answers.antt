@@ -14,7 +14,7 @@ returns-then-is_empty c =
 pub returns : goal.returns
 returns c =
     let tree = tree_of_settled c.args.settled.now in
-    let version : has_no_version tree.language ≡ true = rw c.tree.ensures.tree at (sym c.has_no_version.ensures ∙ c.if-has_no_version.true) in
+    let version : has_no_version tree.language ≡ true = rw c.tree.ensures.tree at (sym c.has_no_version.ensures ∙ c.if-not-has_no_version.false) in
     IfOk-weaker c.group_places.result _ _
     (λ found is. places_of_groups tree c.args.values.now c.args.lines.now c.in_ok-groups.groups.items found.items c.in_ok-groups.ensures.rising
     c.in_ok-groups.ensures.groups is ∙ sym (ap (λ b. cond b (other_places tree c.args.values.now c.args.lines.now) []) version))

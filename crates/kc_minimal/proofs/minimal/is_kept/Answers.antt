@@ -13,14 +13,14 @@ eval-requires-clause-values c = c.requires.values
 pub returns-in_err-value : goal.returns-in_err-value
 returns-in_err-value c = record { ok = IfOk-from_err c.from_residual.result _ c.from_residual.ensures.0 }
 
-pub bounds-solved-values-u : goal.bounds-solved-values-u
-bounds-solved-values-u c = subst (λ n. c.args.u < n) (sym c.requires.values.0) c.requires.unit
+pub bounds-solved-u-2 : goal.bounds-solved-u-2
+bounds-solved-u-2 c = subst (λ n. c.args.u < n) (sym c.requires.values.0) c.requires.unit
 
 pub returns : goal.returns
 returns c = record {
-  ok = let held = c.index-solved-values-u.result in
+  ok = let held = c.index-solved-u-2.result in
       let given = rule (profile_of c.args.solved.now.settled.now) (tree_of_settled c.args.solved.now.settled.now) c.args.u None c.args.solved.now.values.now in
       let within : c.args.u < length c.args.solved.now.values.now = subst (λ n. c.args.u < n) (sym c.requires.values.0) c.requires.unit in
-      let at : slice_get c.args.solved.now.values.now c.args.u ≡ Some held = slice_get_read c.args.solved.now.values.now _ c.args.u held refl within c.index-solved-values-u.is in
+      let at : slice_get c.args.solved.now.values.now c.args.u ≡ Some held = slice_get_read c.args.solved.now.values.now _ c.args.u held refl within c.index-solved-u-2.is in
       ap not (c.same.ensures ∙ ap (same_value held) c.in_ok-value.ensures.value ∙ sym (ap (λ o. value_is o given) at));
 }
