@@ -3,6 +3,7 @@ ghost use Rattle.std.specs.Prelude.{◌≡◌, length, if◌then◌else◌};
 ghost use Rattle.kc_tree.specs.between.Views.{symbol_view, SymbolFits};
 ghost use Rattle.kc_evaluation.specs.checker.ValuationView.{valuation_tree, valuation_exprs, valuation_values};
 ghost use Rattle.kc_rules_model.specs.Rule.{active_default};
+ghost use Rattle.kc_reasons_model.specs.declared.cases.TextCase.TheVariants.{User as UserText};
 ghost use Rattle.kc_reasons_model.specs.Cases.{default_case, number_default_case};
 
 use super::tristates::active_mark;
@@ -57,7 +58,7 @@ pub(crate) fn number_default_case(
 /// What gives a string its value, by whether the user's text counts.
 pub(crate) fn string_case(under: &Valuation<'_>, symbol: &Symbol<'_>, by_user: bool) -> TextCase
     requires fits { SymbolFits (valuation_exprs under.now) (length (valuation_tree under.now).symbols) symbol.now }
-    ensures value { result ≡ (if by_user then TextCase::User else default_case (active_default (valuation_tree under.now) (valuation_values under.now) (symbol_view (valuation_exprs under.now) symbol.now))) }
+    ensures value { result ≡ (if by_user then UserText else default_case (active_default (valuation_tree under.now) (valuation_values under.now) (symbol_view (valuation_exprs under.now) symbol.now))) }
 {
     if by_user {
         TextCase::User
