@@ -1,6 +1,7 @@
-use Rattle.std.proofs.Common.{◌≡◌, true, [], cond, ap, sym, ◌∙◌, eqb-true}
+use Rattle.std.proofs.Common.{◌≡◌, true, [], cond, ap, subst, sym, ◌∙◌, eqb-true}
 use Rattle.std.proofs.lemmas.List.{nil_from_length}
 use Rattle.std.proofs.lemmas.Result.{IfOk-weaker}
+use Rattle.kc_tree.specs.TreeModel.{TreeModel}
 use Rattle.kc_rules.specs.between.SettledViews.{tree_of_settled}
 use Rattle.kc_dotconfig_model.specs.OtherChoices.{has_no_version, other_places}
 use Rattle.kc_minimal.proofs.ChoiceGroups.{no_choices, places_of_groups}
@@ -14,7 +15,9 @@ returns-then-is_empty c =
 pub returns : goal.returns
 returns c =
     let tree = tree_of_settled c.args.settled.now in
-    let version : has_no_version tree.language ≡ true = rw c.tree.ensures.tree at (sym c.has_no_version.ensures ∙ c.if-not-has_no_version.false) in
+    let language : c.language.result ≡ tree.language = c.language.ensures ∙ ap (λ (t : TreeModel). t.tree.language) c.tree.ensures.tree in
+    let version : has_no_version tree.language ≡ true =
+      subst (λ l. has_no_version l ≡ true) language (sym c.has_no_version.ensures ∙ c.if-not-has_no_version.false) in
     IfOk-weaker c.group_places.result _ _
     (λ found is. places_of_groups tree c.args.values.now c.args.lines.now c.in_ok-groups.groups.items found.items c.in_ok-groups.ensures.rising
     c.in_ok-groups.ensures.groups is ∙ sym (ap (λ b. cond b (other_places tree c.args.values.now c.args.lines.now) []) version))

@@ -1,6 +1,6 @@
-use Rattle.std.proofs.Common.{◌≡◌, ◌<◌, ◌∙◌, not, None, Some, refl, sym, ap, length, subst}
+use Rattle.std.proofs.Common.{◌≡◌, ◌<◌, ◌∙◌, not, None, Some, sym, ap, length, subst, get_or}
 use Rattle.std.specs.List.{slice_get}
-use Rattle.std.proofs.lemmas.Option.{slice_get_read}
+use Rattle.std.proofs.lemmas.Option.{slice_get-get_or}
 use Rattle.std.proofs.lemmas.Result.{IfOk-from_err}
 use Rattle.kc_rules_model.specs.Rule.{rule}
 use Rattle.kc_rules_model.specs.Equality.{same_value, value_is}
@@ -18,9 +18,9 @@ bounds-solved-u-2 c = subst (λ n. c.args.u < n) (sym c.requires.values.0) c.req
 
 pub returns : goal.returns
 returns c = record {
-  ok = let held = c.index-solved-u-2.result in
+  ok = let held = get_or c.args.solved.now.values.now c.args.u c.index-solved-u-2.result in
       let given = rule (profile_of c.args.solved.now.settled.now) (tree_of_settled c.args.solved.now.settled.now) c.args.u None c.args.solved.now.values.now in
       let within : c.args.u < length c.args.solved.now.values.now = subst (λ n. c.args.u < n) (sym c.requires.values.0) c.requires.unit in
-      let at : slice_get c.args.solved.now.values.now c.args.u ≡ Some held = slice_get_read c.args.solved.now.values.now _ c.args.u held refl within c.index-solved-u-2.is in
+      let at : slice_get c.args.solved.now.values.now c.args.u ≡ Some held = slice_get-get_or c.args.solved.now.values.now c.args.u c.index-solved-u-2.result within in
       ap not (c.same.ensures ∙ ap (same_value held) c.in_ok-value.ensures.value ∙ sym (ap (λ o. value_is o given) at));
 }
