@@ -8,8 +8,8 @@ use Rattle.kc_expansion.proofs.FileProgramLemmas.{reads_returns, out_now}
 use Rattle.kc_expansion.proofs.SourceReadLemmas.{kept_so}
 use Rattle.kc_expansion.proofs.source_reads.keep_text.Goals as goal
 
-pub returns-in_err-keep : goal.returns-in_err-keep
-returns-in_err-keep c = λ contents.
+pub returns-in_err-insert : goal.returns-in_err-insert
+returns-in_err-insert c = λ contents.
     let r = c.args.reading.now in
     let a = file_run_of contents r in
     let s = state_of r in
@@ -24,7 +24,7 @@ returns c = λ contents.
     let root = c.args.root.now in
     let path = c.args.path.now in
     let text = c.args.text.value.items in
-    let key = c.in_ok-keep.field-0.items in
-    let u : ReadingState = record s { expanded = c.keep.new.self } in
+    let key = c.in_ok-insert.field-0.items in
+    let u : ReadingState = record s { expanded = c.insert.new.self } in
     reads_returns a (returns_value (stored_file root path (progress text s))) (progress key u)
-    (ap returns_value (kept_so root path text key s c.keep.new.self c.in_ok-keep.ensures.key c.in_ok-keep.ensures.ok))
+    (ap returns_value (kept_so root path text key s c.insert.new.self c.in_ok-insert.ensures.key c.in_ok-insert.ensures.ok))
