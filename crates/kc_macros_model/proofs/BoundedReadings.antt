@@ -1,59 +1,53 @@
 -- The counts, the keys and the work of a tree are bounded.
-use Rattle.std.proofs.Common.{◌≡◌, ℕ, suc, ◌+◌, ◌≤◌, Bool, true, false, ◌&&◌, ◌||◌, cond, List, [], ◌∷◌, ◌++◌, length, map, Option, Some, None, Ok, Err, refl, subst, arith, length-append}
+use Rattle.std.proofs.Common.{◌≡◌, ℕ, suc, ◌+◌, ◌≤◌, Bool, true, false, ◌&&◌, ◌||◌, cond, List, [], ◌∷◌, ◌++◌, length, map, Option, Some, None, Ok, Err, refl, sym, subst, arith, length-append}
 use Rattle.std.specs.Prelude.{◌-◌, nat_lt, bytes_eq, not}
 use Rattle.std.specs.List.{All, list_any, IsDistinct, AllByRecursion}
 use Rattle.std.proofs.lemmas.Bool.{ltb-false}
 use Rattle.std.proofs.lemmas.List.Elements.{All-append, All-cons, All-nil}
-use Rattle.kc_tree_model.specs.LogicalLines.{split_at_newlines}
 use Rattle.kc_macros_model.specs.declared.fault.MacroKind.TheVariants.{TooMany}
-use Rattle.kc_value.specs.declared.limits.TheConstants.{MAX_FILES, MAX_TREE_BYTES, MAX_OPEN_FILES, MAX_WORK}
-use Rattle.kc_macros_model.specs.Programs.{Place, Answer, spend, report, ask, read_file, find_file, list_folder, Program, returns, fails, stops, does, ◌>>=◌}
-use Rattle.kc_macros_model.specs.Expansion.{fault}
-use Rattle.kc_macros_model.specs.ReadingStates.{ExpandedFile, ReadingState, initial_state, Progress, counted, has_key, key_of, stored_file}
-use Rattle.kc_macros_model.specs.TreeExpansion.{place, SourceReader, lines_read, source_read, root_read, tree_read}
-use Rattle.kc_macros_model.specs.Worlds.{World, has_file, reply, unless_unanswered, returned, Outcome, after_event, unless_fault, outcome, expansion}
-use Rattle.kc_macros_model.specs.ExpansionRules.{ending_in}
+use Rattle.kc_value.specs.declared.limits.TheConstants.{MAX_FILES, MAX_TREE_BYTES, MAX_WORK}
+use Rattle.kc_macros_model.specs.Programs.{Place, Answer, spend, report, ask, read_file, find_file, list_folder, Program, returns, fails, stops, does}
+use Rattle.kc_macros_model.specs.ReadingStates.{ExpandedFile, ReadingState, initial_state, Progress, bound, with_choice, with_listed, counted, has_key, key_of, stored_file}
+use Rattle.kc_macros_model.specs.TreeExpansion.{SourceTarget, one_file, file_list, tree_read}
+use Rattle.kc_macros_model.specs.Variables.{Value, Variable, simple, recursive}
+use Rattle.kc_macros_model.specs.Worlds.{World, has_file, unless_unanswered, returned, Outcome, after_event, unless_fault, outcome, expansion}
 use Rattle.kc_macros_model.specs.ReadingLaws.{IsWithinLimits, CountsAreBounded, TreeCountsAreBounded, IsKeyOf, the_path, KeysAreBounded, KeysDiffer, FilesAreBounded, work_in, WorkIsBounded}
-use Rattle.kc_macros_model.proofs.RunInvariants.{Along, along_then, fact_of_success}
+use Rattle.kc_macros_model.proofs.ProgramMatches.{NoLess, unknown, same, Comparison, ending_of}
+use Rattle.kc_macros_model.proofs.AnsweredPrograms.{Answered, job_ends, no_need, any_text, in_world, value_in_world}
+use Rattle.kc_macros_model.proofs.TextMatches.{VariableNoLess, not_set, simple_both, recursive_both}
+use Rattle.kc_macros_model.proofs.TreeMatches.{Target, a_file, a_list, source_matches, first_lines_match, tree_matches}
 use Rattle.kc_macros_model.proofs.CleanTexts.{neither_first, neither_second}
 use Rattle.kc_macros_model.proofs.Keys.{IsFreeKey, key_is_free}
-use Rattle.kc_macros_model.proofs.ReadingInvariants.{AnyEvent, IsKept, lines_keep, source_keeps}
-use Rattle.kc_macros_model.proofs.WantedQuestions.{job_succeeds}
+use Rattle.kc_macros_model.proofs.ReadingInvariants.{Invariant, first_within, limits_kept}
 
--- a fact that holds along the run of a program holds of the value that the program returns
-pub fact_of_ending : {A : Type 0} (w : World) (P : A → Type 0) (p : Program A) (x : A) → Along w AnyEvent P p → ending_in w p ≡ returned x → P x
-fact_of_ending w P (returns y) x h e = let q : y ≡ x = cc in subst P q h
-fact_of_ending w P (fails f) x h e = absurd (let z : ⊥ = cc in z)
-fact_of_ending w P stops x h e = absurd (let z : ⊥ = cc in z)
-fact_of_ending w P (does e k) x h g = fact_of_ending w P (k (reply w e)) x h.1 g
+-- a reading of any text
+abbrev anywhere : World → Comparison
+anywhere w = in_world w true (λ e. no_need e)
 
--- each step of a reading keeps the limits
-limits_kept : (root : List ℕ) → IsKept root (λ k s. IsWithinLimits s)
-limits_kept root = record {
-  binds = λ k name v s g. record { files = g.files; bytes = g.bytes; listed = g.listed };
-  chooses = λ k name s g. record { files = g.files; bytes = g.bytes; listed = g.listed };
-  listed = λ k s g. g.listed;
-  lists = λ k n s h g. record { files = g.files; bytes = g.bytes; listed = h };
-  counts = λ k n s h b g. record { files = omega (arith, h); bytes = b; listed = g.listed };
-  keeps = λ k path p g. record { files = g.files; bytes = g.bytes; listed = g.listed };
-}
+value_same : (v : Value) → NoLess true true v v
+value_same None = unknown refl
+value_same (Some s) = same any_text
+
+variable_same : (o : Option Variable) → VariableNoLess true true o o
+variable_same None = not_set
+variable_same (Some (simple v)) = simple_both (value_same v)
+variable_same (Some (recursive s)) = recursive_both any_text
 
 pub counts_are_bounded : CountsAreBounded
 counts_are_bounded w more root open_files at what s p g e =
-    fact_of_ending w (λ p. IsWithinLimits p.state) (source_read more root open_files at what s) p
-    (source_keeps w root (λ k s. IsWithinLimits s) (limits_kept root) more 0 open_files at what s g) e
-
--- the first file is within the limits
-first_within : (n : ℕ) → n ≤ MAX_TREE_BYTES → IsWithinLimits (counted n initial_state)
-first_within n h = record { files = omega arith; bytes = omega (arith, h); listed = omega arith }
+    let r = value_in_world w true (λ e. no_need e) (source_matches (anywhere w) root any_text (limits_kept
+    (anywhere w) root) more 0 open_files at what s s any_text (any_target what)
+    (record { bindings = record { each = λ name. variable_same (s.bindings name) }; holds = g })) e in
+    r.state.holds
+  where
+    any_target : (what : SourceTarget) → Target (anywhere w) what
+    any_target (one_file path) = a_file any_text
+    any_target (file_list name paths) = a_list (λ e. no_need e) (λ e. no_need e)
 
 pub tree_counts_are_bounded : TreeCountsAreBounded
 tree_counts_are_bounded w root bytes p h e =
-    let sub = source_read MAX_OPEN_FILES root (root ∷ []) in
-    fact_of_ending w (λ p. IsWithinLimits p.state) (lines_read sub root 0 1 (split_at_newlines bytes) (counted (length bytes) initial_state)) p
-    (lines_keep w root (λ k s. IsWithinLimits s) (limits_kept root) 0 sub
-    (source_keeps w root (λ k s. IsWithinLimits s) (limits_kept root) MAX_OPEN_FILES 0 (root ∷ [])) root 0 1 (split_at_newlines bytes)
-    (counted (length bytes) initial_state) (first_within (length bytes) h)) e
+    let r = value_in_world w true (λ e. no_need e) (first_lines_match (anywhere w) root any_text (limits_kept (anywhere w) root) (length bytes) h bytes) e in
+    r.state.holds
 
 abbrev key_of_file : ExpandedFile → List ℕ
 key_of_file f = f.key
@@ -133,50 +127,6 @@ module _ (root : List ℕ) where
                 (list_any (λ (f : ExpandedFile). bytes_eq f.key key && not (bytes_eq f.text p.text)) files) free.free);
           }
 
-  keys_kept : IsKept root HasKeys
-  keys_kept = record {
-    binds = λ k name v s g. record {
-      limits = record { files = g.limits.files; bytes = g.limits.bytes; listed = g.limits.listed };
-      count = g.count;
-      keys = g.keys;
-      differ = g.differ;
-      not_root = g.not_root;
-    };
-    chooses = λ k name s g. record {
-      limits = record { files = g.limits.files; bytes = g.limits.bytes; listed = g.limits.listed };
-      count = g.count;
-      keys = g.keys;
-      differ = g.differ;
-      not_root = g.not_root;
-    };
-    listed = λ k s g. g.limits.listed;
-    lists = λ k n s h g. record {
-      limits = record { files = g.limits.files; bytes = g.limits.bytes; listed = h };
-      count = g.count;
-      keys = g.keys;
-      differ = g.differ;
-      not_root = g.not_root;
-    };
-    counts = λ k n s h b g. record {
-      limits = record { files = omega (arith, h); bytes = b; listed = g.limits.listed };
-      count = omega (arith, g.count);
-      keys = g.keys;
-      differ = g.differ;
-      not_root = g.not_root;
-    };
-    keeps = kept_keys;
-  }
-
-  first_keys : (n : ℕ) → n ≤ MAX_TREE_BYTES → HasKeys 0 (counted n initial_state)
-  unfolding IsDistinct
-  first_keys n h = record {
-    limits = first_within n h;
-    count = omega arith;
-    keys = All-nil (λ (f : ExpandedFile). IsKeyOf f.path f.key);
-    differ = tt;
-    not_root = refl;
-  }
-
   -- what holds of the files of a whole tree
   record TreeKeys (files : List ExpandedFile) : Type 0 where
     keys : All (λ (f : ExpandedFile). IsKeyOf f.path f.key) files
@@ -194,32 +144,51 @@ module _ (root : List ℕ) where
         few = omega (arith, g.count, g.limits.files, length-append files (new ∷ []));
       }
 
-  tree_keys : (w : World) (bytes : Option (List ℕ)) → Along w AnyEvent TreeKeys (root_read root initial_state bytes)
-  tree_keys w None = tt
-  tree_keys w (Some bytes) = by_test (nat_lt MAX_TREE_BYTES (length bytes)) refl
-    where
-      sub : SourceReader
-      sub = source_read MAX_OPEN_FILES root (root ∷ [])
+  first_keys : (n : ℕ) → n ≤ MAX_TREE_BYTES → HasKeys 0 (counted n initial_state)
+  unfolding IsDistinct
+  first_keys n h = record {
+    limits = first_within n h;
+    count = omega arith;
+    keys = All-nil (λ (f : ExpandedFile). IsKeyOf f.path f.key);
+    differ = tt;
+    not_root = refl;
+  }
 
-      by_test : (b : Bool) → nat_lt MAX_TREE_BYTES (length bytes) ≡ b → Along w AnyEvent TreeKeys (elim b as (λ z. Program (List ExpandedFile)) [
-        | true ↦ fault (place root 0) TooMany []
-        | false ↦ lines_read sub root 0 1 (split_at_newlines bytes) (counted (length bytes) initial_state) >>= λ p. returns
-            (p.state.expanded ++ record { key = root; path = root; text = p.text } ∷ [])
-      ])
-      by_test true e = tt
-      by_test false e =
-          along_then w AnyEvent (λ p. HasKeys 0 p.state) TreeKeys (lines_read sub root 0 1 (split_at_newlines bytes) (counted (length bytes) initial_state))
-          (λ p. returns (p.state.expanded ++ record { key = root; path = root; text = p.text } ∷ []))
-          (lines_keep w root HasKeys keys_kept 0 sub (source_keeps w root HasKeys keys_kept MAX_OPEN_FILES 0 (root ∷ [])) root 0 1 (split_at_newlines bytes)
-          (counted (length bytes) initial_state) (first_keys (length bytes) (ltb-false MAX_TREE_BYTES (length bytes) e))) all_keys
+  -- the keys of a state with the same files
+  with_counts : (k l : ℕ) (s t : ReadingState) → t.expanded ≡ s.expanded → IsWithinLimits t → (length s.expanded + suc k ≤ s.files
+      → length s.expanded + suc l ≤ t.files)
+      → HasKeys k s → HasKeys l t
+  with_counts k l s t e limits count g = record {
+    limits = limits;
+    count = subst (λ files. length files + suc l ≤ t.files) (sym e) (count g.count);
+    keys = subst (All (λ (f : ExpandedFile). IsKeyOf f.path f.key)) (sym e) g.keys;
+    differ = subst (λ files. IsDistinct bytes_eq (map key_of_file files)) (sym e) g.differ;
+    not_root = subst (λ files. has_key files root ≡ false) (sym e) g.not_root;
+  }
 
-  keys_of_tree : (w : World) → Along w AnyEvent TreeKeys (tree_read root)
-  unfolding tree_read
-  keys_of_tree w = (tt, tree_keys w (w.bytes root))
+  keys_kept : (c : Comparison) → Invariant c root
+  keys_kept c = let kept : Invariant c root = limits_kept c root in record {
+    holds = HasKeys;
+    written = λ file n ls text. Unit {0};
+    whole = TreeKeys;
+    begins = first_keys;
+    binds = λ k name v s g. with_counts k k s (bound name v s) refl (kept.binds k name v s g.limits) (λ h. h) g;
+    chooses = λ k name s g. with_counts k k s (with_choice name s) refl (kept.chooses k name s g.limits) (λ h. h) g;
+    listed = λ k s g. g.limits.listed;
+    lists = λ k n s h g. with_counts k k s (with_listed n s) refl (kept.lists k n s h g.limits) (λ h. h) g;
+    counts = λ k n s h b g. with_counts k (suc k) s (counted n s) refl (kept.counts k n s h b g.limits) (λ l. omega (arith, l)) g;
+    no_lines = λ file n. tt;
+    next_line = λ file n l ls line rest a b d e f. tt;
+    keeps_file = λ k path bytes p e h g. kept_keys k path p g;
+    keeps_list = λ k name p f g. kept_keys k name p g;
+    keeps_root = λ bytes p e h g. all_keys p g;
+  }
 
   keys_of_expansion : (w : World) (files : List ExpandedFile) → (expansion w root).ending ≡ returned files → TreeKeys files
-  unfolding expansion
-  keys_of_expansion w files e = fact_of_success w AnyEvent TreeKeys files (tree_read root) (job_succeeds w files MAX_WORK (tree_read root) e) (keys_of_tree w)
+  unfolding expansion keys_kept
+  keys_of_expansion w files e =
+      value_in_world w true (λ e. no_need e) (tree_matches (anywhere w) root any_text (keys_kept (anywhere w)))
+      (ending_of w (Answered w) (returned files) (tree_read root) (job_ends w (returned files) tt MAX_WORK (tree_read root) e))
 
 pub keys_are_bounded : KeysAreBounded
 keys_are_bounded w root files e = let k = keys_of_expansion root w files e in k.keys

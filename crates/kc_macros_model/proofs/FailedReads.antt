@@ -6,10 +6,10 @@ use Rattle.kc_value.specs.declared.limits.TheConstants.{MAX_WORK}
 use Rattle.kc_macros_model.specs.Programs.{Place, Answer, spend, report, ask, read_file, find_file, list_folder, Program, returns, fails, stops, does}
 use Rattle.kc_macros_model.specs.TreeExpansion.{tree_read}
 use Rattle.kc_macros_model.specs.Worlds.{World, has_file, unless_unanswered, returned, failed, Outcome, after_event, unless_fault, outcome, expansion}
-use Rattle.kc_macros_model.proofs.OpenQuestions.{if_unanswered}
 use Rattle.kc_macros_model.specs.ProgramLaws.{IsReadInPart}
 use Rattle.kc_macros_model.specs.TreeLaws.{FailedReadsChangeNothing}
-use Rattle.kc_macros_model.proofs.AnsweredPrograms.{NeverStops, FailsUnread}
+use Rattle.kc_macros_model.proofs.AnsweredPrograms.{job_ends}
+use Rattle.kc_macros_model.proofs.ProgramMatches.{AlongRun, FailsUnread}
 use Rattle.kc_macros_model.proofs.KnownTrees.{tree_goes_on}
 
 module _ {A : Type 0} (known w : World) (part : IsReadInPart known w) (P : A → Type 0) (x : A) where
@@ -32,8 +32,9 @@ module _ {A : Type 0} (known w : World) (part : IsReadInPart known w) (P : A →
       by_test false e = ap (after_event (spend at work)) (ih (left - work) e)
 
   asked_same : (left : ℕ) (at : Place) (question : List ℕ) (k : Option Answer → Program A)
-      → ((r : Option Answer) → NeverStops w P (k r) → Returned (outcome true w left (k r)) → outcome true known left (k r) ≡ outcome true w left (k r))
-      → (if_unanswered question (w.answer question) ≡ [] → NeverStops w P (k (w.answer question)))
+      → ((r : Option Answer) → AlongRun w false (λ e. Unit {0}) P (k r) → Returned (outcome true w left (k r))
+      → outcome true known left (k r) ≡ outcome true w left (k r))
+      → AlongRun w false (λ e. Unit {0}) P (k (w.answer question))
       → Returned (outcome true w left (does (ask at question) k)) → outcome true known left (does (ask at question) k)
       ≡ outcome true w left (does (ask at question) k)
   asked_same left at question k ih = by_answer (w.answer question) refl
@@ -42,11 +43,11 @@ module _ {A : Type 0} (known w : World) (part : IsReadInPart known w) (P : A →
       asked v a = unless_fault left (unless_unanswered at question left a)
           (λ n. after_event (ask at question) (outcome true v n (k a)))
 
-      by_answer : (a : Option Answer) → w.answer question ≡ a → (if_unanswered question a ≡ [] → NeverStops w P (k a)) → Returned (asked w a)
+      by_answer : (a : Option Answer) → w.answer question ≡ a → AlongRun w false (λ e. Unit {0}) P (k a) → Returned (asked w a)
           → asked known (known.answer question) ≡ asked w a
       by_answer None e h r = absurd (let z : ⊥ = cc in z)
       by_answer (Some a) e h r = ap (asked known) (sym (part.answers question) ∙ e) ∙ ap (after_event (ask at question))
-          (ih (Some a) (h refl) r)
+          (ih (Some a) h r)
 
   read_same : (left : ℕ) (path : List ℕ) (k : Option (List ℕ) → Program A) → FailsUnread (read_file path) k
       → (Returned (outcome true w left (k (w.bytes path))) → outcome true known left (k (w.bytes path)) ≡ outcome true w left (k (w.bytes path)))
@@ -75,19 +76,23 @@ module _ {A : Type 0} (known w : World) (part : IsReadInPart known w) (P : A →
           absurd (let y : ⊥ = cc in y)
 
   -- a program that fails where a file can't be read, and that returns a value, has the same outcome where each file can be read
-  pub same_if_returned : (left : ℕ) (p : Program A) → NeverStops w P p → Returned (outcome true w left p) → outcome true known left p ≡ outcome true w left p
+  pub same_if_returned : (left : ℕ) (p : Program A) → AlongRun w false (λ e. Unit {0}) P p → Returned (outcome true w left p)
+      → outcome true known left p ≡ outcome true w left p
   same_if_returned left (returns y) h e = refl
   same_if_returned left (fails f) h e = refl
   same_if_returned left stops h e = refl
-  same_if_returned left (does (report n) k) h e = ap (after_event (report n)) (same_if_returned left (k (tt {0})) (h.0 refl) e)
-  same_if_returned left (does (read_file path) k) h e = read_same left path k h.1 (same_if_returned left (k (w.bytes path)) (h.0 refl)) e
+  same_if_returned left (does (report n) k) h e = ap (after_event (report n)) (same_if_returned left (k (tt {0})) h.2 e)
+  same_if_returned left (does (read_file path) k) h e = read_same left path k h.1 (same_if_returned left (k (w.bytes path)) h.2) e
   same_if_returned left (does (find_file path) k) h e =
       ap (λ r. after_event (find_file path) (outcome true known left (k r))) (sym (part.there path)) ∙ ap (after_event (find_file path))
-      (same_if_returned left (k (has_file w path)) (h.0 refl) e)
-  same_if_returned left (does (list_folder folder) k) h e = listed_same left folder k h.1 (same_if_returned left (k (w.names folder)) (h.0 refl)) e
-  same_if_returned left (does (spend at work) k) h e = spent_same left at work k (λ n. same_if_returned n (k (tt {0})) (h.0 refl)) e
-  same_if_returned left (does (ask at question) k) h e = asked_same left at question k (λ r. same_if_returned left (k r)) h.0 e
+      (same_if_returned left (k (has_file w path)) h.2 e)
+  same_if_returned left (does (list_folder folder) k) h e = listed_same left folder k h.1 (same_if_returned left (k (w.names folder)) h.2) e
+  same_if_returned left (does (spend at work) k) h e = spent_same left at work k (λ n. same_if_returned n (k (tt {0})) h.2) e
+  same_if_returned left (does (ask at question) k) h e = asked_same left at question k (λ r. same_if_returned left (k r)) h.2 e
 
 pub failed_reads : FailedReadsChangeNothing
 unfolding expansion
-failed_reads known w root files part e = same_if_returned known w part (λ fs. Unit {0}) files MAX_WORK (tree_read root) (tree_goes_on w root) e
+failed_reads known w root files part e =
+    let r = tree_goes_on w root in
+    same_if_returned known w part (λ x. Unit {0}) files MAX_WORK (tree_read root)
+    (r.along (returned files) tt (job_ends w (returned files) tt MAX_WORK (tree_read root) e)) e

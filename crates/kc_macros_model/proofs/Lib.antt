@@ -3,8 +3,6 @@ mod PlainRows
 pub mod OpenQuestions
 pub mod Outcomes
 pub mod AnsweredPrograms
-pub mod KnownTexts
-pub mod KnownLines
 pub mod KnownTrees
 pub mod FailedReads
 pub mod TreeAnswers
@@ -12,7 +10,6 @@ pub mod TextItems
 pub mod ExpansionByRules
 pub mod RuleExpansions
 pub mod Bounds
-pub mod RunInvariants
 pub mod ProgramMatches
 pub mod TextMatches
 pub mod LineMatches
@@ -22,11 +19,11 @@ pub mod WantedQuestions
 pub mod UnusedAnswers
 pub mod CleanTexts
 pub mod CleanLines
+pub mod CleanForms
 pub mod EnvironmentLines
 pub mod LineCounts
 pub mod LinePlaces
 pub mod KeptLines
-pub mod TreeLines
 pub mod Keys
 pub mod ReadingInvariants
 pub mod BoundedReadings

@@ -5,11 +5,16 @@ use Rattle.kc_macros_model.specs.declared.fault.MacroKind.TheVariants.{TooMany}
 use Rattle.kc_macros_model.specs.Programs.{Place, Fault, Answer, Event, spend, report, ask, read_file, find_file, list_folder, Reply, Program, returns, fails, stops, does, ◌>>=◌}
 use Rattle.kc_macros_model.specs.Worlds.{World, has_file, reply, notices_of, question_of, left_after, unless_unanswered, Ending, returned, failed, stopped, Outcome, after_event, unless_fault, outcome, without_answer}
 use Rattle.kc_macros_model.proofs.OpenQuestions.{first_open, first_answered}
-use Rattle.kc_macros_model.specs.ProgramLaws.{Extends, is_unanswered}
+use Rattle.kc_macros_model.specs.ProgramLaws.{Extends, HasSameFiles, is_unanswered}
 
--- a world with more answers has files at the same paths
-pub same_files : {w more : World} → Extends w more → (path : List ℕ) → has_file more path ≡ has_file w path
-same_files {w = w} {more = more} ext path = ap (λ o. is_some o || more.unreadable path) (ext.bytes path) ∙ ap (λ b. is_some (w.bytes path) || b) (ext.unreadable path)
+-- a world of the same files has files at the same paths
+pub same_files : {w more : World} → HasSameFiles w more → (path : List ℕ) → has_file more path ≡ has_file w path
+same_files {w = w} {more = more} same path =
+    ap (λ o. is_some o || more.unreadable path) (same.bytes path) ∙ ap (λ b. is_some (w.bytes path) || b) (same.unreadable path)
+
+-- a world with more answers has the same files
+pub same_in_more : {w more : World} → Extends w more → HasSameFiles w more
+same_in_more ext = record { bytes = ext.bytes; unreadable = ext.unreadable; names = ext.names }
 
 module _ {A : Type 0} (w more : World) (ext : Extends w more) where
   -- the second outcome is the same as the first, unless the first fails for want of an answer
@@ -53,7 +58,7 @@ module _ {A : Type 0} (w more : World) (ext : Extends w more) where
       ap (λ r. after_event (read_file path) (outcome true more left (k r))) (ext.bytes path) ∙ ap (after_event (read_file path))
       (same_if_answered left (k (w.bytes path)) h)
   same_if_answered left (does (find_file path) k) h =
-      ap (λ r. after_event (find_file path) (outcome true more left (k r))) (same_files ext path) ∙ ap (after_event (find_file path))
+      ap (λ r. after_event (find_file path) (outcome true more left (k r))) (same_files (same_in_more ext) path) ∙ ap (after_event (find_file path))
       (same_if_answered left (k (has_file w path)) h)
   same_if_answered left (does (list_folder folder) k) h =
       ap (λ r. after_event (list_folder folder) (outcome true more left (k r))) (ext.names folder)

@@ -23,9 +23,8 @@ use Rattle.kc_macros_model.specs.PlainLines.{is_kept_token, token_as_it_is, is_a
 use Rattle.kc_macros_model.proofs.EnvironmentLines.{meant_same}
 use Rattle.kc_macros_model.proofs.CleanTexts.{neither_first}
 use Rattle.kc_macros_model.proofs.Keys.{same_text}
-use Rattle.kc_macros_model.proofs.KnownTrees.{gaps_gone_known, decided}
 use Rattle.kc_macros_model.proofs.LineCounts.{split_bytes, lines_both, drop_twice}
-use Rattle.kc_macros_model.proofs.PlainTokens.{not_so, bytes_as_they_are, known_as_they_are, tokens_stay}
+use Rattle.kc_macros_model.proofs.PlainTokens.{not_so, bytes_as_they_are, decided_as_they_are, tokens_stay}
 use Rattle.kc_macros_model.proofs.TokensOfLines.{tokens_are_line}
 use Rattle.std.proofs.lemmas.Cmp.{nat_list_eq_equiv}
 
@@ -46,7 +45,7 @@ line_by_form sub at continued text s f free no_name form =
     ap (λ (p : Program LineContent). p >>= content_written sub at continued s) (tokens_stay at s.bindings (line_tokens 0 text) free no_name)
     ∙ either_way continued
     ∙ ap (λ b. elim b as (λ z. Program WrittenLine) [ true ↦ stops | false ↦ form_written sub at ts (form_of real) s >>= short_line at (is_help_line real) ])
-    (decided (gaps_gone_known (known_as_they_are (line_tokens 0 text))))
+    (decided_as_they_are (line_tokens 0 text))
     ∙ ap (λ g. form_written sub at ts g s >>= short_line at (is_help_line real)) form
   where
     ts : List WrittenToken

@@ -18,8 +18,11 @@ use Rattle.kc_macros_model.specs.LineForms.{line_bytes}
 use Rattle.kc_macros_model.specs.PlainLines.{is_kept_item, has_dollar, LinesWithoutDollars, is_kept_token, text_of_items, token_as_it_is, is_assignment}
 use Rattle.kc_macros_model.proofs.CleanTexts.{neither_first, neither_second}
 use Rattle.kc_macros_model.proofs.TokensOfLines.{IsInTokens, no_bytes, next_token, is_in_tokens}
-use Rattle.kc_macros_model.proofs.KnownTexts.{known}
-use Rattle.kc_macros_model.proofs.KnownLines.{IsKnownToken, AreKnownTokens, no_known_tokens, next_known_token}
+use Rattle.kc_tree_model.specs.Limits.{is_in_list}
+use Rattle.kc_macros_model.specs.Assignments.{is_unknown}
+use Rattle.kc_macros_model.specs.LineForms.{source_words, help_words, is_word, without_gaps, is_undecided}
+use Rattle.kc_macros_model.proofs.CleanTexts.{neither_second}
+use Rattle.kc_macros_model.proofs.FormMatches.{second_of_and}
 
 pub not_so : (b : Bool) → not b ≡ true → b ≡ false
 not_so true e = absurd (let z : ⊥ = cc in z)
@@ -181,20 +184,37 @@ bytes_as_they_are (quoted quote s ∷ ts) = ap (λ x. (quote ∷ (s ++ quote ∷
 bytes_as_they_are (other s ∷ ts) = ap (λ x. s ++ x) (bytes_as_they_are ts)
 bytes_as_they_are (broken s ∷ ts) = ap (λ x. s ++ x) (bytes_as_they_are ts)
 
-known_as_it_is : (t : LineToken) → IsKnownToken (token_as_it_is t)
-known_as_it_is (gap s) = record { sort = refl; meaning = known }
+known_as_it_is : (t : LineToken) → is_unknown (token_as_it_is t) ≡ false
+known_as_it_is (gap s) = refl
 known_as_it_is (run s) = by_test (list_any is_plain_dollar (items false 0 s))
   where
-    by_test : (b : Bool) → IsKnownToken (cond b (written_as Other s []) (written_as Word s s))
-    by_test true = record { sort = refl; meaning = known }
-    by_test false = record { sort = refl; meaning = known }
-known_as_it_is (quoted quote s) = record { sort = refl; meaning = known }
-known_as_it_is (other s) = record { sort = refl; meaning = known }
-known_as_it_is (broken s) = record { sort = refl; meaning = known }
+    by_test : (b : Bool) → is_unknown (cond b (written_as Other s []) (written_as Word s s)) ≡ false
+    by_test true = refl
+    by_test false = refl
+known_as_it_is (quoted quote s) = refl
+known_as_it_is (other s) = refl
+known_as_it_is (broken s) = refl
 
-pub known_as_they_are : (ts : List LineToken) → AreKnownTokens (map token_as_it_is ts)
-known_as_they_are [] = no_known_tokens
-known_as_they_are (t ∷ ts) = next_known_token (known_as_it_is t) (known_as_they_are ts)
+none_unknown : (ts : List LineToken) → list_any is_unknown (without_gaps (map token_as_it_is ts)) ≡ false
+none_unknown [] = refl
+none_unknown (t ∷ ts) = by_gap (is_gap (token_as_it_is t)) (none_unknown ts)
+  where
+    rest : List WrittenToken
+    rest = without_gaps (map token_as_it_is ts)
+
+    by_gap : (g : Bool) → list_any is_unknown rest ≡ false → list_any is_unknown (cond (not g) (token_as_it_is t ∷ rest) rest) ≡ false
+    by_gap true e = e
+    by_gap false e = ap (λ b. b || list_any is_unknown rest) (known_as_it_is t) ∙ e
+
+decided : (ts : List WrittenToken) → list_any is_unknown ts ≡ false → is_undecided ts ≡ false
+decided [] e = refl
+decided (t ∷ ts) e =
+    let begins = is_word t && (is_in_list t.bytes source_words || is_in_list t.bytes help_words) in
+    ap (λ b. begins && b) (neither_second (is_unknown t) (list_any is_unknown ts) e) ∙ second_of_and begins
+
+-- the form of a line that has nothing to expand is known
+pub decided_as_they_are : (ts : List LineToken) → is_undecided (without_gaps (map token_as_it_is ts)) ≡ false
+decided_as_they_are ts = decided (without_gaps (map token_as_it_is ts)) (none_unknown ts)
 
 module _ (at : Place) (b : Bindings) where
   body_stays : (quote : ℕ) {s : List ℕ} {is : List Item} → ArePlainItems s is → written_items at b quote is ≡ returns (body_of s (text_of_items is))

@@ -1,278 +1,211 @@
--- The expansion of a text where a question is open, compared with the expansion where more is answered.
-use Rattle.std.proofs.Common.{◌≡◌, ℕ, zero, suc, ◌+◌, Bool, true, false, ◌&&◌, cond, List, [], ◌∷◌, length, Option, Some, None, refl, sym, subst}
-use Rattle.std.specs.Prelude.{nat_le, nat_lt, slice_get, ◌-◌, bytes_eq, codes, decimal}
+-- The expansion of a text in one world, compared with that in a world that may have more answers.
+use Rattle.std.proofs.Common.{◌≡◌, ℕ, zero, suc, ◌+◌, Bool, true, false, ◌&&◌, cond, List, [], ◌∷◌, length, Option, Some, None, refl}
+use Rattle.std.specs.Prelude.{nat_le, nat_lt, slice_get, ◌-◌, bytes_eq, codes}
+use Rattle.std.specs.List.{list_any}
 use Rattle.std.specs.Str.Parse.{digits_value}
 use Rattle.kc_tree_model.specs.Keywords.{keyword_in_table}
-use Rattle.kc_macros_model.specs.declared.fault.MacroKind.{MacroKind}
-use Rattle.kc_macros_model.specs.declared.fault.MacroKind.TheVariants.{Unterminated, Undefined, Recursion, Arguments, Error, TooDeep}
+use Rattle.kc_macros_model.specs.declared.fault.MacroKind.TheVariants.{Error, Undefined}
 use Rattle.kc_macros_model.specs.declared.fault.MacroNoticeKind.{MacroNoticeKind}
 use Rattle.kc_macros_model.specs.declared.fault.MacroNoticeKind.TheVariants.{Info, Warning}
 use Rattle.kc_value.specs.declared.limits.TheConstants.{MAX_PIECES, MAX_OPEN_EXPANSIONS}
-use Rattle.kc_macros_model.specs.Programs.{Place, Answer, Program, returns, ◌>>=◌}
+use Rattle.kc_macros_model.specs.Programs.{Place, report, Program, returns}
 use Rattle.kc_macros_model.specs.References.{pieces, Item, byte, escaped, reference, unterminated, items}
 use Rattle.kc_macros_model.specs.declared.built_in.BuiltIn.{BuiltIn}
 use Rattle.kc_macros_model.specs.declared.built_in.BuiltIn.TheVariants as functions
-use Rattle.kc_macros_model.specs.Variables.{Value, value_length, joined_values, Variable, simple, recursive, Bindings, is_number, is_environment_name, command_question, argument_of, built_ins, value_of_answer}
-use Rattle.kc_macros_model.specs.Expansion.{fault, spends, asked_value, reported, message_if, shell_value, built_in_value, other_value, unbound_value, is_recursion, Expander, named_value, piece_values, call_value, reference_value, item_value, unless_too_long, item_values, expanded, text_value}
-use Rattle.kc_macros_model.specs.Worlds.{World}
-use Rattle.kc_macros_model.specs.ProgramLaws.{Extends}
-use Rattle.kc_macros_model.proofs.ProgramMatches.{Matches, match_return, match_fault, match_then, match_spend, match_report, AnswerMatches, open_one, given, match_ask, match_unless_long}
+use Rattle.kc_macros_model.specs.Variables.{Value, value_length, Variable, simple, recursive, Bindings, is_number, is_environment_name, argument_of, built_ins}
+use Rattle.kc_macros_model.specs.Expansion.{fault, asked_value, reported, message_if, shell_value, built_in_value, other_value, unbound_value, Expander, named_value, piece_values, call_value, reference_value, item_value, item_values, expanded, text_value}
+use Rattle.kc_macros_model.proofs.CleanTexts.{IsClean, clean, clean_none, clean_cons, clean_decimal, AreClean, next_text, pieces_clean}
+use Rattle.kc_macros_model.proofs.CleanLines.{IsCleanItem, clean_byte, clean_escaped, clean_reference, AreCleanItems, next_item, items_clean}
+use Rattle.kc_macros_model.proofs.ProgramMatches.{Fits, NoLess, unknown, same, joined_no_less, Comparison, Related, match_then, match_return, match_fault, match_lacking, match_after, match_spend, match_event, match_test, match_unless_long, match_ask}
 
--- of two values the second is the same as the first, or the first is unknown
-pub data NoLess : Value → Value → Type 0 where
-  unknown : {v : Value} → NoLess None v
-  same : {s : List ℕ} → NoLess (Some s) (Some s)
-
-pub data EachNoLess : List Value → List Value → Type 0 where
-  none : EachNoLess [] []
-  next : {v u : Value} {vs us : List Value} → NoLess v u → EachNoLess vs us → EachNoLess (v ∷ vs) (u ∷ us)
+pub data EachNoLess (lacking newlines : Bool) : List Value → List Value → Type 0 where
+  none : EachNoLess lacking newlines [] []
+  next : {v u : Value} {vs us : List Value} → NoLess lacking newlines v u → EachNoLess lacking newlines vs us → EachNoLess lacking newlines (v ∷ vs) (u ∷ us)
 
 -- of two variables of a name, the second is missing or recursive just as the first is, or simple with a value no less known
-pub data VariableNoLess : Option Variable → Option Variable → Type 0 where
-  not_set : VariableNoLess None None
-  simple_both : {v u : Value} → NoLess v u → VariableNoLess (Some (simple v)) (Some (simple u))
-  recursive_both : {s : List ℕ} → VariableNoLess (Some (recursive s)) (Some (recursive s))
+pub data VariableNoLess (lacking newlines : Bool) : Option Variable → Option Variable → Type 0 where
+  not_set : VariableNoLess lacking newlines None None
+  simple_both : {v u : Value} → NoLess lacking newlines v u → VariableNoLess lacking newlines (Some (simple v)) (Some (simple u))
+  recursive_both : {s : List ℕ} → Fits newlines s → VariableNoLess lacking newlines (Some (recursive s)) (Some (recursive s))
 
-pub record BindingsNoLess (b c : Bindings) : Type 0 where
-  pub each : (name : List ℕ) → VariableNoLess (b name) (c name)
+pub record BindingsNoLess (lacking newlines : Bool) (b c : Bindings) : Type 0 where
+  pub each : (name : List ℕ) → VariableNoLess lacking newlines (b name) (c name)
 
 -- of two arguments both are missing, or the second is no less known than the first
-pub data ArgumentNoLess : Option Value → Option Value → Type 0 where
-  neither : ArgumentNoLess None None
-  either : {v u : Value} → NoLess v u → ArgumentNoLess (Some v) (Some u)
+data ArgumentNoLess (lacking newlines : Bool) : Option Value → Option Value → Type 0 where
+  neither : ArgumentNoLess lacking newlines None None
+  either : {v u : Value} → NoLess lacking newlines v u → ArgumentNoLess lacking newlines (Some v) (Some u)
 
-pub joined_no_less : {v u x y : Value} → NoLess v u → NoLess x y → NoLess (joined_values v x) (joined_values u y)
-joined_no_less unknown r = unknown
-joined_no_less (same {s = s}) unknown = unknown
-joined_no_less (same {s = s}) (same {s = t}) = same
-
-nth_no_less : {vs us : List Value} → EachNoLess vs us → (n : ℕ) → ArgumentNoLess (slice_get vs n) (slice_get us n)
+nth_no_less : {l k : Bool} {vs us : List Value} → EachNoLess l k vs us → (n : ℕ) → ArgumentNoLess l k (slice_get vs n) (slice_get us n)
 nth_no_less none n = neither
 nth_no_less (next r rs) zero = either r
 nth_no_less (next r rs) (suc n) = nth_no_less rs n
 
-argument_no_less : (inside : List ℕ) {vs us : List Value} → EachNoLess vs us → ArgumentNoLess (argument_of vs inside) (argument_of us inside)
-argument_no_less inside {vs = vs} {us = us} r = by_test (is_number inside && nat_lt 0 (digits_value 10 inside))
+argument_no_less : {l k : Bool} (inside : List ℕ) {vs us : List Value} → EachNoLess l k vs us
+    → ArgumentNoLess l k (argument_of vs inside) (argument_of us inside)
+argument_no_less {l = l} {k = k} inside {vs = vs} {us = us} r = by_test (is_number inside && nat_lt 0 (digits_value 10 inside))
   where
-    by_test : (c : Bool) → ArgumentNoLess (cond c (slice_get vs (digits_value 10 inside - 1)) None) (cond c (slice_get us (digits_value 10 inside - 1)) None)
+    by_test : (b : Bool) → ArgumentNoLess l k (cond b (slice_get vs (digits_value 10 inside - 1)) None) (cond b (slice_get us
+        (digits_value 10 inside - 1)) None)
     by_test true = nth_no_less r (digits_value 10 inside - 1)
     by_test false = neither
 
-same_recursion : (open_names : List (List ℕ)) (name : List ℕ) {vs us : List Value} → EachNoLess vs us
-    → is_recursion open_names name us ≡ is_recursion open_names name vs
-same_recursion open_names name none = refl
-same_recursion open_names name (next r rs) = refl
+-- the bytes of an item
+pub byte_fits : {c : ℕ} → IsCleanItem (byte c) → IsClean (c ∷ [])
+byte_fits (clean_byte e) = clean_cons e clean_none
 
-module _ (w more : World) (ext : Extends w more) (question : List ℕ) (unanswered : more.answer question ≡ None) where
-  abbrev M : {A : Type 0} → (A → A → Type 0) → Program A → Program A → Type 0
-  M R p m = Matches w more ext question unanswered R p m
+pub escaped_fits : {c : ℕ} → IsCleanItem (escaped c) → IsClean (c ∷ [])
+escaped_fits (clean_escaped e) = clean_cons e clean_none
+
+pub inside_fits : {s : List ℕ} → IsCleanItem (reference s) → IsClean s
+inside_fits (clean_reference h) = h
+
+pub item_fits : {i : Item} {is : List Item} → AreCleanItems (i ∷ is) → IsCleanItem i
+item_fits (next_item h r) = h
+
+pub items_fit : {i : Item} {is : List Item} → AreCleanItems (i ∷ is) → AreCleanItems is
+items_fit (next_item h r) = r
+
+pub piece_fits : {s : List ℕ} {ss : List (List ℕ)} → AreClean (s ∷ ss) → IsClean s
+piece_fits (next_text h r) = h
+
+pub pieces_fit : {s : List ℕ} {ss : List (List ℕ)} → AreClean (s ∷ ss) → AreClean ss
+pieces_fit (next_text h r) = r
+
+module _ (c : Comparison) where
+  abbrev V : Value → Value → Type 0
+  V v u = NoLess c.lacking c.newlines v u
+
+  abbrev Vs : List Value → List Value → Type 0
+  Vs vs us = EachNoLess c.lacking c.newlines vs us
 
   -- a known text in both
-  text : (s : List ℕ) → M NoLess (returns (Some s)) (returns (Some s))
-  text s = match_return w more ext question unanswered NoLess (Some s) (Some s) same
+  text : {s : List ℕ} → Fits c.newlines s → Related c V (returns (Some s)) (returns (Some s))
+  text f = match_return (same f)
 
-  nothing : (m : Program Value) → M NoLess (returns None) m
-  nothing m z s = unknown
+  empty : Related c V (returns (Some [])) (returns (Some []))
+  empty = text (λ e. clean_none)
 
-  refused : (at : Place) (kind : MacroKind) (s : List ℕ) (p : Program Value) → M NoLess p (fault at kind s)
-  refused at kind s p = match_fault w more ext question unanswered NoLess p (record { at = at; kind = kind; text = s })
-
-  answer_no_less : {r t : Option Answer} → AnswerMatches w more ext question unanswered r t → M NoLess (returns (value_of_answer r))
-      (returns (value_of_answer t))
-  answer_no_less (open_one {r = t}) = nothing (returns (value_of_answer t))
-  answer_no_less (given {a = None}) = text []
-  answer_no_less (given {a = Some s}) = text s
-
-  module _ (at : Place) where
-    ask_matches : (other : List ℕ) → M NoLess (asked_value at other) (asked_value at other)
-    ask_matches other = match_ask w more ext question unanswered NoLess at other (λ r. returns (value_of_answer r)) (λ r. returns (value_of_answer r))
-        (λ r t h. answer_no_less h)
-
-    report_matches : (kind : MacroNoticeKind) (s : List ℕ) → M NoLess (reported at kind s) (reported at kind s)
-    report_matches kind s = match_report w more ext question unanswered NoLess (record { at = at; kind = kind; text = s }) (λ u. returns (Some []))
-        (λ u. returns (Some [])) (text [])
-
-    fault_matches : (s : List ℕ) → M NoLess (fault at Error s) (fault at Error s)
-    fault_matches s = refused at Error s (fault at Error s)
-
-    -- a message has an empty value
-    abbrev IsEmptyMessage : (List ℕ → Program Value) → Type 0
-    IsEmptyMessage message = (s : List ℕ) → M NoLess (returns (Some [])) (message s)
-
-    reported_empty : (kind : MacroNoticeKind) → IsEmptyMessage (reported at kind)
-    reported_empty kind s z h = match_return w more ext question unanswered NoLess (Some []) (Some []) same z h.1
-
-    error_empty : IsEmptyMessage (fault at Error)
-    error_empty s = refused at Error s (returns (Some []))
-
-    module _ (message : List ℕ → Program Value) (empty : IsEmptyMessage message) (matches : (s : List ℕ) → M NoLess (message s) (message s)) where
-      by_condition : (p : Program Value) (s : List ℕ) (c : Bool) → M NoLess p (message s) → M NoLess p (returns (Some []))
-          → M NoLess p (cond c (message s) (returns (Some [])))
+  module _ (at : Place) (file : Fits c.newlines at.file) where
+    module _ (message : List ℕ → Program Value) (silent : (s : List ℕ) → Related c V (returns (Some [])) (message s))
+        (matches : (s : List ℕ) → Related c V (message s) (message s)) where
+      by_condition : (p : Program Value) (s : List ℕ) (b : Bool) → Related c V p (message s) → Related c V p (returns (Some []))
+          → Related c V p (cond b (message s) (returns (Some [])))
       by_condition p s true h k = h
       by_condition p s false h k = k
 
-      no_message : (c v : Value) → M NoLess (returns (Some [])) (message_if message c v)
-      no_message None v = text []
-      no_message (Some c) None = text []
-      no_message (Some c) (Some s) = by_condition (returns (Some [])) s (bytes_eq c (codes "y")) (empty s) (text [])
+      no_message : (x v : Value) → Related c V (returns (Some [])) (message_if message x v)
+      no_message None v = empty
+      no_message (Some x) None = empty
+      no_message (Some x) (Some s) = by_condition (returns (Some [])) s (bytes_eq x (codes "y")) (silent s) empty
 
-      both_messages : (s : List ℕ) (c : Bool) → M NoLess (cond c (message s) (returns (Some []))) (cond c (message s) (returns (Some [])))
+      both_messages : (s : List ℕ) (b : Bool) → Related c V (cond b (message s) (returns (Some []))) (cond b (message s) (returns (Some [])))
       both_messages s true = matches s
-      both_messages s false = text []
+      both_messages s false = empty
 
-      message_matches : {c d v u : Value} → NoLess c d → NoLess v u → M NoLess (message_if message c v) (message_if message d u)
-      message_matches {d = d} {u = u} unknown r = no_message d u
-      message_matches (same {s = c}) (unknown {v = u}) = no_message (Some c) u
-      message_matches (same {s = c}) (same {s = s}) = both_messages s (bytes_eq c (codes "y"))
+      message_matches : {x y v u : Value} → V x y → V v u → Related c V (message_if message x v) (message_if message y u)
+      message_matches {y = y} {u = u} (unknown e) r = no_message y u
+      message_matches (same {s = x} f) (unknown {v = u} e) = no_message (Some x) u
+      message_matches (same {s = x} f) (same {s = s} g) = both_messages s (bytes_eq x (codes "y"))
 
-    shell_matches : {v u : Value} → NoLess v u → M NoLess (shell_value at v) (shell_value at u)
-    shell_matches (unknown {v = u}) = nothing (shell_value at u)
-    shell_matches (same {s = s}) = ask_matches (command_question s)
+    report_matches : (kind : MacroNoticeKind) (s : List ℕ) → Related c V (reported at kind s) (reported at kind s)
+    report_matches kind s = match_event (report (record { at = at; kind = kind; text = s })) refl refl tt empty
 
-    built_in_matches : (name : List ℕ) (f : BuiltIn) {vs us : List Value} → EachNoLess vs us → M NoLess (built_in_value at name f vs)
-        (built_in_value at name f us)
-    built_in_matches name functions.Filename none = text at.file
-    built_in_matches name functions.Filename (next {v = v} {vs = vs} r rs) = refused at Arguments name (built_in_value at name functions.Filename (v ∷ vs))
-    built_in_matches name functions.Lineno none = text (decimal at.line)
-    built_in_matches name functions.Lineno (next {v = v} {vs = vs} r rs) = refused at Arguments name (built_in_value at name functions.Lineno (v ∷ vs))
-    built_in_matches name functions.Shell none = refused at Arguments name (built_in_value at name functions.Shell [])
+    notice_matches : (kind : MacroNoticeKind) {x y v u : Value} → V x y → V v u
+        → Related c V (message_if (reported at kind) x v) (message_if (reported at kind) y u)
+    notice_matches kind = message_matches (reported at kind) (λ s. match_after empty) (report_matches kind)
+
+    shell_matches : {v u : Value} → V v u → Related c V (shell_value at v) (shell_value at u)
+    shell_matches (unknown e) = match_lacking e (λ y. unknown e)
+    shell_matches (same f) = match_ask
+
+    built_in_matches : (name : List ℕ) (f : BuiltIn) {vs us : List Value} → Vs vs us → Related c V (built_in_value at name f vs) (built_in_value at name f us)
+    built_in_matches name functions.Filename none = text file
+    built_in_matches name functions.Lineno none = text (λ e. clean_decimal at.line)
     built_in_matches name functions.Shell (next r none) = shell_matches r
-    built_in_matches name functions.Shell (next {v = v} r (next {v = u} {vs = vs} s rs)) =
-        refused at Arguments name (built_in_value at name functions.Shell (v ∷ u ∷ vs))
-    built_in_matches name functions.Info none = refused at Arguments name (built_in_value at name functions.Info [])
-    built_in_matches name functions.Info (next r none) = message_matches (reported at Info) (reported_empty Info) (report_matches Info) (same {s = codes "y"}) r
-    built_in_matches name functions.Info (next {v = v} r (next {v = u} {vs = vs} s rs)) =
-        refused at Arguments name (built_in_value at name functions.Info (v ∷ u ∷ vs))
-    built_in_matches name functions.WarningIf none = refused at Arguments name (built_in_value at name functions.WarningIf [])
-    built_in_matches name functions.WarningIf (next {v = v} r none) = refused at Arguments name (built_in_value at name functions.WarningIf (v ∷ []))
-    built_in_matches name functions.WarningIf (next r (next s none)) =
-        message_matches (reported at Warning) (reported_empty Warning) (report_matches Warning) r s
-    built_in_matches name functions.WarningIf (next {v = v} r (next {v = u} s (next {v = t} {vs = vs} q rs))) =
-        refused at Arguments name (built_in_value at name functions.WarningIf (v ∷ u ∷ t ∷ vs))
-    built_in_matches name functions.ErrorIf none = refused at Arguments name (built_in_value at name functions.ErrorIf [])
-    built_in_matches name functions.ErrorIf (next {v = v} r none) = refused at Arguments name (built_in_value at name functions.ErrorIf (v ∷ []))
-    built_in_matches name functions.ErrorIf (next r (next s none)) = message_matches (fault at Error) error_empty fault_matches r s
-    built_in_matches name functions.ErrorIf (next {v = v} r (next {v = u} s (next {v = t} {vs = vs} q rs))) =
-        refused at Arguments name (built_in_value at name functions.ErrorIf (v ∷ u ∷ t ∷ vs))
+    built_in_matches name functions.Info (next r none) = notice_matches Info (same {s = codes "y"} (λ e. clean refl)) r
+    built_in_matches name functions.WarningIf (next r (next s none)) = notice_matches Warning r s
+    built_in_matches name functions.ErrorIf (next r (next s none)) = message_matches (fault at Error) (λ s. match_fault) (λ s. match_fault) r s
+    built_in_matches name f r = match_fault
 
-    other_matches : (name : List ℕ) {vs us : List Value} → EachNoLess vs us → M NoLess (other_value at name vs) (other_value at name us)
-    other_matches name (next {v = v} {vs = vs} r rs) = refused at Undefined name (other_value at name (v ∷ vs))
+    other_matches : (name : List ℕ) {vs us : List Value} → Vs vs us → Related c V (other_value at name vs) (other_value at name us)
+    other_matches name (next r rs) = match_fault
     other_matches name none = by_tests (is_number name) (is_environment_name name)
       where
         value : Bool → Bool → Program Value
         value n e = cond n (returns (Some [])) (cond e (asked_value at name) (fault at Undefined name))
 
-        by_tests : (n e : Bool) → M NoLess (value n e) (value n e)
-        by_tests true e = text []
-        by_tests false true = ask_matches name
-        by_tests false false = refused at Undefined name (fault at Undefined name)
+        by_tests : (n e : Bool) → Related c V (value n e) (value n e)
+        by_tests true e = empty
+        by_tests false true = match_ask
+        by_tests false false = match_fault
 
-    unbound_matches : (name : List ℕ) {vs us : List Value} → EachNoLess vs us → (f : Option BuiltIn)
-        → M NoLess (unbound_value at name vs f) (unbound_value at name us f)
+    unbound_matches : (name : List ℕ) {vs us : List Value} → Vs vs us → (f : Option BuiltIn)
+        → Related c V (unbound_value at name vs f) (unbound_value at name us f)
     unbound_matches name r None = other_matches name r
     unbound_matches name r (Some f) = built_in_matches name f r
 
-    -- ways to expand a text under values of which those in the second world are known where the first are
+    -- ways to expand a text under values of which those in the second world are no less known
     abbrev Expand : Expander → Expander → Type 0
-    Expand sub sup = (open_names : List (List ℕ)) (s : List ℕ) (vs us : List Value) → EachNoLess vs us → M NoLess (sub open_names vs s) (sup open_names us s)
+    Expand sub sup = (open_names : List (List ℕ)) (s : List ℕ) (vs us : List Value) → Fits c.newlines s → Vs vs us
+        → Related c V (sub open_names vs s) (sup open_names us s)
 
-    module _ (sub sup : Expander) (expand : Expand sub sup) (b c : Bindings) (bindings : BindingsNoLess b c) where
-      recursive_matches : (open_names : List (List ℕ)) (name s : List ℕ) {vs us : List Value} → EachNoLess vs us → (x : Bool)
-          → M NoLess (elim x as (λ z. Program Value) [ true ↦ fault at Recursion name | false ↦ sub (name ∷ open_names) vs s ])
-          (elim x as (λ z. Program Value) [ true ↦ fault at Recursion name | false ↦ sup (name ∷ open_names) us s ])
-      recursive_matches open_names name s r true = refused at Recursion name (fault at Recursion name)
-      recursive_matches open_names name s {vs = vs} {us = us} r false = expand (name ∷ open_names) s vs us r
-
-      name_matches : (open_names : List (List ℕ)) (name : List ℕ) {vs us : List Value} → EachNoLess vs us → {x y : Option Variable} → VariableNoLess x y
-          → M NoLess (named_value sub at open_names name vs x) (named_value sup at open_names name us y)
+    module _ (sub sup : Expander) (expand : Expand sub sup) (b d : Bindings) (bindings : BindingsNoLess c.lacking c.newlines b d) where
+      name_matches : (open_names : List (List ℕ)) (name : List ℕ) {vs us : List Value} → Vs vs us → {x y : Option Variable}
+          → VariableNoLess c.lacking c.newlines x y → Related c V (named_value sub at open_names name vs x) (named_value sup at open_names name us y)
       name_matches open_names name r not_set = unbound_matches name r (keyword_in_table built_ins name)
-      name_matches open_names name r (simple_both {v = v} {u = u} n) = match_return w more ext question unanswered NoLess v u n
-      name_matches open_names name {vs = vs} {us = us} r (recursive_both {s = s}) =
-          subst (λ x. M NoLess (elim (is_recursion open_names name vs) as (λ z. Program Value) [
-            | true ↦ fault at Recursion name
-            | false ↦ sub (name ∷ open_names) vs s
-          ]) (elim x as (λ z. Program Value) [
-            | true ↦ fault at Recursion name
-            | false ↦
-                sup (name ∷ open_names) us s
-          ]))
-          (sym (same_recursion open_names name r)) (recursive_matches open_names name s r (is_recursion open_names name vs))
+      name_matches open_names name r (simple_both n) = match_return n
+      name_matches open_names name (next {v = v} {u = u} {vs = vs} {us = us} n r) (recursive_both {s = s} f) =
+          expand (name ∷ open_names) s (v ∷ vs) (u ∷ us) f (next n r)
+      name_matches open_names name none (recursive_both {s = s} f) =
+          match_test (list_any (bytes_eq name) open_names) match_fault (expand (name ∷ open_names) s [] [] f none)
 
-      pieces_match : (open_names : List (List ℕ)) {vs us : List Value} → EachNoLess vs us → (ps : List (List ℕ))
-          → M EachNoLess (piece_values (sub open_names vs) ps) (piece_values (sup open_names us) ps)
-      pieces_match open_names r [] = match_return w more ext question unanswered EachNoLess [] [] none
-      pieces_match open_names {vs = vs} {us = us} r (p ∷ ps) =
-          match_then w more ext question unanswered NoLess EachNoLess (sub open_names vs p) (sup open_names us p)
-          (λ v. piece_values (sub open_names vs) ps >>= λ xs. returns (v ∷ xs)) (λ v. piece_values (sup open_names us) ps >>= λ xs. returns (v ∷ xs))
-          (expand open_names p vs us r)
-          (λ v u n. match_then w more ext question unanswered EachNoLess EachNoLess (piece_values (sub open_names vs) ps) (piece_values (sup open_names us) ps)
-          (λ xs. returns (v ∷ xs)) (λ xs. returns (u ∷ xs)) (pieces_match open_names r ps)
-          (λ xs ys ns. match_return w more ext question unanswered EachNoLess (v ∷ xs) (u ∷ ys) (next n ns)))
+      pieces_match : (open_names : List (List ℕ)) {vs us : List Value} → Vs vs us → (ps : List (List ℕ)) → (c.newlines ≡ false → AreClean ps)
+          → Related c Vs (piece_values (sub open_names vs) ps) (piece_values (sup open_names us) ps)
+      pieces_match open_names r [] f = match_return none
+      pieces_match open_names {vs = vs} {us = us} r (p ∷ ps) f =
+          match_then (expand open_names p vs us (λ e. piece_fits (f e)) r) (λ v u n. match_then (pieces_match open_names r ps (λ e. pieces_fit (f e)))
+          (λ xs ys ns. match_return (next n ns)))
 
-      call_matches : (open_names : List (List ℕ)) {vs us : List Value} → EachNoLess vs us → M NoLess (call_value sub at b open_names vs)
-          (call_value sup at c open_names us)
-      call_matches open_names none = refused at Undefined [] (fault at Undefined [])
-      call_matches open_names (next {u = u} {us = us} unknown rs) = nothing (call_value sup at c open_names (u ∷ us))
-      call_matches open_names (next (same {s = name}) rs) = name_matches open_names name rs (bindings.each name)
+      call_matches : (open_names : List (List ℕ)) {vs us : List Value} → Vs vs us
+          → Related c V (call_value sub at b open_names vs) (call_value sup at d open_names us)
+      call_matches open_names none = match_fault
+      call_matches open_names (next (unknown e) rs) = match_lacking e (λ y. unknown e)
+      call_matches open_names (next (same {s = name} f) rs) = name_matches open_names name rs (bindings.each name)
 
-      few_match : (open_names : List (List ℕ)) (inside : List ℕ) {vs us : List Value} → EachNoLess vs us → (few : Bool)
-          → M NoLess (elim few as (λ z. Program Value) [
-            | true ↦ piece_values (sub open_names vs) (pieces 0 inside) >>= call_value sub at b open_names
-            | false ↦ fault at Arguments []
-          ])
-          (elim few as (λ z. Program Value) [
-            | true ↦ piece_values (sup open_names us) (pieces 0 inside) >>= call_value sup at c open_names
-            | false ↦ fault at Arguments []
-          ])
-      few_match open_names inside r false = refused at Arguments [] (fault at Arguments [])
-      few_match open_names inside {vs = vs} {us = us} r true =
-          match_then w more ext question unanswered EachNoLess NoLess (piece_values (sub open_names vs) (pieces 0 inside))
-          (piece_values (sup open_names us) (pieces 0 inside)) (call_value sub at b open_names) (call_value sup at c open_names)
-          (pieces_match open_names r (pieces 0 inside))
-          (λ xs ys ns. call_matches open_names ns)
+      reference_matches : (open_names : List (List ℕ)) (inside : List ℕ) → Fits c.newlines inside → {vs us : List Value} → Vs vs us → {x y : Option Value}
+          → ArgumentNoLess c.lacking c.newlines x y
+          → Related c V (reference_value sub at b open_names vs inside x) (reference_value sup at d open_names us inside y)
+      reference_matches open_names inside f r (either n) = match_return n
+      reference_matches open_names inside f r neither =
+          match_test (nat_le (length (pieces 0 inside)) MAX_PIECES) (match_then (pieces_match open_names r (pieces 0 inside) (λ e. pieces_clean 0 inside (f e)))
+          (λ xs ys ns. call_matches open_names ns)) match_fault
 
-      reference_matches : (open_names : List (List ℕ)) (inside : List ℕ) {vs us : List Value} → EachNoLess vs us → {x y : Option Value} → ArgumentNoLess x y
-          → M NoLess (reference_value sub at b open_names vs inside x) (reference_value sup at c open_names us inside y)
-      reference_matches open_names inside r neither = few_match open_names inside r (nat_le (length (pieces 0 inside)) MAX_PIECES)
-      reference_matches open_names inside r (either {v = v} {u = u} n) = match_return w more ext question unanswered NoLess v u n
+      item_matches : (open_names : List (List ℕ)) {vs us : List Value} → Vs vs us → (i : Item) → (c.newlines ≡ false → IsCleanItem i)
+          → Related c V (item_value sub at b open_names vs i) (item_value sup at d open_names us i)
+      item_matches open_names r (byte x) f = text (λ e. byte_fits (f e))
+      item_matches open_names r (escaped x) f = text (λ e. clean_cons refl (escaped_fits (f e)))
+      item_matches open_names r (reference inside) f = reference_matches open_names inside (λ e. inside_fits (f e)) r (argument_no_less inside r)
+      item_matches open_names r (unterminated rest) f = match_fault
 
-      item_matches : (open_names : List (List ℕ)) {vs us : List Value} → EachNoLess vs us → (i : Item)
-          → M NoLess (item_value sub at b open_names vs i) (item_value sup at c open_names us i)
-      item_matches open_names r (byte x) = text (x ∷ [])
-      item_matches open_names r (escaped x) = text (92 ∷ x ∷ [])
-      item_matches open_names r (reference inside) = reference_matches open_names inside r (argument_no_less inside r)
-      item_matches open_names r (unterminated rest) = refused at Unterminated [] (fault at Unterminated [])
+    items_match : (f g : Item → Program Value) → ((i : Item) → (c.newlines ≡ false → IsCleanItem i) → Related c V (f i) (g i)) → (n l : ℕ) (is : List Item)
+        → (c.newlines ≡ false → AreCleanItems is) → Related c V (item_values at f n is) (item_values at g l is)
+    items_match f g h n l [] k = empty
+    items_match f g h n l (i ∷ is) k =
+        match_then (h i (λ e. item_fits (k e)))
+        (λ v u r. match_unless_long at (n + value_length v) (l + value_length u) (match_then (items_match f g h (n + value_length v)
+        (l + value_length u) is (λ e. items_fit (k e)))
+        (λ x y s. match_return (joined_no_less r s))))
 
-    items_match : (f g : Item → Program Value) → ((i : Item) → M NoLess (f i) (g i)) → (n l : ℕ) (is : List Item)
-        → M NoLess (item_values at f n is) (item_values at g l is)
-    items_match f g h n l [] = text []
-    items_match f g h n l (i ∷ is) =
-        match_then w more ext question unanswered NoLess NoLess (f i) (g i)
-        (λ v. unless_too_long at (n + value_length v) (item_values at f (n + value_length v) is >>= λ rest. returns (joined_values v rest)))
-        (λ v. unless_too_long at (l + value_length v) (item_values at g (l + value_length v) is >>= λ rest. returns (joined_values v rest))) (h i)
-        (λ v u r. match_unless_long w more ext question unanswered NoLess at (n + value_length v) (l + value_length u)
-        (item_values at f (n + value_length v) is >>= λ rest. returns (joined_values v rest))
-        (item_values at g (l + value_length u) is >>= λ rest. returns (joined_values u rest))
-        (match_then w more ext question unanswered NoLess NoLess (item_values at f (n + value_length v) is) (item_values at g (l + value_length u) is)
-        (λ rest. returns (joined_values v rest)) (λ rest. returns (joined_values u rest)) (items_match f g h (n + value_length v) (l + value_length u) is)
-        (λ x y s. match_return w more ext question unanswered NoLess (joined_values v x) (joined_values u y) (joined_no_less r s))))
+    module _ (b d : Bindings) (bindings : BindingsNoLess c.lacking c.newlines b d) where
+      expanded_matches : (depth : ℕ) → Expand (expanded depth at b) (expanded depth at d)
+      expanded_matches zero open_names s vs us f r = match_fault
+      expanded_matches (suc depth) open_names s vs us f r =
+          match_spend (match_then (items_match (item_value (expanded depth at b) at b open_names vs) (item_value (expanded depth at d) at d open_names us)
+          (item_matches (expanded depth at b) (expanded depth at d) (expanded_matches depth) b d bindings open_names r) 0 0 (items false 0 s)
+          (λ e. items_clean false 0 s (f e))) (λ v u n. match_spend (match_return n)))
 
-    module _ (b c : Bindings) (bindings : BindingsNoLess b c) where
-      expanded_matches : (depth : ℕ) → Expand (expanded depth at b) (expanded depth at c)
-      expanded_matches zero open_names s vs us r = refused at TooDeep [] (fault at TooDeep [])
-      expanded_matches (suc depth) open_names s vs us r =
-          let f = item_value (expanded depth at b) at b open_names vs in
-          let g = item_value (expanded depth at c) at c open_names us in
-          match_spend w more ext question unanswered NoLess at (length s + 1) (length s + 1)
-          (item_values at f 0 (items false 0 s) >>= λ v. spends at (value_length v) (returns v))
-          (item_values at g 0 (items false 0 s) >>= λ v. spends at (value_length v) (returns v))
-          (match_then w more ext question unanswered NoLess NoLess (item_values at f 0 (items false 0 s)) (item_values at g 0 (items false 0 s))
-          (λ v. spends at (value_length v) (returns v)) (λ v. spends at (value_length v) (returns v))
-          (items_match f g (item_matches (expanded depth at b) (expanded depth at c) (expanded_matches depth) b c bindings open_names r) 0 0 (items false 0 s))
-          (λ v u n. match_spend w more ext question unanswered NoLess at (value_length v) (value_length u) (returns v) (returns u)
-          (match_return w more ext question unanswered NoLess v u n)))
-
-      -- the value of a text where a question is open is no less known where more is answered
-      pub text_matches : (s : List ℕ) → M NoLess (text_value at b s) (text_value at c s)
+      -- the value of a text is no less known in the second world
+      pub text_matches : (s : List ℕ) → Fits c.newlines s → Related c V (text_value at b s) (text_value at d s)
       unfolding text_value
-      text_matches s = expanded_matches MAX_OPEN_EXPANSIONS [] s [] [] none
+      text_matches s f = expanded_matches MAX_OPEN_EXPANSIONS [] s [] [] f none

@@ -1,432 +1,436 @@
--- The reading of a tree where a question is open, compared with the reading where more is answered.
-use Rattle.std.proofs.Common.{◌≡◌, ℕ, zero, suc, ◌+◌, Bool, true, false, ◌||◌, cond, List, [], ◌∷◌, ◌++◌, length, take, drop, map, Option, Some, None, refl, sym, ap, ◌∙◌, subst}
-use Rattle.std.specs.Prelude.{not, nat_lt, filter, codes, ◌==◌}
+-- The reading of a tree in one world, compared with that in a world that may have more answers.
+use Rattle.std.proofs.Common.{◌≡◌, ◌⊎◌, inl, inr, arith, ℕ, zero, suc, ◌+◌, ◌≤◌, Bool, true, false, ◌||◌, cond, List, [], ◌∷◌, ◌++◌, length, take, drop, map, Option, Some, None, refl, sym, ap, ◌∙◌, subst}
+use Rattle.std.specs.Prelude.{not, nat_lt, filter, ◌==◌}
 use Rattle.std.specs.List.{list_any}
 use Rattle.std.specs.Str.{is_utf8}
+use Rattle.std.proofs.lemmas.Bool.{ltb-false}
 use Rattle.kc_tree_model.specs.Limits.{is_in_list}
-use Rattle.kc_tree_model.specs.LogicalLines.{PhysicalLine, split_at_newlines, without_return, is_continued, joined_bytes, continuation_count, begins_help}
+use Rattle.kc_tree_model.specs.LogicalLines.{PhysicalLine, split_at_newlines, without_return, is_continued, joined_bytes, continuation_count}
 use Rattle.kc_macros_model.specs.declared.fault.MacroKind.{MacroKind}
-use Rattle.kc_macros_model.specs.declared.fault.MacroKind.TheVariants.{JoinedAssignment, MissingFile, TooMany, LineTooLong}
+use Rattle.kc_macros_model.specs.declared.fault.MacroKind.TheVariants.{MissingFile, TooMany, SourceLoop}
 use Rattle.kc_value.specs.declared.limits.TheConstants.{MAX_TEXT_BYTES, MAX_TREE_BYTES, MAX_OPEN_FILES, MAX_LISTED_NAMES}
-use Rattle.kc_macros_model.specs.Programs.{Place, Program, returns, stops, list_folder, does, ◌>>=◌}
+use Rattle.kc_macros_model.specs.Programs.{Place, Fault, Program, returns, fails, stops, ◌>>=◌}
 use Rattle.kc_macros_model.specs.Variables.{Value}
 use Rattle.kc_macros_model.specs.Expansion.{fault}
 use Rattle.kc_macros_model.specs.LineTokens.{line_tokens}
 use Rattle.kc_macros_model.specs.declared.token_sort.TokenSort.TheVariants.{Word}
-use Rattle.kc_macros_model.specs.WrittenTokens.{WrittenToken, in_quotes_of, written_as}
-use Rattle.kc_macros_model.specs.Assignments.{AssignedText, LineContent, assigns, line_content, variable_assigned}
+use Rattle.kc_macros_model.specs.WrittenTokens.{WrittenToken, written_as}
+use Rattle.kc_macros_model.specs.Assignments.{LineContent}
 use Rattle.kc_macros_model.specs.EnvironmentLines.{meant_line}
 use Rattle.kc_macros_model.specs.LineForms.{SourceSort, LineForm, plain, bare_prompt, replaced_by, named_choice, sources, form_of, without_gaps, with_nth_token, line_bytes, is_help_line, is_undecided, with_replacement}
 use Rattle.kc_macros_model.specs.PathPatterns.{is_pattern, matches_name, path_pieces, sorted, FoundPaths, found, matching_names, matching_listed, paths_in_folder, paths_in_folders, paths_below, paths_with_files, files_of_pattern}
-use Rattle.kc_macros_model.specs.ReadingStates.{ExpandedFile, ReadingState, initial_state, Progress, progress, WrittenLine, written_line, bound, with_choice, with_listed, counted, stored_file}
-use Rattle.kc_macros_model.specs.TreeExpansion.{place, SourceTarget, one_file, file_list, sourced_path, SourceReader, path_meant, list_name, source_line, pattern_read, path_read, source_followed, choice_written, form_written, short_line, tokens_written, content_written, line_written, bytes_of_lines, lines_written, help_after, lines_read, list_read, source_fault, contents_read, sourced_read, source_read, root_read, tree_read}
-use Rattle.kc_macros_model.specs.Worlds.{World}
-use Rattle.kc_macros_model.specs.ProgramLaws.{Extends}
-use Rattle.kc_macros_model.proofs.ProgramMatches.{Matches, match_return, match_fault, match_failed, match_stop, match_then, match_found, match_file, match_folder}
-use Rattle.kc_macros_model.proofs.TextMatches.{NoLess, unknown, same, VariableNoLess, not_set, BindingsNoLess}
+use Rattle.kc_macros_model.specs.ReadingStates.{ExpandedFile, ReadingState, initial_state, Progress, progress, WrittenLine, with_choice, with_listed, counted, stored_file}
+use Rattle.kc_macros_model.specs.TreeExpansion.{place, SourceTarget, one_file, file_list, sourced_path, SourceReader, path_meant, list_name, pattern_read, path_read, source_followed, form_written, short_line, tokens_written, content_written, line_written, bytes_of_lines, lines_written, help_after, lines_read, list_read, source_fault, contents_read, sourced_read, source_read, root_read, tree_read}
+use Rattle.kc_macros_model.specs.Worlds.{has_file}
+use Rattle.kc_macros_model.specs.LinePlaces.{written_for}
+use Rattle.kc_macros_model.proofs.CleanTexts.{IsClean, clean, clean_none, clean_cons, clean_append, text_clean, AreClean, no_texts, next_text}
+use Rattle.kc_macros_model.proofs.CleanLines.{tokens_clean, AreCleanWritten}
+use Rattle.kc_macros_model.proofs.CleanForms.{line_bytes_clean, nth_token_clean, replacement_clean, gaps_gone_clean, IsCleanForm, clean_prompt, clean_replacement, form_clean, meant_clean, list_name_clean, source_line_clean, both_clean, path_pieces_clean, matching_clean, sorted_clean, with_slashes, free_key_clean}
+use Rattle.kc_macros_model.proofs.EnvironmentLines.{meant_clean_line}
+use Rattle.kc_macros_model.proofs.LineCounts.{AreCleanLines, no_lines, next_line, split_clean, returns_clean, joined_lines_clean}
+use Rattle.kc_macros_model.proofs.LinePlaces.{AreEnded, split_ended, rest_ended, sum_none, sum_next}
+use Rattle.kc_macros_model.proofs.ProgramMatches.{Fits, NoLess, unknown, same, Comparison, Related, match_then_of, match_then, match_return, match_fault, match_failed, match_stop, match_stopped, match_found, match_file, match_folder, match_test, match_unless}
+use Rattle.kc_macros_model.proofs.TextMatches.{BindingsNoLess, not_set, piece_fits, pieces_fit}
 use Rattle.kc_macros_model.proofs.LineMatches.{LineNoLess, ContentNoLess, same_assignment, line_tokens as both_tokens, content_matches, variable_matches, with_variable_no_less}
-use Rattle.kc_macros_model.proofs.FormMatches.{is_source, FormNoLess, no_source, same_source, SameEffect, same_effect}
+use Rattle.kc_macros_model.proofs.FormMatches.{is_source, FormNoLess, no_source, same_source, SameEffect, same_effect, undecided_lack}
+use Rattle.kc_macros_model.proofs.ReadingInvariants.{Invariant, room_for}
 
-module _ (w more : World) (ext : Extends w more) (question : List ℕ) (unanswered : more.answer question ≡ None) where
-  abbrev M : {A : Type 0} → (A → A → Type 0) → Program A → Program A → Type 0
-  M R p m = Matches w more ext question unanswered R p m
+module _ (c : Comparison) where
+  -- two searches for a path pattern found the same paths, within the limit
+  record PathsNoLess (f g : FoundPaths) : Type 0 where
+    paths : f.paths ≡ g.paths
+    listed : f.listed ≤ MAX_LISTED_NAMES
+    clean : c.newlines ≡ false → AreClean f.paths
 
-  -- texts and counts may differ, variables are related
-  abbrev StateNoLess : ReadingState → ReadingState → Type 0
-  StateNoLess s t = BindingsNoLess s.bindings t.bindings
-
-  abbrev ProgressNoLess : Progress → Progress → Type 0
-  ProgressNoLess p q = StateNoLess p.state q.state
-
-  record WrittenNoLess (x y : WrittenLine) : Type 0 where
-    help : y.begins_help ≡ x.begins_help
-    state : StateNoLess x.state y.state
-
-  progressed : (p q : Progress) → ProgressNoLess p q → M ProgressNoLess (returns p) (returns q)
-  progressed p q r = match_return w more ext question unanswered ProgressNoLess p q r
-
-  -- a fault in either
-  by_fault_tests : {A : Type 0} (R : A → A → Type 0) (at : Place) (kind : MacroKind) (p m : Program A) (c d : Bool) → M R p m
-      → M R (cond c (fault at kind []) p) (cond d (fault at kind []) m)
-  by_fault_tests R at kind p m true d h = match_failed w more ext question unanswered R (record { at = at; kind = kind; text = [] })
-      (cond d (fault at kind []) m)
-  by_fault_tests R at kind p m false true h = match_fault w more ext question unanswered R p (record { at = at; kind = kind; text = [] })
-  by_fault_tests R at kind p m false false h = h
-
-  -- two searches for a path pattern found the same paths
-  abbrev SamePaths : FoundPaths → FoundPaths → Type 0
-  SamePaths f g = f.paths ≡ g.paths
-
-  names_match : (at : Place) (piece folder : List ℕ) (n l : ℕ) (names : List (List ℕ)) → M SamePaths (matching_names at piece folder n names)
-      (matching_names at piece folder l names)
-  names_match at piece folder n l names =
-      by_fault_tests SamePaths at TooMany (returns (found (map (λ name. folder ++ name) (filter (matches_name piece) names)) (n + length names)))
-      (returns (found (map (λ name. folder ++ name) (filter (matches_name piece) names)) (l + length names)))
-      (nat_lt MAX_LISTED_NAMES (n + length names)) (nat_lt MAX_LISTED_NAMES (l + length names))
-      (match_return w more ext question unanswered SamePaths (found (map (λ name. folder ++ name) (filter (matches_name piece) names)) (n + length names))
-      (found (map (λ name. folder ++ name) (filter (matches_name piece) names)) (l + length names)) refl)
-
-  listed_match : (at : Place) (piece folder : List ℕ) (n l : ℕ) (names : Option (List (List ℕ))) → M SamePaths (matching_listed at piece folder n names)
-      (matching_listed at piece folder l names)
-  listed_match at piece folder n l None = match_fault w more ext question unanswered SamePaths (fault at MissingFile [])
-      (record { at = at; kind = MissingFile; text = [] })
-  listed_match at piece folder n l (Some names) = names_match at piece folder n l names
-
-  folder_matches : (at : Place) (piece folder : List ℕ) (n l : ℕ) → M SamePaths (paths_in_folder at piece folder n) (paths_in_folder at piece folder l)
-  folder_matches at piece folder n l = by_test (is_pattern piece)
+  names_match : (at : Place) (piece folder : List ℕ) → Fits c.newlines folder → (n l : ℕ) (names : List (List ℕ))
+      → Related c PathsNoLess (matching_names at piece folder n names) (matching_names at piece folder l names)
+  names_match at piece folder f n l names = by_tests (nat_lt MAX_LISTED_NAMES (n + length names)) (nat_lt MAX_LISTED_NAMES (l + length names)) refl
     where
-      by_test : (c : Bool) → M SamePaths (elim c as (λ z. Program FoundPaths) [
-        | true ↦ does (list_folder folder) (matching_listed at piece folder n)
-        | false ↦ returns (found ((folder ++ piece) ∷ []) n)
-      ]) (elim c as (λ z. Program FoundPaths) [
-        | true ↦
-            does (list_folder folder) (matching_listed at piece folder l)
-        | false ↦ returns (found ((folder ++ piece) ∷ []) l)
-      ])
-      by_test true = match_folder w more ext question unanswered SamePaths folder (matching_listed at piece folder n) (matching_listed at piece folder l)
-          (listed_match at piece folder n l)
-      by_test false = match_return w more ext question unanswered SamePaths (found ((folder ++ piece) ∷ []) n) (found ((folder ++ piece) ∷ []) l) refl
+      ways : ℕ → Bool → Program FoundPaths
+      ways x b = cond b (fault at TooMany []) (returns (found (map (λ name. folder ++ name) (filter (matches_name piece) names)) (x + length names)))
 
-  folders_match : (at : Place) (piece : List ℕ) (folders : List (List ℕ)) (n l : ℕ) → M SamePaths (paths_in_folders at piece folders n)
-      (paths_in_folders at piece folders l)
-  folders_match at piece [] n l = match_return w more ext question unanswered SamePaths (found [] n) (found [] l) refl
-  folders_match at piece (folder ∷ folders) n l =
-      match_then w more ext question unanswered SamePaths SamePaths (paths_in_folder at piece folder n) (paths_in_folder at piece folder l)
-      (λ x. paths_in_folders at piece folders x.listed >>= λ rest. returns (found (x.paths ++ rest.paths) rest.listed))
-      (λ x. paths_in_folders at piece folders x.listed >>= λ rest. returns (found (x.paths ++ rest.paths) rest.listed)) (folder_matches at piece folder n l)
-      (λ f g e. match_then w more ext question unanswered SamePaths SamePaths (paths_in_folders at piece folders f.listed)
-      (paths_in_folders at piece folders g.listed) (λ rest. returns (found (f.paths ++ rest.paths) rest.listed))
-      (λ rest. returns (found (g.paths ++ rest.paths) rest.listed)) (folders_match at piece folders f.listed g.listed)
-      (λ x y h. match_return w more ext question unanswered SamePaths (found (f.paths ++ x.paths) x.listed) (found (g.paths ++ y.paths) y.listed)
-      (ap (λ z. z ++ x.paths) e ∙ ap (λ z. g.paths ++ z) h)))
+      by_tests : (x y : Bool) → nat_lt MAX_LISTED_NAMES (n + length names) ≡ x → Related c PathsNoLess (ways n x) (ways l y)
+      by_tests true y e = match_failed
+      by_tests false true e = match_fault
+      by_tests false false e =
+          match_return (record { paths = refl; listed = ltb-false MAX_LISTED_NAMES (n + length names) e; clean = λ e. matching_clean piece folder (f e) names })
 
-  below_matches : (at : Place) (pieces : List (List ℕ)) (folders : List (List ℕ)) (n l : ℕ) → M SamePaths (paths_below at pieces folders n)
-      (paths_below at pieces folders l)
-  below_matches at [] folders n l = match_return w more ext question unanswered SamePaths (found folders n) (found folders l) refl
-  below_matches at (piece ∷ []) folders n l = folders_match at piece folders n l
-  below_matches at (piece ∷ next ∷ pieces) folders n l =
-      match_then w more ext question unanswered SamePaths SamePaths (paths_in_folders at piece folders n) (paths_in_folders at piece folders l)
-      (λ f. paths_below at (next ∷ pieces) (map (λ path. path ++ 47 ∷ []) f.paths) f.listed)
-      (λ f. paths_below at (next ∷ pieces) (map (λ path. path ++ 47 ∷ []) f.paths) f.listed) (folders_match at piece folders n l)
-      (λ f g e. subst (λ z. M SamePaths (paths_below at (next ∷ pieces) (map (λ path. path ++ 47 ∷ []) f.paths) f.listed)
-      (paths_below at (next ∷ pieces) (map (λ path. path ++ 47 ∷ []) z) g.listed)) e
-      (below_matches at (next ∷ pieces) (map (λ path. path ++ 47 ∷ []) f.paths) f.listed g.listed))
+  folder_matches : (at : Place) (piece folder : List ℕ) → Fits c.newlines piece → Fits c.newlines folder → (n l : ℕ) → n ≤ MAX_LISTED_NAMES
+      → Related c PathsNoLess (paths_in_folder at piece folder n) (paths_in_folder at piece folder l)
+  folder_matches at piece folder f g n l h =
+      match_test (is_pattern piece) (match_folder (record { at = at; kind = MissingFile; text = [] }, refl) (by_names (c.first.names folder)))
+      (match_return (record { paths = refl; listed = h; clean = λ e. next_text (clean_append folder piece (g e) (f e)) no_texts }))
+    where
+      by_names : (names : Option (List (List ℕ))) → Related c PathsNoLess (matching_listed at piece folder n names) (matching_listed at piece folder l names)
+      by_names None = match_fault
+      by_names (Some names) = names_match at piece folder g n l names
 
-  with_files_match : (paths : List (List ℕ)) → M (λ x y. x ≡ y) (paths_with_files paths) (paths_with_files paths)
-  with_files_match [] = match_return w more ext question unanswered (λ x y. x ≡ y) [] [] refl
-  with_files_match (path ∷ paths) =
-      match_found w more ext question unanswered (λ x y. x ≡ y) path (λ there. paths_with_files paths >>= λ rest. returns
-      (cond there (path ∷ rest) rest)) (λ there. paths_with_files paths >>= λ rest. returns (cond there (path ∷ rest) rest))
-      (λ there. match_then w more ext question unanswered (λ x y. x ≡ y) (λ x y. x ≡ y) (paths_with_files paths) (paths_with_files paths)
-      (λ rest. returns (cond there (path ∷ rest) rest)) (λ rest. returns (cond there (path ∷ rest) rest)) (with_files_match paths)
-      (λ x y e. match_return w more ext question unanswered (λ x y. x ≡ y) (cond there (path ∷ x) x) (cond there (path ∷ y) y)
-      (ap (λ z. cond there (path ∷ z) z) e)))
+  folders_match : (at : Place) (piece : List ℕ) → Fits c.newlines piece → (folders : List (List ℕ)) → (c.newlines ≡ false → AreClean folders)
+      → (n l : ℕ) → n ≤ MAX_LISTED_NAMES → Related c PathsNoLess (paths_in_folders at piece folders n) (paths_in_folders at piece folders l)
+  folders_match at piece f [] g n l h = match_return (record { paths = refl; listed = h; clean = λ e. no_texts })
+  folders_match at piece f (folder ∷ folders) g n l h =
+      match_then (folder_matches at piece folder f (λ e. piece_fits (g e)) n l h)
+      (λ x y r. match_then (folders_match at piece f folders (λ e. pieces_fit (g e)) x.listed y.listed r.listed) (λ u v s. match_return (record {
+        paths = ap (λ z. z ++ u.paths) r.paths ∙ ap (λ z. y.paths ++ z) s.paths;
+        listed = s.listed;
+        clean = λ e. both_clean (r.clean e) (s.clean e);
+      })))
 
-  pattern_matches : (at : Place) (pattern : List ℕ) (n l : ℕ) → M SamePaths (files_of_pattern at pattern n) (files_of_pattern at pattern l)
-  pattern_matches at pattern n l =
-      match_then w more ext question unanswered SamePaths SamePaths (paths_below at (path_pieces pattern) ([] ∷ []) n)
-      (paths_below at (path_pieces pattern) ([] ∷ []) l) (λ f. paths_with_files f.paths >>= λ paths. returns (found (sorted paths) f.listed))
-      (λ f. paths_with_files f.paths >>= λ paths. returns (found (sorted paths) f.listed)) (below_matches at (path_pieces pattern) ([] ∷ []) n l)
-      (λ f g e. match_then w more ext question unanswered (λ x y. x ≡ y) SamePaths (paths_with_files f.paths) (paths_with_files g.paths)
-      (λ paths. returns (found (sorted paths) f.listed)) (λ paths. returns (found (sorted paths) g.listed))
-      (subst (λ z. M (λ x y. x ≡ y) (paths_with_files f.paths) (paths_with_files z)) e (with_files_match f.paths))
-      (λ x y h. match_return w more ext question unanswered SamePaths (found (sorted x) f.listed) (found (sorted y) g.listed) (ap sorted h)))
+  below_matches : (at : Place) (pieces : List (List ℕ)) → (c.newlines ≡ false → AreClean pieces) → (folders : List (List ℕ))
+      → (c.newlines ≡ false → AreClean folders) → (n l : ℕ) → n ≤ MAX_LISTED_NAMES
+      → Related c PathsNoLess (paths_below at pieces folders n) (paths_below at pieces folders l)
+  below_matches at [] f folders g n l h = match_return (record { paths = refl; listed = h; clean = g })
+  below_matches at (piece ∷ []) f folders g n l h = folders_match at piece (λ e. piece_fits (f e)) folders g n l h
+  below_matches at (piece ∷ next ∷ pieces) f folders g n l h =
+      match_then (folders_match at piece (λ e. piece_fits (f e)) folders g n l h)
+      (λ x y r. subst (λ z. Related c PathsNoLess (paths_below at (next ∷ pieces) (map (λ path. path ++ 47 ∷ []) x.paths) x.listed)
+      (paths_below at (next ∷ pieces) (map (λ path. path ++ 47 ∷ []) z) y.listed)) r.paths
+      (below_matches at (next ∷ pieces) (λ e. pieces_fit (f e)) (map (λ path. path ++ 47 ∷ []) x.paths) (λ e. with_slashes
+      (r.clean e)) x.listed y.listed r.listed))
 
-  -- ways to read files that relate states
-  abbrev Follow : SourceReader → SourceReader → Type 0
-  Follow sub sup = (at : Place) (what : SourceTarget) (s t : ReadingState) → StateNoLess s t → M ProgressNoLess (sub at what s) (sup at what t)
+  -- the same paths
+  record SamePaths (xs ys : List (List ℕ)) : Type 0 where
+    paths : xs ≡ ys
+    clean : c.newlines ≡ false → AreClean xs
 
-  module _ (sub sup : SourceReader) (follow : Follow sub sup) where
-    pattern_read_matches : (at : Place) (sort : SourceSort) (s t : ReadingState) → StateNoLess s t → (f g : FoundPaths) → SamePaths f g
-        → M ProgressNoLess (pattern_read sub at sort s f) (pattern_read sup at sort t g)
-    pattern_read_matches at sort s t r f g e =
-        subst (λ z. M ProgressNoLess (pattern_read sub at sort s f) (pattern_read sup at sort t (record { paths = z; listed = g.listed }))) e
-        (by_test (nat_lt 0 (length f.paths) || sort.optional))
+  with_files_match : (paths : List (List ℕ)) → (c.newlines ≡ false → AreClean paths) → Related c SamePaths (paths_with_files paths) (paths_with_files paths)
+  with_files_match [] f = match_return (record { paths = refl; clean = f })
+  with_files_match (path ∷ paths) f =
+      match_found (match_then (with_files_match paths (λ e. pieces_fit (f e))) (λ x y r. match_return (record {
+        paths = ap (λ z. cond (has_file c.first path) (path ∷ z) z) r.paths;
+        clean = λ e. if_there (has_file c.first path) (piece_fits (f e)) (r.clean e);
+      })))
+    where
+      if_there : {xs : List (List ℕ)} (b : Bool) → IsClean path → AreClean xs → AreClean (cond b (path ∷ xs) xs)
+      if_there true h r = next_text h r
+      if_there false h r = r
+
+  pattern_matches : (at : Place) (pattern : List ℕ) → Fits c.newlines pattern → (n l : ℕ) → n ≤ MAX_LISTED_NAMES
+      → Related c PathsNoLess (files_of_pattern at pattern n) (files_of_pattern at pattern l)
+  pattern_matches at pattern f n l h =
+      match_then (below_matches at (path_pieces pattern) (λ e. path_pieces_clean pattern (f e)) ([] ∷ []) (λ e. next_text clean_none no_texts) n l h)
+      (λ x y r. match_then (subst (λ z. Related c SamePaths (paths_with_files x.paths) (paths_with_files z)) r.paths (with_files_match x.paths r.clean))
+      (λ u v s. match_return (record { paths = ap sorted s.paths; listed = r.listed; clean = λ e. sorted_clean (s.clean e) })))
+
+  -- what a line sources: a path, or a list of paths under the name of a line
+  pub data Target : SourceTarget → Type 0 where
+    a_file : {path : List ℕ} → Fits c.newlines path → Target (one_file path)
+    a_list : {name : List ℕ} {paths : List (List ℕ)} → (c.newlines ≡ false → (from : Place) × (name ≡ list_name from) × IsClean from.file)
+        → (c.newlines ≡ false → AreClean paths) → Target (file_list name paths)
+
+  -- a form that sources nothing leaves the variables
+  record LeavesVariables (ts : List WrittenToken) (f : LineForm) (s : ReadingState) (p : Program Progress) : Type 0 where
+    result : Progress
+    returned : p ≡ returns result
+    same_variables : result.state.bindings ≡ s.bindings
+    chooses : (result.state ≡ s) ⊎ ((name : List ℕ) × (result.state ≡ with_choice name s))
+    clean : AreCleanWritten ts → IsCleanForm f → IsClean result.text
+
+  prompt_fits : {s : List ℕ} → IsCleanForm (bare_prompt s) → IsClean s
+  prompt_fits (clean_prompt h) = h
+
+  replacement_fits : {s : List ℕ} → IsCleanForm (replaced_by s) → IsClean s
+  replacement_fits (clean_replacement h) = h
+
+  leaves : (reader : SourceReader) (at : Place) (ts : List WrittenToken) (f : LineForm) (s : ReadingState) → is_source f ≡ false
+      → LeavesVariables ts f s (form_written reader at ts f s)
+  leaves reader at ts plain s e =
+      record { result = progress (line_bytes ts) s; returned = refl; same_variables = refl; chooses = inl refl; clean = λ r h. line_bytes_clean r }
+  leaves reader at ts (bare_prompt text) s e = record {
+    result = progress (line_bytes (with_nth_token 1 (written_as Word (34 ∷ (text ++ 34 ∷ [])) []) ts)) s;
+    returned = refl;
+    same_variables = refl;
+    chooses = inl refl;
+    clean = λ r h. line_bytes_clean (nth_token_clean 1 (written_as Word (34 ∷ (text ++ 34 ∷ [])) [])
+        (record { bytes = clean_cons refl (clean_append text (34 ∷ []) (prompt_fits h) (clean refl)); meaning = text_clean clean_none }) r);
+  }
+  leaves reader at ts (replaced_by text) s e = record {
+    result = progress (with_replacement text ts) s;
+    returned = refl;
+    same_variables = refl;
+    chooses = inl refl;
+    clean = λ r h. replacement_clean text (replacement_fits h) r;
+  }
+  leaves reader at ts (named_choice name) s e = by_test (is_in_list name s.choices)
+    where
+      unnamed : Progress
+      unnamed = progress (line_bytes (with_nth_token 1 (written_as Word [] []) ts)) (with_choice name s)
+
+      by_test : (b : Bool) → LeavesVariables ts (named_choice name) s (returns (cond b (progress (line_bytes ts) s) unnamed))
+      by_test true =
+          record { result = progress (line_bytes ts) s; returned = refl; same_variables = refl; chooses = inl refl; clean = λ r h. line_bytes_clean r }
+      by_test false = record {
+        result = unnamed;
+        returned = refl;
+        same_variables = refl;
+        chooses = inr (name, refl);
+        clean = λ r h. line_bytes_clean (nth_token_clean 1 (written_as Word [] []) (record { bytes = clean_none; meaning = text_clean clean_none }) r);
+      }
+  leaves reader at ts (sources sort v) s e = absurd (let z : ⊥ = cc in z)
+
+  -- a file that can't be read is a fault of the line that sources it
+  unread_source : (sub : SourceReader) (root : List ℕ) (open_files : List (List ℕ)) (at : Place) (path : List ℕ) (s : ReadingState)
+      → (f : Fault) × (sourced_read sub root open_files at (one_file path) s None ≡ fails f)
+  unread_source sub root open_files at path s = by_test (is_in_list path open_files)
+    where
+      by_test : (b : Bool) → (f : Fault) × ((elim (cond b (Some SourceLoop) (Some MissingFile)) as (λ z. Program Progress) [
+        | Some kind ↦ fault at kind []
+        | None ↦ contents_read sub at (one_file path) None s >>= λ p. returns (stored_file root path p)
+      ]) ≡ fails f)
+      by_test true = (record { at = at; kind = SourceLoop; text = [] }, refl)
+      by_test false = (record { at = at; kind = MissingFile; text = [] }, refl)
+
+module _ (c : Comparison) (root : List ℕ) (fit : Fits c.newlines root) (kept : Invariant c root) where
+  -- texts and counts may differ, variables are related
+  pub record StateNoLess (k : ℕ) (s t : ReadingState) : Type 0 where
+    pub bindings : BindingsNoLess c.lacking c.newlines s.bindings t.bindings
+    pub holds : kept.holds k s
+
+  pub record ProgressNoLess (k : ℕ) (p q : Progress) : Type 0 where
+    pub state : StateNoLess k p.state q.state
+    pub text : Fits c.newlines p.text
+
+  record WrittenNoLess (k : ℕ) (x y : WrittenLine) : Type 0 where
+    help : y.begins_help ≡ x.begins_help
+    state : StateNoLess k x.state y.state
+    text : Fits c.newlines x.text
+
+  -- the text of the lines of a file from the number `n` on
+  pub record LinesNoLess (k : ℕ) (file : List ℕ) (n : ℕ) (ls : List PhysicalLine) (p q : Progress) : Type 0 where
+    pub state : StateNoLess k p.state q.state
+    pub text : kept.written file n ls p.text
+
+  abbrev pub Follow : ℕ → SourceReader → Type 0
+  Follow k sub = (at : Place) (what : SourceTarget) (s t : ReadingState) → Fits c.newlines at.file → Target c what → StateNoLess k s t
+      → Related c (ProgressNoLess k) (sub at what s) (sub at what t)
+
+  module _ (k depth : ℕ) (open_files : List (List ℕ)) (follow : Follow k (source_read depth root open_files)) where
+    abbrev sub : SourceReader
+    sub = source_read depth root open_files
+
+    pattern_read_matches : (at : Place) (sort : SourceSort) (s t : ReadingState) → Fits c.newlines at.file → StateNoLess k s t → (f g : FoundPaths)
+        → PathsNoLess c f g → Related c (ProgressNoLess k) (pattern_read sub at sort s f) (pattern_read sub at sort t g)
+    pattern_read_matches at sort s t a r f g h =
+        subst (λ z. Related c (ProgressNoLess k) (pattern_read sub at sort s f) (pattern_read sub at sort t (record { paths = z; listed = g.listed }))) h.paths
+        (match_test (nat_lt 0 (length f.paths) || sort.optional)
+        (follow at (file_list (list_name at) f.paths) (with_listed f.listed s) (with_listed g.listed t) a (a_list (λ e. (at, refl, a e)) h.clean)
+        (record { bindings = r.bindings; holds = kept.lists k f.listed s h.listed r.holds })) match_fault)
+
+    path_read_matches : (at : Place) (sort : SourceSort) (path : List ℕ) (s t : ReadingState) → Fits c.newlines at.file → Fits c.newlines path
+        → StateNoLess k s t → Related c (ProgressNoLess k) (path_read sub at sort path s) (path_read sub at sort path t)
+    path_read_matches at sort path s t a f r =
+        match_test (is_pattern path) (match_then (pattern_matches c at path f s.listed t.listed (kept.listed k s r.holds))
+        (pattern_read_matches at sort s t a r))
+        (match_test sort.optional (match_then (with_files_match c (path ∷ []) (λ e. next_text (f e) no_texts))
+        (λ x y h. subst (λ z. Related c (ProgressNoLess k) (sub at (file_list (list_name at) x) s) (sub at (file_list (list_name at) z) t)) h.paths
+        (follow at (file_list (list_name at) x) s t a (a_list (λ e. (at, refl, a e)) h.clean) r)))
+        (follow at (one_file path) s t a (a_file f) r))
+
+    followed_matches : (at : Place) (ts us : List WrittenToken) (sort : SourceSort) {v u : Value} → NoLess c.lacking c.newlines v u → (s t : ReadingState)
+        → Fits c.newlines at.file → (c.newlines ≡ false → AreCleanWritten ts) → StateNoLess k s t
+        → Related c (ProgressNoLess k) (source_followed sub at ts sort v s) (source_followed sub at us sort u t)
+    followed_matches at ts us sort (unknown l) s t a w r = match_stop l
+    followed_matches at ts us sort (same {s = given} f) s t a w r =
+        match_test (list_any (λ x. x == 91) (path_meant sort at.file given)) (match_return (record { state = r; text = λ e. line_bytes_clean (w e) }))
+        (match_then (path_read_matches at sort (path_meant sort at.file given) s t a (λ e. meant_clean sort at.file given (a e) (f e)) r)
+        (λ p q n. match_return (record { state = n.state; text = λ e. source_line_clean given p.text (w e) (n.text e) })))
+
+    form_matches : (at : Place) (ts us : List WrittenToken) {f g : LineForm} → FormNoLess c.lacking c.newlines f g → (s t : ReadingState)
+        → Fits c.newlines at.file → (c.newlines ≡ false → AreCleanWritten ts) → (c.newlines ≡ false → IsCleanForm f) → StateNoLess k s t
+        → Related c (ProgressNoLess k) (form_written sub at ts f s) (form_written sub at us g t)
+    form_matches at ts us (same_source sort n) s t a w l r = followed_matches at ts us sort n s t a w r
+    form_matches at ts us (no_source {f = f} {g = g} e h) s t a w l r =
+        let x = leaves c sub at ts f s e in
+        let y = leaves c sub at us g t h in
+        subst (λ p. Related c (ProgressNoLess k) p (form_written sub at us g t)) (sym x.returned)
+        (subst (λ p. Related c (ProgressNoLess k) (returns x.result) p) (sym y.returned) (match_return (record {
+          state = record {
+            bindings = subst (λ z. BindingsNoLess c.lacking c.newlines z y.result.state.bindings) (sym x.same_variables)
+                (subst (λ z. BindingsNoLess c.lacking c.newlines s.bindings z) (sym y.same_variables) r.bindings);
+            holds = by_choice x.result x.chooses;
+          };
+          text = λ e. x.clean (w e) (l e);
+        })))
       where
-        by_test : (c : Bool) → M ProgressNoLess (elim c as (λ z. Program Progress) [
-          | true ↦ sub at (file_list (list_name at) f.paths) (with_listed f.listed s)
-          | false ↦ fault at MissingFile []
-        ]) (elim c as (λ z. Program Progress) [
-          | true ↦ sup at (file_list (list_name at) f.paths) (with_listed g.listed t)
-          | false ↦ fault at MissingFile []
-        ])
-        by_test true = follow at (file_list (list_name at) f.paths) (with_listed f.listed s) (with_listed g.listed t) r
-        by_test false = match_fault w more ext question unanswered ProgressNoLess (fault at MissingFile []) (record { at = at; kind = MissingFile; text = [] })
-
-    path_read_matches : (at : Place) (sort : SourceSort) (path : List ℕ) (s t : ReadingState) → StateNoLess s t
-        → M ProgressNoLess (path_read sub at sort path s) (path_read sup at sort path t)
-    path_read_matches at sort path s t r = by_tests (is_pattern path) sort.optional
-      where
-        way : SourceReader → ReadingState → Bool → Bool → Program Progress
-        way reader u c d = elim c [
-          | true ↦ files_of_pattern at path u.listed >>= pattern_read reader at sort u
-          | false ↦ elim d [ true ↦ paths_with_files (path ∷ []) >>= λ paths. reader at (file_list (list_name at) paths) u | false ↦ reader at (one_file path) u ]
-        ]
-
-        by_tests : (c d : Bool) → M ProgressNoLess (way sub s c d) (way sup t c d)
-        by_tests true d = match_then w more ext question unanswered SamePaths ProgressNoLess (files_of_pattern at path s.listed)
-            (files_of_pattern at path t.listed) (pattern_read sub at sort s) (pattern_read sup at sort t) (pattern_matches at path s.listed t.listed)
-            (pattern_read_matches at sort s t r)
-        by_tests false true =
-            match_then w more ext question unanswered (λ x y. x ≡ y) ProgressNoLess (paths_with_files (path ∷ [])) (paths_with_files (path ∷ []))
-            (λ paths. sub at (file_list (list_name at) paths) s) (λ paths. sup at (file_list (list_name at) paths) t) (with_files_match (path ∷ []))
-            (λ x y e. subst (λ z. M ProgressNoLess (sub at (file_list (list_name at) x) s) (sup at (file_list (list_name at) z) t)) e
-            (follow at (file_list (list_name at) x) s t r))
-        by_tests false false = follow at (one_file path) s t r
-
-    followed_matches : (at : Place) (ts us : List WrittenToken) (sort : SourceSort) {v u : Value} → NoLess v u → (s t : ReadingState) → StateNoLess s t
-        → M ProgressNoLess (source_followed sub at ts sort v s) (source_followed sup at us sort u t)
-    followed_matches at ts us sort (unknown {v = u}) s t r = match_stop w more ext question unanswered ProgressNoLess (source_followed sup at us sort u t)
-    followed_matches at ts us sort (same {s = given}) s t r = by_test (list_any (λ c. c == 91) (path_meant sort at.file given))
-      where
-        way : SourceReader → List WrittenToken → ReadingState → Bool → Program Progress
-        way reader xs u c = elim c [
-          | true ↦ returns (progress (line_bytes xs) u)
-          | false ↦ path_read reader at sort (path_meant sort at.file given) u >>=
-              λ p. returns (progress (source_line xs given p.text) p.state)
-        ]
-
-        by_test : (c : Bool) → M ProgressNoLess (way sub ts s c) (way sup us t c)
-        by_test true = progressed (progress (line_bytes ts) s) (progress (line_bytes us) t) r
-        by_test false =
-            match_then w more ext question unanswered ProgressNoLess ProgressNoLess (path_read sub at sort (path_meant sort at.file given) s)
-            (path_read sup at sort (path_meant sort at.file given) t) (λ p. returns (progress (source_line ts given p.text) p.state))
-            (λ p. returns (progress (source_line us given p.text) p.state)) (path_read_matches at sort (path_meant sort at.file given) s t r)
-            (λ p q n. progressed (progress (source_line ts given p.text) p.state) (progress (source_line us given q.text) q.state) n)
-
-    -- a form that sources nothing leaves the variables
-    record LeavesVariables (p : Program Progress) (s : ReadingState) : Type 0 where
-      result : Progress
-      returned : p ≡ returns result
-      same_variables : result.state.bindings ≡ s.bindings
-
-    leaves : (reader : SourceReader) (at : Place) (ts : List WrittenToken) (f : LineForm) (s : ReadingState) → is_source f ≡ false
-        → LeavesVariables (form_written reader at ts f s) s
-    leaves reader at ts plain s e = record { result = progress (line_bytes ts) s; returned = refl; same_variables = refl }
-    leaves reader at ts (bare_prompt text) s e =
-        record {
-          result = progress (line_bytes (with_nth_token 1 (written_as Word (34 ∷ (text ++ 34 ∷ [])) []) ts)) s;
-          returned = refl;
-          same_variables = refl;
-        }
-    leaves reader at ts (replaced_by text) s e = record { result = progress (with_replacement text ts) s; returned = refl; same_variables = refl }
-    leaves reader at ts (named_choice name) s e = record {
-      result = choice_written ts name s;
-      returned = refl;
-      same_variables = by_test (is_in_list name s.choices);
-    }
-      where
-        by_test : (c : Bool) → (cond c (progress (line_bytes ts) s) (progress (line_bytes (with_nth_token 1 (written_as Word [] []) ts))
-            (with_choice name s))).state.bindings ≡ s.bindings
-        by_test true = refl
-        by_test false = refl
-    leaves reader at ts (sources sort v) s e = absurd (let z : ⊥ = cc in z)
-
-    form_matches : (at : Place) (ts us : List WrittenToken) {f g : LineForm} → FormNoLess f g → (s t : ReadingState) → StateNoLess s t
-        → M ProgressNoLess (form_written sub at ts f s) (form_written sup at us g t)
-    form_matches at ts us (same_source sort n) s t r = followed_matches at ts us sort n s t r
-    form_matches at ts us (no_source {f = f} {g = g} e h) s t r =
-        let x = leaves sub at ts f s e in
-        let y = leaves sup at us g t h in
-        subst (λ p. M ProgressNoLess p (form_written sup at us g t)) (sym x.returned) (subst (λ p. M ProgressNoLess (returns x.result) p) (sym y.returned)
-        (progressed x.result y.result (subst (λ z. BindingsNoLess z y.result.state.bindings) (sym x.same_variables)
-        (subst (λ z. BindingsNoLess s.bindings z) (sym y.same_variables) r))))
-
-    short_matches : (at : Place) (h k : Bool) → k ≡ h → (p q : Progress) → ProgressNoLess p q → M WrittenNoLess (short_line at h p) (short_line at k q)
-    short_matches at h k e p q r =
-        by_tests (nat_lt MAX_TEXT_BYTES (length p.text)) (nat_lt MAX_TEXT_BYTES (length q.text))
-      where
-        line : Bool → Bool → Progress → Program WrittenLine
-        line c help x = elim c [ true ↦ fault at LineTooLong [] | false ↦ returns (written_line x.text help x.state) ]
-
-        by_tests : (c d : Bool) → M WrittenNoLess (line c h p) (line d k q)
-        by_tests true d = match_failed w more ext question unanswered WrittenNoLess (record { at = at; kind = LineTooLong; text = [] }) (line d k q)
-        by_tests false true = match_fault w more ext question unanswered WrittenNoLess (line false h p) (record { at = at; kind = LineTooLong; text = [] })
-        by_tests false false = match_return w more ext question unanswered WrittenNoLess (written_line p.text h p.state) (written_line q.text k q.state)
-            (record { help = e; state = r })
+        by_choice : (p : Progress) → (p.state ≡ s) ⊎ ((name : List ℕ) × (p.state ≡ with_choice name s)) → kept.holds k p.state
+        by_choice p (inl e) = subst (kept.holds k) (sym e) r.holds
+        by_choice p (inr (name, e)) = subst (kept.holds k) (sym e) (kept.chooses k name s r.holds)
 
     -- lines whose tokens are related; where the first is undecided its reading ends
-    tokens_match : (at : Place) (s t : ReadingState) → StateNoLess s t → {ts us : List WrittenToken} → LineNoLess ts us
-        → M WrittenNoLess (tokens_written sub at s ts (without_gaps ts)) (tokens_written sup at t us (without_gaps us))
-    tokens_match at s t r {ts = ts} {us = us} l = by_test (is_undecided (without_gaps ts)) refl
+    tokens_match : (at : Place) (s t : ReadingState) {ts us : List WrittenToken} → Fits c.newlines at.file → StateNoLess k s t
+        → LineNoLess c.lacking c.newlines ts us → (c.newlines ≡ false → AreCleanWritten ts)
+        → Related c (WrittenNoLess k) (tokens_written sub at s ts (without_gaps ts)) (tokens_written sub at t us (without_gaps us))
+    tokens_match at s t {ts = ts} {us = us} a r l w = by_tests (is_undecided (without_gaps ts)) (is_undecided (without_gaps us)) refl refl
       where
-        way : SourceReader → ReadingState → List WrittenToken → Bool → Program WrittenLine
-        way reader u xs c = elim c [
+        way : ReadingState → List WrittenToken → Bool → Program WrittenLine
+        way u xs b = elim b [
           | true ↦ stops
-          | false ↦ form_written reader at xs (form_of (without_gaps xs)) u >>= short_line at
-              (is_help_line (without_gaps xs))
+          | false ↦ form_written sub at xs (form_of (without_gaps xs)) u >>= short_line at (is_help_line (without_gaps xs))
         ]
 
-        other_way : (d : Bool) → SameEffect (without_gaps ts) (without_gaps us) → M WrittenNoLess (way sub s ts false) (way sup t us d)
-        other_way true e = λ z h. absurd h
-        other_way false e =
-            match_then w more ext question unanswered ProgressNoLess WrittenNoLess (form_written sub at ts (form_of (without_gaps ts)) s)
-            (form_written sup at us (form_of (without_gaps us)) t) (short_line at (is_help_line (without_gaps ts)))
-            (short_line at (is_help_line (without_gaps us))) (form_matches at ts us e.form s t r)
-            (short_matches at (is_help_line (without_gaps ts)) (is_help_line (without_gaps us)) e.help)
+        written : SameEffect c.lacking c.newlines (without_gaps ts) (without_gaps us) → Related c (WrittenNoLess k) (way s ts false) (way t us false)
+        written e = match_then (form_matches at ts us e.form s t a w (λ e. form_clean (gaps_gone_clean (w e))) r)
+            (λ p q n. match_unless _ _ (nat_lt MAX_TEXT_BYTES (length p.text)) (nat_lt MAX_TEXT_BYTES (length q.text))
+            (match_return (record { help = e.help; state = n.state; text = n.text })))
 
-        by_test : (c : Bool) → is_undecided (without_gaps ts) ≡ c → M WrittenNoLess (way sub s ts c) (way sup t us (is_undecided (without_gaps us)))
-        by_test true e = match_stop w more ext question unanswered WrittenNoLess (way sup t us (is_undecided (without_gaps us)))
-        by_test false e = other_way (is_undecided (without_gaps us)) (same_effect l e)
+        by_tests : (x y : Bool) → is_undecided (without_gaps ts) ≡ x → is_undecided (without_gaps us) ≡ y
+            → Related c (WrittenNoLess k) (way s ts x) (way t us y)
+        by_tests true y e h = let u = undecided_lack l in match_stop (u.0 e)
+        by_tests false true e h = let u = undecided_lack l in match_stopped (u.1 h)
+        by_tests false false e h = written (same_effect l e)
 
-    assignment_matches : (at : Place) (continued : Bool) (s t : ReadingState) → StateNoLess s t → (name : List ℕ) (a : AssignedText)
-        → M WrittenNoLess (content_written sub at continued s (assigns name a)) (content_written sup at continued t (assigns name a))
-    assignment_matches at true s t r name a = match_fault w more ext question unanswered WrittenNoLess (fault at JoinedAssignment [])
-        (record { at = at; kind = JoinedAssignment; text = [] })
-    assignment_matches at false s t r name a =
-        match_then w more ext question unanswered (λ x y. VariableNoLess (Some x) (Some y)) WrittenNoLess
-        (variable_assigned at s.bindings a.operator a.text (s.bindings name)) (variable_assigned at t.bindings a.operator a.text (t.bindings name))
-        (λ v. returns (written_line [] false (bound name v s))) (λ v. returns (written_line [] false (bound name v t)))
-        (variable_matches w more ext question unanswered at s.bindings t.bindings r a.operator a.text (r.each name))
-        (λ x y n. match_return w more ext question unanswered WrittenNoLess (written_line [] false (bound name x s)) (written_line [] false (bound name y t))
-        (record { help = refl; state = with_variable_no_less name x y s.bindings t.bindings n r }))
+    content_written_matches : (at : Place) (continued : Bool) (s t : ReadingState) → Fits c.newlines at.file → StateNoLess k s t → {x y : LineContent}
+        → ContentNoLess c.lacking c.newlines x y → Related c (WrittenNoLess k) (content_written sub at continued s x) (content_written sub at continued t y)
+    content_written_matches at true s t a r (both_tokens l w) = tokens_match at s t a r l w
+    content_written_matches at false s t a r (both_tokens l w) = tokens_match at s t a r l w
+    content_written_matches at true s t a r (same_assignment f) = match_fault
+    content_written_matches at false s t a r (same_assignment {name = name} {a = x} f) =
+        match_then (variable_matches c at a s.bindings t.bindings r.bindings x.operator x.text f (r.bindings.each name)) (λ v u n. match_return (record {
+          help = refl;
+          state = record { bindings = with_variable_no_less name n r.bindings; holds = kept.binds k name v s r.holds };
+          text = λ e. clean_none;
+        }))
 
-    content_written_matches : (at : Place) (continued : Bool) (s t : ReadingState) → StateNoLess s t → {x y : LineContent} → ContentNoLess x y
-        → M WrittenNoLess (content_written sub at continued s x) (content_written sup at continued t y)
-    content_written_matches at continued s t r (same_assignment {name = name} {a = a}) = assignment_matches at continued s t r name a
-    content_written_matches at true s t r (both_tokens l) = tokens_match at s t r l
-    content_written_matches at false s t r (both_tokens l) = tokens_match at s t r l
+    line_matches : (at : Place) (continued : Bool) (text : List ℕ) (s t : ReadingState) → Fits c.newlines at.file → IsClean text → StateNoLess k s t
+        → Related c (WrittenNoLess k) (line_written sub at continued text s) (line_written sub at continued text t)
+    line_matches at continued text s t a f r =
+        match_test (nat_lt MAX_TEXT_BYTES (length text) || not (is_utf8 text)) (match_return (record { help = refl; state = r; text = λ e. f }))
+        (match_then (content_matches c at a s.bindings t.bindings r.bindings (line_tokens 0 (meant_line text))
+        (λ e. tokens_clean 0 (meant_line text) (meant_clean_line text f))) (λ x y n. content_written_matches at continued s t a r n))
 
-    line_matches : (at : Place) (continued : Bool) (text : List ℕ) (s t : ReadingState) → StateNoLess s t
-        → M WrittenNoLess (line_written sub at continued text s) (line_written sup at continued text t)
-    line_matches at continued text s t r = by_test (nat_lt MAX_TEXT_BYTES (length text) || not (is_utf8 text))
-      where
-        way : SourceReader → ReadingState → Bool → Program WrittenLine
-        way reader u c = elim c [
-          | true ↦ returns (written_line text (begins_help text) u)
-          | false ↦ line_content at u.bindings true
-              (line_tokens 0 (meant_line text)) >>= content_written reader at continued u
-        ]
-
-        by_test : (c : Bool) → M WrittenNoLess (way sub s c) (way sup t c)
-        by_test true = match_return w more ext question unanswered WrittenNoLess (written_line text (begins_help text) s)
-            (written_line text (begins_help text) t) (record { help = refl; state = r })
-        by_test false = match_then w more ext question unanswered ContentNoLess WrittenNoLess (line_content at s.bindings true (line_tokens 0 (meant_line text)))
-            (line_content at t.bindings true (line_tokens 0 (meant_line text))) (content_written sub at continued s) (content_written sup at continued t)
-            (content_matches w more ext question unanswered at s.bindings t.bindings r (line_tokens 0 (meant_line text)))
-            (λ x y n. content_written_matches at continued s t r n)
-
-    lines_match : (file : List ℕ) (skip n : ℕ) (ls : List PhysicalLine) (s t : ReadingState) → StateNoLess s t
-        → M ProgressNoLess (lines_read sub file skip n ls s) (lines_read sup file skip n ls t)
-    lines_match file zero n [] s t r = progressed (progress [] s) (progress [] t) r
-    lines_match file (suc skip) n [] s t r = progressed (progress [] s) (progress [] t) r
-    lines_match file (suc skip) n (l ∷ ls) s t r = lines_match file skip (n + 1) ls s t r
-    lines_match file zero n (l ∷ ls) s t r =
+    pub lines_match : (file : List ℕ) → Fits c.newlines file → (skip n : ℕ) {ls : List PhysicalLine} (s t : ReadingState) → AreCleanLines ls → AreEnded ls
+        → StateNoLess k s t → Related c (LinesNoLess k file (n + skip) (drop skip ls)) (lines_read sub file skip n ls s) (lines_read sub file skip n ls t)
+    lines_match file f zero n s t no_lines d r = match_return (record { state = r; text = kept.no_lines file (n + 0) })
+    lines_match file f (suc skip) n s t no_lines d r = match_return (record { state = r; text = kept.no_lines file (n + suc skip) })
+    lines_match file f (suc skip) n s t (next_line {l = l} {ls = ls} h q) d r =
+        subst (λ m. Related c (LinesNoLess k file m (drop skip ls)) (lines_read sub file skip (n + 1) ls s) (lines_read sub file skip (n + 1) ls t))
+        (sum_next n skip)
+        (lines_match file f skip (n + 1) s t q (rest_ended d) r)
+    lines_match file f zero n s t (next_line {l = l} {ls = ls} h q) d r =
         let all = map without_return (l ∷ ls) in
-        let more_lines = continuation_count all in
-        match_then w more ext question unanswered WrittenNoLess ProgressNoLess
-        (line_written sub (place file n) (is_continued (without_return l)) (joined_bytes all) s)
-        (line_written sup (place file n) (is_continued (without_return l)) (joined_bytes all) t)
-        (λ line. let help = help_after line.begins_help (drop more_lines ls) in
-        lines_read sub file (more_lines + help) (n + 1) ls line.state >>= λ rest. returns
-        (progress (lines_written (l ∷ take more_lines ls) (joined_bytes all) line.text ++ (bytes_of_lines (take help (drop more_lines ls)) ++ rest.text))
-        rest.state))
-        (λ line. let help = help_after line.begins_help (drop more_lines ls) in
-        lines_read sup file (more_lines + help) (n + 1) ls line.state >>= λ rest. returns
-        (progress (lines_written (l ∷ take more_lines ls) (joined_bytes all) line.text ++ (bytes_of_lines (take help (drop more_lines ls)) ++ rest.text))
-        rest.state))
-        (line_matches (place file n) (is_continued (without_return l)) (joined_bytes all) s t r)
-        (λ x y h. match_then w more ext question unanswered ProgressNoLess ProgressNoLess
-        (lines_read sub file (more_lines + help_after x.begins_help (drop more_lines ls)) (n + 1) ls x.state)
-        (lines_read sup file (more_lines + help_after y.begins_help (drop more_lines ls)) (n + 1) ls y.state)
-        (λ rest. returns (progress (lines_written (l ∷ take more_lines ls) (joined_bytes all) x.text
-        ++ (bytes_of_lines (take (help_after x.begins_help (drop more_lines ls)) (drop more_lines ls)) ++ rest.text)) rest.state))
-        (λ rest. returns (progress (lines_written (l ∷ take more_lines ls) (joined_bytes all) y.text
-        ++ (bytes_of_lines (take (help_after y.begins_help (drop more_lines ls)) (drop more_lines ls)) ++ rest.text)) rest.state))
-        (subst (λ b. M ProgressNoLess (lines_read sub file (more_lines + help_after x.begins_help (drop more_lines ls)) (n + 1) ls x.state)
-        (lines_read sup file (more_lines + help_after b (drop more_lines ls)) (n + 1) ls y.state)) (sym h.help)
-        (lines_match file (more_lines + help_after x.begins_help (drop more_lines ls)) (n + 1) ls x.state y.state h.state))
-        (λ p q m. progressed (progress (lines_written (l ∷ take more_lines ls) (joined_bytes all) x.text
-        ++ (bytes_of_lines (take (help_after x.begins_help (drop more_lines ls)) (drop more_lines ls)) ++ p.text)) p.state)
-        (progress (lines_written (l ∷ take more_lines ls) (joined_bytes all) y.text
-        ++ (bytes_of_lines (take (help_after y.begins_help (drop more_lines ls)) (drop more_lines ls)) ++ q.text)) q.state) m))
+        let more = continuation_count all in
+        match_then_of (line_matches (place file n) (is_continued (without_return l)) (joined_bytes all) s t f (joined_lines_clean (returns_clean
+        (next_line h q))) r)
+        (λ x y e i. match_then (subst (λ b. Related c (LinesNoLess k file (n + 1 + (more + help_after x.begins_help (drop more ls)))
+        (drop (more + help_after x.begins_help (drop more ls)) ls))
+        (lines_read sub file (more + help_after x.begins_help (drop more ls)) (n + 1) ls x.state)
+        (lines_read sub file (more + help_after b (drop more ls)) (n + 1) ls y.state)) (sym i.help)
+        (lines_match file f (more + help_after x.begins_help (drop more ls)) (n + 1) x.state y.state q (rest_ended d) i.state))
+        (λ u v m. match_return (record {
+          state = m.state;
+          text = subst (λ j. kept.written file j (l ∷ ls) (lines_written (l ∷ take more ls) (joined_bytes all) x.text
+              ++ (bytes_of_lines (take (help_after x.begins_help (drop more ls)) (drop more ls)) ++ u.text))) (sum_none n)
+              (kept.next_line file n l ls x u.text (next_line h q) d (written_for depth root open_files s e) i.text m.text);
+        })))
 
-    list_matches : (at : Place) (paths : List (List ℕ)) (s t : ReadingState) → StateNoLess s t → M ProgressNoLess (list_read sub at paths s)
-        (list_read sup at paths t)
-    list_matches at [] s t r = progressed (progress [] s) (progress [] t) r
-    list_matches at (path ∷ paths) s t r =
-        match_then w more ext question unanswered ProgressNoLess ProgressNoLess (sub at (one_file path) s) (sup at (one_file path) t)
-        (λ p. list_read sub at paths p.state >>= λ rest. returns (progress (codes "source " ++ (in_quotes_of 34 p.text ++ 10 ∷ rest.text)) rest.state))
-        (λ p. list_read sup at paths p.state >>= λ rest. returns (progress (codes "source " ++ (in_quotes_of 34 p.text ++ 10 ∷ rest.text)) rest.state))
-        (follow at (one_file path) s t r)
-        (λ p q n. match_then w more ext question unanswered ProgressNoLess ProgressNoLess (list_read sub at paths p.state) (list_read sup at paths q.state)
-        (λ rest. returns (progress (codes "source " ++ (in_quotes_of 34 p.text ++ 10 ∷ rest.text)) rest.state))
-        (λ rest. returns (progress (codes "source " ++ (in_quotes_of 34 q.text ++ 10 ∷ rest.text)) rest.state)) (list_matches at paths p.state q.state n)
-        (λ x y m. progressed (progress (codes "source " ++ (in_quotes_of 34 p.text ++ 10 ∷ x.text)) x.state)
-        (progress (codes "source " ++ (in_quotes_of 34 q.text ++ 10 ∷ y.text)) y.state) m))
+    list_matches : (at : Place) (paths : List (List ℕ)) (s t : ReadingState) → Fits c.newlines at.file → (c.newlines ≡ false → AreClean paths)
+        → StateNoLess k s t → Related c (λ p q. StateNoLess k p.state q.state) (list_read sub at paths s) (list_read sub at paths t)
+    list_matches at [] s t a f r = match_return r
+    list_matches at (path ∷ paths) s t a f r =
+        match_then (follow at (one_file path) s t a (a_file (λ e. piece_fits (f e))) r)
+        (λ p q n. match_then (list_matches at paths p.state q.state a (λ e. pieces_fit (f e)) n.state) (λ x y m. match_return m))
 
-    contents_match : (at : Place) (what : SourceTarget) (bytes : Option (List ℕ)) (s t : ReadingState) → StateNoLess s t
-        → M ProgressNoLess (contents_read sub at what bytes s) (contents_read sup at what bytes t)
-    contents_match at (one_file path) None s t r = progressed (progress [] s) (progress [] t) r
-    contents_match at (one_file path) (Some bytes) s t r = lines_match path 0 1 (split_at_newlines bytes) (counted (length bytes) s)
-        (counted (length bytes) t) r
-    contents_match at (file_list name paths) None s t r = list_matches at paths (counted 0 s) (counted 0 t) r
-    contents_match at (file_list name paths) (Some bytes) s t r = list_matches at paths (counted 0 s) (counted 0 t) r
-
-    sourced_matches : (root : List ℕ) (open_files : List (List ℕ)) (at : Place) (what : SourceTarget) (s t : ReadingState) → StateNoLess s t
-        → (bytes : Option (List ℕ))
-        → M ProgressNoLess (sourced_read sub root open_files at what s bytes) (sourced_read sup root open_files at what t bytes)
-    sourced_matches root open_files at what s t r bytes = by_faults (source_fault open_files s (sourced_path what) bytes)
-        (source_fault open_files t (sourced_path what) bytes)
-      where
-        way : SourceReader → ReadingState → Option MacroKind → Program Progress
-        way reader u x = elim x [
-          | Some kind ↦ fault at kind []
-          | None ↦ contents_read reader at what bytes u >>= λ p. returns
-              (stored_file root (sourced_path what) p)
-        ]
-
-        by_faults : (x y : Option MacroKind) → M ProgressNoLess (way sub s x) (way sup t y)
-        by_faults (Some kind) y = match_failed w more ext question unanswered ProgressNoLess (record { at = at; kind = kind; text = [] }) (way sup t y)
-        by_faults None (Some kind) = match_fault w more ext question unanswered ProgressNoLess (way sub s None) (record { at = at; kind = kind; text = [] })
-        by_faults None None =
-            match_then w more ext question unanswered ProgressNoLess ProgressNoLess (contents_read sub at what bytes s) (contents_read sup at what bytes t)
-            (λ p. returns (stored_file root (sourced_path what) p)) (λ p. returns (stored_file root (sourced_path what) p))
-            (contents_match at what bytes s t r)
-            (λ p q n. progressed (stored_file root (sourced_path what) p) (stored_file root (sourced_path what) q) n)
-
-  source_matches : (depth : ℕ) (root : List ℕ) (open_files : List (List ℕ)) → Follow (source_read depth root open_files) (source_read depth root open_files)
-  source_matches zero root open_files at what s t r = progressed (progress [] s) (progress [] t) r
-  source_matches (suc depth) root open_files at (one_file path) s t r =
-      match_file w more ext question unanswered ProgressNoLess path (sourced_read (source_read depth root (path ∷ open_files)) root open_files at
-      (one_file path) s) (sourced_read (source_read depth root (path ∷ open_files)) root open_files at (one_file path) t)
-      (sourced_matches (source_read depth root (path ∷ open_files)) (source_read depth root (path ∷ open_files))
-      (source_matches depth root (path ∷ open_files)) root open_files at (one_file path) s t r)
-  source_matches (suc depth) root open_files at (file_list name paths) s t r =
-      sourced_matches (source_read depth root (name ∷ open_files)) (source_read depth root (name ∷ open_files))
-      (source_matches depth root (name ∷ open_files)) root open_files at (file_list name paths) s t r (Some [])
-
-  abbrev pub Any : List ExpandedFile → List ExpandedFile → Type 0
-  Any x y = Unit {0}
-
-  root_matches : (root : List ℕ) (s : ReadingState) → StateNoLess s s → (bytes : Option (List ℕ)) → M Any (root_read root s bytes) (root_read root s bytes)
-  root_matches root s r None = match_fault w more ext question unanswered Any (root_read root s None)
-      (record { at = place root 0; kind = MissingFile; text = [] })
-  root_matches root s r (Some bytes) = by_test (nat_lt MAX_TREE_BYTES (length bytes))
+  -- a file or a list that is read, unless it is a fault
+  sourced_matches : (k depth : ℕ) (opened open_files : List (List ℕ)) (at : Place) (what : SourceTarget) (s t : ReadingState) (bytes : List ℕ)
+      → (source_fault open_files s (sourced_path what) (Some bytes) ≡ None
+      → Related c (ProgressNoLess k) (contents_read (source_read depth root opened) at what (Some bytes) s >>= λ p. returns (stored_file root
+      (sourced_path what) p))
+      (contents_read (source_read depth root opened) at what (Some bytes) t >>= λ p. returns (stored_file root (sourced_path what) p)))
+      → Related c (ProgressNoLess k) (sourced_read (source_read depth root opened) root open_files at what s (Some bytes))
+      (sourced_read (source_read depth root opened) root open_files at what t (Some bytes))
+  sourced_matches k depth opened open_files at what s t bytes h =
+      by_faults (source_fault open_files s (sourced_path what) (Some bytes)) (source_fault open_files t (sourced_path what) (Some bytes)) refl
     where
-      lines : Program Progress
-      lines = lines_read (source_read MAX_OPEN_FILES root (root ∷ [])) root 0 1 (split_at_newlines bytes) (counted (length bytes) s)
-
-      way : Bool → Program (List ExpandedFile)
-      way c = elim c [
-        | true ↦ fault (place root 0) TooMany []
-        | false ↦
-            lines >>= λ p. returns (p.state.expanded ++ record { key = root; path = root; text = p.text } ∷ [])
+      way : ReadingState → Option MacroKind → Program Progress
+      way u x = elim x [
+        | Some kind ↦ fault at kind []
+        | None ↦ contents_read (source_read depth root opened) at what (Some bytes) u >>= λ p. returns (stored_file root (sourced_path what) p)
       ]
 
-      by_test : (c : Bool) → M Any (way c) (way c)
-      by_test true = match_fault w more ext question unanswered Any (way true) (record { at = place root 0; kind = TooMany; text = [] })
-      by_test false =
-          match_then w more ext question unanswered ProgressNoLess Any lines lines
-          (λ p. returns (p.state.expanded ++ record { key = root; path = root; text = p.text } ∷ []))
-          (λ p. returns (p.state.expanded ++ record { key = root; path = root; text = p.text } ∷ []))
-          (lines_match (source_read MAX_OPEN_FILES root (root ∷ [])) (source_read MAX_OPEN_FILES root (root ∷ []))
-          (source_matches MAX_OPEN_FILES root (root ∷ [])) root 0 1 (split_at_newlines bytes) (counted (length bytes) s) (counted (length bytes) s) r)
-          (λ p q n. match_return w more ext question unanswered Any (p.state.expanded ++ record { key = root; path = root; text = p.text } ∷ [])
-          (q.state.expanded ++ record { key = root; path = root; text = q.text } ∷ []) tt)
+      by_faults : (x y : Option MacroKind) → source_fault open_files s (sourced_path what) (Some bytes) ≡ x → Related c (ProgressNoLess k) (way s x) (way t y)
+      by_faults (Some kind) y e = match_failed
+      by_faults None (Some kind) e = match_fault
+      by_faults None None e = h e
 
-  -- where the reading of a tree succeeds with more answers but not that to `question`, it never asks `question` in vain
-  pub tree_matches : (root : List ℕ) → M Any (tree_read root) (tree_read root)
+  -- one more file
+  counted_state : (k n : ℕ) (open_files : List (List ℕ)) (path bytes : List ℕ) (s t : ReadingState) → source_fault open_files s path (Some bytes) ≡ None
+      → n ≤ length bytes → StateNoLess k s t → StateNoLess (suc k) (counted n s) (counted n t)
+  counted_state k n open_files path bytes s t e h r =
+      let room = room_for open_files s path bytes e in
+      record { bindings = r.bindings; holds = kept.counts k n s room.0 (omega (arith, h, room.1)) r.holds }
+
+  -- a key of a path or of a name
+  stored_matches : (k : ℕ) (path : List ℕ) (p q : Progress) → Fits c.newlines path → BindingsNoLess c.lacking c.newlines p.state.bindings q.state.bindings
+      → kept.holds k (stored_file root path p).state → ProgressNoLess k (stored_file root path p) (stored_file root path q)
+  stored_matches k path p q f b h = record {
+    state = record { bindings = b; holds = h };
+    text = λ e. free_key_clean (suc (length p.state.expanded)) root p.state.expanded path p.text path 2 (f e) (f e);
+  }
+
+  module _ (k depth : ℕ) (opened open_files : List (List ℕ)) (follow : Follow (suc k) (source_read depth root opened)) where
+    file_matches : (at : Place) (path : List ℕ) (s t : ReadingState) → Fits c.newlines path → StateNoLess k s t → (bytes : Option (List ℕ))
+        → c.first.bytes path ≡ bytes
+        → Related c (ProgressNoLess k) (sourced_read (source_read depth root opened) root open_files at (one_file path) s bytes)
+        (sourced_read (source_read depth root opened) root open_files at (one_file path) t bytes)
+    file_matches at path s t f r None e =
+        let (g, u) = unread_source c (source_read depth root opened) root open_files at path s in
+        subst (λ p. Related c (ProgressNoLess k) p (sourced_read (source_read depth root opened) root open_files at (one_file path) t None))
+        (sym u) match_failed
+    file_matches at path s t f r (Some bytes) e =
+        sourced_matches k depth opened open_files at (one_file path) s t bytes
+        (λ n. match_then (lines_match (suc k) depth opened follow path f 0 1 (counted (length bytes) s) (counted (length bytes) t) (split_clean bytes)
+        (split_ended bytes) (counted_state k (length bytes) open_files path bytes s t n (omega arith) r))
+        (λ p q m. match_return (stored_matches k path p q f m.state.bindings (kept.keeps_file k path bytes p e m.text m.state.holds))))
+
+    list_of_files_matches : (at : Place) (name : List ℕ) (paths : List (List ℕ)) (s t : ReadingState) → Fits c.newlines at.file
+        → (c.newlines ≡ false → (from : Place) × (name ≡ list_name from) × IsClean from.file) → (c.newlines ≡ false → AreClean paths) → StateNoLess k s t
+        → Related c (ProgressNoLess k) (sourced_read (source_read depth root opened) root open_files at (file_list name paths) s (Some []))
+        (sourced_read (source_read depth root opened) root open_files at (file_list name paths) t (Some []))
+    list_of_files_matches at name paths s t a f g r =
+        sourced_matches k depth opened open_files at (file_list name paths) s t []
+        (λ n. match_then (list_matches (suc k) depth opened follow at paths (counted 0 s) (counted 0 t) a g
+        (counted_state k 0 open_files name [] s t n (omega arith) r))
+        (λ p q m. match_return (stored_matches k name p q (λ e. name_fits (f e)) m.bindings (kept.keeps_list k name p f m.holds))))
+      where
+        name_fits : (from : Place) × (name ≡ list_name from) × IsClean from.file → IsClean name
+        name_fits (from, e, h) = subst (λ z. IsClean z) (sym e) (list_name_clean from h)
+
+  pub source_matches : (depth k : ℕ) (open_files : List (List ℕ)) → Follow k (source_read depth root open_files)
+  source_matches zero k open_files at what s t a w r = match_return (record { state = r; text = λ e. clean_none })
+  source_matches (suc depth) k open_files at (one_file path) s t a (a_file f) r =
+      match_file (unread_source c (source_read depth root (path ∷ open_files)) root open_files at path s)
+      (file_matches k depth (path ∷ open_files) open_files (source_matches depth (suc k) (path ∷ open_files)) at path s t f r (c.first.bytes path) refl)
+  source_matches (suc depth) k open_files at (file_list name paths) s t a (a_list f g) r =
+      list_of_files_matches k depth (name ∷ open_files) open_files (source_matches depth (suc k) (name ∷ open_files)) at name paths s t a f g r
+
+  pub first_lines_match : (n : ℕ) → n ≤ MAX_TREE_BYTES → (bytes : List ℕ) → let sub = source_read MAX_OPEN_FILES root (root ∷ []) in
+      Related c (LinesNoLess 0 root 1 (split_at_newlines bytes)) (lines_read sub root 0 1 (split_at_newlines bytes) (counted n initial_state))
+      (lines_read sub root 0 1 (split_at_newlines bytes) (counted n initial_state))
+  first_lines_match n h bytes =
+      lines_match 0 MAX_OPEN_FILES (root ∷ []) (source_matches MAX_OPEN_FILES 0 (root ∷ [])) root fit 0 1 (counted n initial_state) (counted n initial_state)
+      (split_clean bytes) (split_ended bytes) (record { bindings = record { each = λ name. not_set }; holds = kept.begins n h })
+
+  root_matches : (bytes : Option (List ℕ)) → c.first.bytes root ≡ bytes → Related c (λ x y. kept.whole x) (root_read root initial_state bytes)
+      (root_read root initial_state bytes)
+  root_matches None e = match_fault
+  root_matches (Some bytes) e = by_test (nat_lt MAX_TREE_BYTES (length bytes)) refl
+    where
+      lines : Program Progress
+      lines = lines_read (source_read MAX_OPEN_FILES root (root ∷ [])) root 0 1 (split_at_newlines bytes) (counted (length bytes) initial_state)
+
+      way : Bool → Program (List ExpandedFile)
+      way x = elim x [
+        | true ↦ fault (place root 0) TooMany []
+        | false ↦ lines >>= λ p. returns
+            (p.state.expanded ++ record { key = root; path = root; text = p.text } ∷ [])
+      ]
+
+      by_test : (x : Bool) → nat_lt MAX_TREE_BYTES (length bytes) ≡ x → Related c (λ x y. kept.whole x) (way x) (way x)
+      by_test true h = match_fault
+      by_test false h = match_then (first_lines_match (length bytes) (ltb-false MAX_TREE_BYTES (length bytes) h) bytes)
+          (λ p q m. match_return (kept.keeps_root bytes p e m.text m.state.holds))
+
+  -- the readings of a tree are related
+  pub tree_matches : Related c (λ x y. kept.whole x) (tree_read root) (tree_read root)
   unfolding tree_read
-  tree_matches root = match_file w more ext question unanswered Any root (root_read root initial_state) (root_read root initial_state)
-      (root_matches root initial_state (record { each = λ name. not_set }))
+  tree_matches = match_file (record { at = place root 0; kind = MissingFile; text = [] }, refl) (root_matches (c.first.bytes root) refl)

@@ -1,6 +1,6 @@
 -- Answers that a tree doesn't use.
 use Rattle.std.proofs.Common.{◌≡◌, ℕ, Bool, true, false, ◌||◌, cond, List, [], ◌∷◌, ◌++◌, Option, Some, None, Ok, Err, refl, sym, ap, ◌∙◌}
-use Rattle.std.specs.Prelude.{nat_lt, ◌-◌, bytes_eq, filter, is_some, not, reverse}
+use Rattle.std.specs.Prelude.{nat_lt, ◌-◌, bytes_eq, filter, not, reverse}
 use mathlib.Core.List.{reverse-cons}
 use Rattle.std.proofs.lemmas.List.Folds.{list_any-append}
 use Rattle.std.proofs.lemmas.Slice.Eq.{bytes_eq-Decides}
@@ -13,6 +13,7 @@ use Rattle.kc_macros_model.specs.TreeExpansion.{tree_read}
 use Rattle.kc_macros_model.specs.Worlds.{World, has_file, unless_unanswered, Outcome, after_event, unless_fault, outcome, expansion, not_in, questions_once, if_all_answered, unused}
 use Rattle.kc_macros_model.specs.ProgramLaws.{HasSameFiles}
 use Rattle.kc_macros_model.specs.TreeLaws.{UnusedAnswersChangeNothing}
+use Rattle.kc_macros_model.proofs.Outcomes.{same_files}
 
 or_true : (b : Bool) → (b || true) ≡ true
 or_true true = refl
@@ -103,11 +104,8 @@ module _ {A : Type 0} (w less : World) (same : HasSameFiles w less) where
       ap (λ r. after_event (read_file path) (outcome true less left (k r))) (same.bytes path) ∙ ap (after_event (read_file path))
       (alike left (k (w.bytes path)) h)
   alike left (does (find_file path) k) h =
-      ap (λ r. after_event (find_file path) (outcome true less left (k r))) (same_there path) ∙ ap (after_event (find_file path))
+      ap (λ r. after_event (find_file path) (outcome true less left (k r))) (same_files same path) ∙ ap (after_event (find_file path))
       (alike left (k (has_file w path)) h)
-    where
-      same_there : (path : List ℕ) → has_file less path ≡ has_file w path
-      same_there path = ap (λ o. is_some o || less.unreadable path) (same.bytes path) ∙ ap (λ b. is_some (w.bytes path) || b) (same.unreadable path)
   alike left (does (list_folder folder) k) h =
       ap (λ r. after_event (list_folder folder) (outcome true less left (k r))) (same.names folder) ∙ ap (after_event (list_folder folder))
       (alike left (k (w.names folder)) h)

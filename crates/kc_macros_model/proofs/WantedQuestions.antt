@@ -10,55 +10,19 @@ use Rattle.kc_value.specs.declared.limits.TheConstants.{MAX_WORK}
 use Rattle.kc_macros_model.specs.Programs.{Place, Answer, spend, report, ask, read_file, find_file, list_folder, Program, returns, fails, stops, does}
 use Rattle.kc_macros_model.specs.ReadingStates.{ExpandedFile}
 use Rattle.kc_macros_model.specs.TreeExpansion.{tree_read}
-use Rattle.kc_macros_model.specs.Worlds.{World, has_file, unless_unanswered, Ending, returned, failed, stopped, Outcome, after_event, unless_fault, outcome, expansion, questions_or_fault, without_answer, questions_once, wanted}
-use Rattle.kc_macros_model.proofs.OpenQuestions.{if_unanswered, absent_filtered}
+use Rattle.kc_macros_model.specs.Worlds.{World, has_file, Ending, returned, failed, stopped, Outcome, after_event, unless_fault, outcome, expansion, questions_or_fault, without_answer, questions_once, wanted}
+use Rattle.kc_macros_model.proofs.OpenQuestions.{absent_filtered}
 use Rattle.kc_macros_model.specs.ProgramLaws.{Extends}
 use Rattle.kc_macros_model.specs.TreeLaws.{WantedIsNeeded}
-use Rattle.kc_macros_model.proofs.RunInvariants.{Along, Succeeds}
-use Rattle.kc_macros_model.proofs.ProgramMatches.{Spares}
-use Rattle.kc_macros_model.proofs.TreeMatches.{Any, tree_matches}
-
-module _ {A : Type 0} (w : World) (y : A) where
-  -- an outcome that returned this value
-  abbrev Returned : Outcome A → Type 0
-  Returned o = o.ending ≡ returned y
-
-  spent_success : (left : ℕ) (at : Place) (work : ℕ) (k : Unit {0} → Program A)
-      → ((n : ℕ) → Returned (outcome true w n (k (tt {0}))) → Succeeds w y (k (tt {0})))
-      → Returned (outcome true w left (does (spend at work) k)) → Succeeds w y (k (tt {0}))
-  spent_success left at work k ih = by_test (nat_lt left work)
-    where
-      by_test : (b : Bool) → Returned (unless_fault left (cond b (Err (record { at = at; kind = TooMany; text = [] })) (Ok (left - work)))
-          (λ n. after_event (spend at work) (outcome true w n (k (tt {0}))))) → Succeeds w y (k (tt {0}))
-      by_test true e = absurd (let z : ⊥ = cc in z)
-      by_test false e = ih (left - work) e
-
-  asked_success : (left : ℕ) (at : Place) (question : List ℕ) (k : Option Answer → Program A)
-      → ((r : Option Answer) → Returned (outcome true w left (k r)) → Succeeds w y (k r))
-      → Returned (outcome true w left (does (ask at question) k)) → Succeeds w y (does (ask at question) k)
-  asked_success left at question k ih = by_answer (w.answer question)
-    where
-      by_answer : (a : Option Answer) → Returned (unless_fault left (unless_unanswered at question left a)
-          (λ n. after_event (ask at question) (outcome true w n (k a)))) → (if_unanswered question a ≡ []) × Succeeds w y (k a)
-      by_answer None e = absurd (let z : ⊥ = cc in z)
-      by_answer (Some a) e = (refl, ih (Some a) e)
-
-  -- a program that returned a value where open questions are faults succeeded: no question was open
-  pub job_succeeds : (left : ℕ) (p : Program A) → Returned (outcome true w left p) → Succeeds w y p
-  job_succeeds left (returns x) e = let z : x ≡ y = cc in z
-  job_succeeds left (fails f) e = let z : ⊥ = cc in z
-  job_succeeds left stops e = let z : ⊥ = cc in z
-  job_succeeds left (does (report n) k) e = (refl, job_succeeds left (k (tt {0})) e)
-  job_succeeds left (does (read_file path) k) e = (refl, job_succeeds left (k (w.bytes path)) e)
-  job_succeeds left (does (find_file path) k) e = (refl, job_succeeds left (k (has_file w path)) e)
-  job_succeeds left (does (list_folder folder) k) e = (refl, job_succeeds left (k (w.names folder)) e)
-  job_succeeds left (does (spend at work) k) e = (refl, spent_success left at work k (λ n. job_succeeds n (k (tt {0}))) e)
-  job_succeeds left (does (ask at question) k) e = asked_success left at question k (λ r. job_succeeds left (k r)) e
+use Rattle.kc_macros_model.proofs.AnsweredPrograms.{job_ends, any_text, Spares, more_answered}
+use Rattle.kc_macros_model.proofs.ProgramMatches.{AlongRun, Related}
+use Rattle.kc_macros_model.proofs.ReadingInvariants.{limits_kept}
+use Rattle.kc_macros_model.proofs.TreeMatches.{tree_matches}
 
 module _ {A : Type 0} (w more : World) (ext : Extends w more) (question : List ℕ) (unanswered : more.answer question ≡ None) (P : A → Type 0) where
   -- a program along which a question is spared
   abbrev Spared : Program A → Type 0
-  Spared p = Along w (Spares w more ext question unanswered) P p
+  Spared p = AlongRun w true (Spares w question) P p
 
   -- the question isn't among those of an outcome
   abbrev Without : Outcome A → Type 0
@@ -93,12 +57,12 @@ module _ {A : Type 0} (w more : World) (ext : Extends w more) (question : List �
   spared_questions left (returns x) h = refl
   spared_questions left (fails f) h = refl
   spared_questions left stops h = refl
-  spared_questions left (does (report n) k) h = spared_questions left (k (tt {0})) h.1
-  spared_questions left (does (read_file path) k) h = spared_questions left (k (w.bytes path)) h.1
-  spared_questions left (does (find_file path) k) h = spared_questions left (k (has_file w path)) h.1
-  spared_questions left (does (list_folder folder) k) h = spared_questions left (k (w.names folder)) h.1
-  spared_questions left (does (spend at work) k) h = spared_spent left at work k (λ n. spared_questions n (k (tt {0})) h.1)
-  spared_questions left (does (ask at other) k) h = spared_asked left at other k h.0 (spared_questions left (k (w.answer other)) h.1)
+  spared_questions left (does (report n) k) h = spared_questions left (k (tt {0})) h.2
+  spared_questions left (does (read_file path) k) h = spared_questions left (k (w.bytes path)) h.2
+  spared_questions left (does (find_file path) k) h = spared_questions left (k (has_file w path)) h.2
+  spared_questions left (does (list_folder folder) k) h = spared_questions left (k (w.names folder)) h.2
+  spared_questions left (does (spend at work) k) h = spared_spent left at work k (λ n. spared_questions n (k (tt {0})) h.2)
+  spared_questions left (does (ask at other) k) h = spared_asked left at other k h.0 (spared_questions left (k (w.answer other)) h.2)
 
 -- a list without repeats has no more, and neither has one turned around
 not_in_reverse : (x : List ℕ) (xs : List (List ℕ)) → is_in_list x xs ≡ false → is_in_list x (reverse xs) ≡ false
@@ -133,8 +97,10 @@ pub wanted_is_needed : WantedIsNeeded
 unfolding wanted expansion
 wanted_is_needed w more root question questions files asked has ext unanswered h =
     let o : Outcome (List ExpandedFile) = outcome false w MAX_WORK (tree_read root) in
-    let spared = tree_matches w more ext question unanswered root files (job_succeeds more files MAX_WORK (tree_read root) h) in
-    let none = spared_questions w more ext question unanswered (λ x. Any w more ext question unanswered x files) MAX_WORK (tree_read root) spared in
+    let c = more_answered w more ext question unanswered in
+    let related : Related c (λ (x y : List ExpandedFile). Unit {0}) (tree_read root) (tree_read root) = tree_matches c root any_text (limits_kept c root) in
+    let spared = related.along (returned files) tt (job_ends more (returned files) tt MAX_WORK (tree_read root) h) in
+    let none = spared_questions w more ext question unanswered (λ x. Unit {0}) MAX_WORK (tree_read root) spared in
     let absent = absent_filtered (λ (q : List ℕ). is_none (w.answer q)) question (questions_once o)
     (not_without_repeats question (reverse o.questions) (not_in_reverse question o.questions none)) in
     let e : true ≡ false = sym has ∙ ap (is_in_list question) (sym (questions_are (without_answer w (questions_once o)) o.ending questions asked)) ∙ absent in

@@ -1,4 +1,4 @@
-use Rattle.kc_macros_model.proofs.TreeLines.{lines_are_kept}
+use Rattle.kc_macros_model.proofs.KeptLines.{lines_are_kept}
 use Rattle.kc_macros_model.proofs.laws.lines_are_kept.Goals as goal
 
 pub returns : goal.returns
