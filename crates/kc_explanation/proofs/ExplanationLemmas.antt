@@ -1,5 +1,5 @@
 -- The text of a symbol's reasons, line after line.
-use Rattle.std.proofs.Common.{◌≡◌, ℕ, zero, suc, ◌<◌, List, [], ◌∷◌, ◌++◌, length, Option, Some, None, refl, ap, sym, ◌∙◌, append_assoc, arith}
+use Rattle.std.proofs.Common.{◌≡◌, ℕ, zero, suc, ◌<◌, List, [], ◌∷◌, ◌++◌, length, Some, refl, ap, sym, ◌∙◌, append_assoc, arith}
 use Rattle.std.specs.Prelude.{slice_get, option_map, unwrap_or}
 use Rattle.kc_tree_model.specs.Trees.{Tree, Symbol}
 use Rattle.kc_rules_model.specs.declared.values.UnitValue.{UnitValue}
@@ -49,13 +49,3 @@ joined_two old one two a b h1 h2 = h2 ∙ ap (λ x. x ++ b) h1 ∙ simp append_a
 
 pub joined_three : (old one two three a b c : List ℕ) → one ≡ old ++ a → two ≡ one ++ b → three ≡ two ++ c → three ≡ old ++ (a ++ (b ++ c))
 joined_three old one two three a b c h1 h2 h3 = h3 ∙ ap (λ x. x ++ c) (h2 ∙ ap (λ x. x ++ b) h1) ∙ simp append_assoc
-
--- and where one of them is two; after two more
-pub joined_details : (old one two three a b c d : List ℕ) → one ≡ old ++ a → two ≡ one ++ (b ++ c) → three ≡ two ++ d
-    → three ≡ old ++ (a ++ (b ++ (c ++ d)))
-joined_details old one two three a b c d h1 h2 h3 = h3 ∙ ap (λ x. x ++ d) (h2 ∙ ap (λ x. x ++ (b ++ c)) h1) ∙ simp append_assoc
-
-pub joined_all : (old one two three four five a b c d e f : List ℕ) → one ≡ old ++ a → two ≡ one ++ b → three ≡ two ++ c → four ≡ three ++ (d ++ e)
-    → five ≡ four ++ f → five ≡ old ++ (a ++ (b ++ (c ++ (d ++ (e ++ f)))))
-joined_all old one two three four five a b c d e f h1 h2 h3 h4 h5 =
-    h5 ∙ ap (λ x. x ++ f) (h4 ∙ ap (λ x. x ++ (d ++ e)) (h3 ∙ ap (λ x. x ++ c) (h2 ∙ ap (λ x. x ++ b) h1))) ∙ simp append_assoc

@@ -2,3 +2,4 @@ pub mod SpellingLemmas
 pub mod ExplanationLemmas
 pub mod PartLines
 pub mod Spellings
+pub mod CaseTexts

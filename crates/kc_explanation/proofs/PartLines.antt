@@ -1,20 +1,23 @@
 -- Lines of parts of conditions, and of selects and implies.
-use Rattle.std.proofs.Common.{◌≡◌, ℕ, List, [], ◌∷◌, ◌++◌, map, Option, Some, None, refl, ap, ◌∙◌}
-use Rattle.std.specs.Prelude.{codes, flat_map, slice_get}
+use Rattle.std.proofs.Common.{◌≡◌, ℕ, List, [], ◌∷◌, ◌++◌, map, cond, Option, Some, None, refl, ap, ◌∙◌, append_assoc}
+use Rattle.std.specs.Prelude.{codes, slice_get}
 use Rattle.std.specs.Global.{Vec}
 use Rattle.std.proofs.lemmas.List.{append-nil}
 use Rattle.kc_expr.specs.Expr.{Environment}
 use Rattle.kc_expr.specs.between.Arena.{Exprs}
-use Rattle.kc_tree_model.specs.Trees.{Tree, ReverseDependency}
+use Rattle.kc_tree_model.specs.Trees.{Tree, Symbol, ReverseDependency}
+use Rattle.kc_tree_model.specs.Blocks.{Position}
 use Rattle.kc_rules_model.specs.declared.values.UnitValue.{UnitValue}
+use Rattle.kc_rules_model.specs.SymbolValues.{environment}
 use Rattle.kc_dotconfig_model.specs.declared.format.Strings.{Strings}
 use Rattle.kc_reasons.specs.declared.low_parts.LowPart.{LowPart}
 use Rattle.kc_reasons.specs.between.Parts.{part_view, parts_view, alternatives_view}
 use Rattle.kc_located_reasons.specs.declared.located_parts.LocatedPart.{LocatedPart}
 use Rattle.kc_located_reasons.specs.between.PartsView.{located_part_view, located_parts_view, located_alternatives_view}
-use Rattle.kc_explanation.specs.Explained.{inner_line, low_part_text, low_parts_text, alternative_lines, forcing_text, forcing_line, forcing_lines}
-use Rattle.kc_explanation.specs.Located.{located_part_text, located_parts_text, located_alternative_lines, located_forcing_line, located_forcing_lines}
-use Rattle.kc_explanation.specs.checker.PartLines.{joined_parts, part_lines}
+use Rattle.kc_reasons_model.specs.declared.cases.Hindrance.{Hindrance}
+use Rattle.kc_explanation.specs.Explained.{inner_line, low_part_text, low_parts_text, alternative_lines, needs_lines, is_without_prompt, forcing_text, forcing_line, forcing_lines}
+use Rattle.kc_explanation.specs.Located.{located_part_text, located_parts_text, located_alternative_lines, located_needs_lines, located_forcing_line, located_forcing_lines}
+use Rattle.kc_explanation.specs.checker.PartLines.{joined_parts, part_lines, needed_lines}
 
 module _ (strings : Strings) (names : Environment) (exprs : Exprs) where
   abbrev pub low_texts : List LowPart → List (List ℕ)
@@ -63,3 +66,54 @@ module _ (strings : Strings) (paths : List (List ℕ)) (tree : Tree) (values : L
   without_places (n ∷ ns) =
       ap (λ x. x ++ located_forcing_lines strings paths tree values word fs [] ns) (without_place (slice_get fs n))
       ∙ ap (λ x. forcing_line strings tree values word (slice_get fs n) ++ x) (without_places ns)
+
+-- the details of a symbol, each part equal to another text
+joined_details : (n m f g h i u v : List ℕ) → n ≡ m → f ≡ g → h ≡ i → u ≡ v → n ++ ((f ++ h) ++ u) ≡ m ++ (g ++ (i ++ v))
+joined_details n m f g h i u v is_n is_f is_h is_u =
+    ap (λ x. x ++ ((f ++ h) ++ u)) is_n
+    ∙ ap (λ x. m ++ x) (append_assoc f h u ∙ ap (λ x. x ++ (h ++ u)) is_f ∙ ap (λ x. g ++ (x ++ u)) is_h ∙ ap (λ x. g ++ (i ++ x)) is_u)
+
+module _ (strings : Strings) (tree : Tree) (values : List UnitValue) (exprs : Exprs) (symbol : Symbol) (hindrance : Option Hindrance) (selected_by implied_by : List ℕ) where
+  -- without their places
+  abbrev pub low_details : List (Vec LowPart) → List (Vec LowPart) → List ℕ
+  low_details needs unmet =
+      needed_lines (is_without_prompt hindrance symbol) (each_low strings (environment tree values) exprs needs)
+      ++ ((located_forcing_lines strings [] tree values (codes "selected by ") symbol.selectors [] selected_by
+      ++ located_forcing_lines strings [] tree values (codes "implied by ") symbol.impliers [] implied_by)
+      ++ part_lines (codes "unmet: ") (each_low strings (environment tree values) exprs unmet))
+
+  pub low_details_are : (needs unmet : List (Vec LowPart))
+      → low_details needs unmet
+      ≡ needs_lines strings (environment tree values) (is_without_prompt hindrance symbol) (alternatives_view exprs needs)
+      ++ (forcing_lines strings tree values (codes "selected by ") symbol.selectors selected_by
+      ++ (forcing_lines strings tree values (codes "implied by ") symbol.impliers implied_by
+      ++ alternative_lines strings (environment tree values) (codes "unmet: ") (alternatives_view exprs unmet)))
+  low_details_are needs unmet =
+      joined_details _ _ _ _ _ _ _ _
+      (ap (λ x. cond (is_without_prompt hindrance symbol) (inner_line (codes "it has no prompt")) x) (low_lines strings (environment tree values) exprs (codes "needs ") needs))
+      (without_places strings [] tree values (codes "selected by ") symbol.selectors selected_by)
+      (without_places strings [] tree values (codes "implied by ") symbol.impliers implied_by)
+      (low_lines strings (environment tree values) exprs (codes "unmet: ") unmet)
+
+  -- and with them
+  abbrev pub placed_details : List (List ℕ) → List (Vec LocatedPart) → List (Vec LocatedPart) → List Position → List Position → List ℕ
+  placed_details paths needs unmet selectors impliers =
+      needed_lines (is_without_prompt hindrance symbol) (each_located strings (environment tree values) exprs paths needs)
+      ++ ((located_forcing_lines strings paths tree values (codes "selected by ") symbol.selectors selectors selected_by
+      ++ located_forcing_lines strings paths tree values (codes "implied by ") symbol.impliers impliers implied_by)
+      ++ part_lines (codes "unmet: ") (each_located strings (environment tree values) exprs paths unmet))
+
+  pub placed_details_are : (paths : List (List ℕ)) (needs unmet : List (Vec LocatedPart)) (selectors impliers : List Position)
+      → placed_details paths needs unmet selectors impliers
+      ≡ located_needs_lines strings (environment tree values) paths (is_without_prompt hindrance symbol) (located_alternatives_view exprs needs)
+      ++ (located_forcing_lines strings paths tree values (codes "selected by ") symbol.selectors selectors selected_by
+      ++ (located_forcing_lines strings paths tree values (codes "implied by ") symbol.impliers impliers implied_by
+      ++ located_alternative_lines strings (environment tree values) paths (codes "unmet: ") (located_alternatives_view exprs unmet)))
+  placed_details_are paths needs unmet selectors impliers =
+      let selects = located_forcing_lines strings paths tree values (codes "selected by ") symbol.selectors selectors selected_by in
+      let implies = located_forcing_lines strings paths tree values (codes "implied by ") symbol.impliers impliers implied_by in
+      joined_details _ _ selects selects implies implies _ _
+      (ap (λ x. cond (is_without_prompt hindrance symbol) (inner_line (codes "it has no prompt")) x) (located_lines strings (environment tree values) exprs paths (codes "needs ") needs))
+      refl
+      refl
+      (located_lines strings (environment tree values) exprs paths (codes "unmet: ") unmet)

@@ -1,5 +1,5 @@
 -- The walk that finds the tokens of an expression from right to left.
-use Rattle.std.proofs.Common.{◌≡◌, ℕ, Bool, true, false, cond, List, [], ◌∷◌, ◌++◌, map, reverse, refl, ap, sym, ◌∙◌, append_assoc, subst}
+use Rattle.std.proofs.Common.{◌≡◌, true, false, List, [], ◌∷◌, ◌++◌, map, reverse, refl, ap, sym, ◌∙◌, append_assoc}
 use Rattle.std.specs.Prelude.{codes}
 use Rattle.std.proofs.lemmas.List.{map-append, reverse-append}
 use Rattle.kc_tokens.specs.Token.{Lexeme}
@@ -14,7 +14,7 @@ use Rattle.kc_explanation.specs.declared.spelling.OperandPlace.{OperandPlace}
 use Rattle.kc_explanation.specs.declared.spelling.OperandPlace.TheVariants.{InOr, InAnd, Factor, BehindNot}
 use Rattle.kc_explanation.specs.between.SpelledTokens.{lexeme_of, lexemes_of, left_operand, right_operand}
 use Rattle.kc_tokens.specs.declared.token.Relop.{Relop}
-use Rattle.kc_explanation.specs.checker.SpellingWalk.{encloses_relations, encloses_ands, encloses_ors, is_enclosed, past_shown, enclosed, spelling_in_reverse, inside}
+use Rattle.kc_explanation.specs.checker.SpellingWalk.{is_enclosed, past_shown, enclosed, spelling_in_reverse, inside}
 use Rattle.std.proofs.lemmas.Bool.{false≢true}
 
 -- the level of the grammar at a place

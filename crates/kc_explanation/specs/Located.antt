@@ -7,7 +7,6 @@ use Rattle.kc_rules_model.specs.declared.values.UnitValue.{UnitValue}
 use Rattle.kc_rules_model.specs.SymbolValues.{environment, value_of_symbol}
 use Rattle.kc_dotconfig_model.specs.declared.format.Strings.{Strings}
 use Rattle.kc_reasons_model.specs.declared.cases.Case.{Case}
-use Rattle.kc_reasons_model.specs.declared.cases.Hindrance.{Hindrance}
 use Rattle.kc_reasons_model.specs.Reasons.{value_text, name_of_symbol}
 use Rattle.kc_located_reasons.specs.LocatedNeeds.{LocatedPart}
 use Rattle.kc_reasons_model.specs.PlainReasons.{PlainReasons}

@@ -1,3 +1,4 @@
 pub mod SpellingWalk
 pub mod Contexts
 pub mod PartLines
+pub mod CaseWords

@@ -6,24 +6,19 @@ ghost use Rattle.kc_evaluation.specs.checker.ValuationView.{valuation_tree};
 ghost use Rattle.kc_reasons_model.specs.Reasons.{name_of_symbol};
 ghost use Rattle.kc_explanation.specs.Explained.{case_text, chosen_text, is_hidden, is_without_prompt, hindrance_line};
 
-use super::words::{choice_case_text, hindrance_text, lift_text, text_case_text, tri_case_text};
+use super::words::{given_text, hindrance_text, lifted_text};
 use kc_evaluation::Valuation;
 use kc_reasons::{Case, Hindrance};
 use kc_tree::{Sym, Symbol};
 use std::alloc::AllocError;
 
 /// Appends what gives a unit its value.
+#[tactic(auto, using(crate::proofs::CaseTexts::case_text_is))]
 pub(crate) fn push_case(out: &mut Vec<u8>, case: Case) -> Result<(), AllocError>
     ensures { OnOk result (out.new.items ≡ out.old.items ++ case_text case) }
 {
-    match case {
-        Case::Tri(given, lift) => {
-            out.extend_from_slice(tri_case_text(given).as_bytes())?;
-            out.extend_from_slice(lift_text(lift).as_bytes())
-        }
-        Case::Text(given) => out.extend_from_slice(text_case_text(given).as_bytes()),
-        Case::Choice(given) => out.extend_from_slice(choice_case_text(given).as_bytes()),
-    }
+    out.extend_from_slice(given_text(case).as_bytes())?;
+    out.extend_from_slice(lifted_text(case).as_bytes())
 }
 
 /// The name of a symbol; empty where the tree has no such symbol.

@@ -1,5 +1,5 @@
 //! The text that explains a symbol's value, with the places of lines or without.
-ghost use Rattle.std.specs.Prelude.{◌≡◌, ◌<◌, ◌++◌, ◌∷◌, ◌&&◌, [], ℕ, length, map, slice_get, option_map, codes, All, OnOk, Some, if◌then◌else◌};
+ghost use Rattle.std.specs.Prelude.{◌≡◌, ◌<◌, ◌++◌, ◌∷◌, ◌&&◌, [], ℕ, length, map, slice_get, option_map, codes, All, OnOk, Some};
 ghost use Rattle.kc_tree.specs.between.Views.{reverse_dependency_view, symbol_view, SymbolFits};
 ghost use Rattle.kc_dependencies.specs.checker.StoredRules.{AreReverseDependencies};
 ghost use Rattle.kc_evaluation.specs.checker.ValuationView.{valuation_tree, valuation_exprs, valuation_values};
@@ -8,10 +8,10 @@ ghost use Rattle.kc_reasons.specs.between.Parts.{alternatives_view, AreThere};
 ghost use Rattle.kc_reasons.specs.between.ReasonsView.{reasons_view};
 ghost use Rattle.kc_symbol_lines.specs.between.LinesView.{position_view, symbol_lines_view};
 ghost use Rattle.kc_located_reasons.specs.between.PartsView.{located_alternatives_view, ArePartsThere};
-ghost use Rattle.kc_explanation.specs.Explained.{inner_line, case_text, chosen_text, alternative_lines, explained_at};
+ghost use Rattle.kc_explanation.specs.Explained.{case_text, chosen_text, alternative_lines, explained_at};
 ghost use Rattle.kc_explanation.specs.Located.{place_in_parentheses, located_first_line, located_forcing_line, located_forcing_lines, located_alternative_lines, located_details_at, located_explained_at, located_unmet_at};
 ghost use Rattle.kc_explanation.specs.checker.Contexts.{exprs_of, tree_of, values_of};
-ghost use Rattle.kc_explanation.specs.checker.PartLines.{part_lines, forces_lines};
+ghost use Rattle.kc_explanation.specs.checker.PartLines.{needed_lines, forces_lines, detail_lines};
 ghost use Rattle.kc_explanation.specs.between.ReasonPlacesView.{places_view};
 
 use super::context::Context;
@@ -150,6 +150,25 @@ fn push_forcing_lines(
     Ok(())
 }
 
+/// Appends a line for each of the selects of a symbol with these numbers, and where, as far as places are told.
+fn push_selects(
+    out: &mut Vec<u8>,
+    by: &Context<'_>,
+    symbol: &Symbol<'_>,
+    selectors: &[Position],
+    selected_by: &[usize],
+) -> Result<(), AllocError>
+    requires fits { SymbolFits (exprs_of by.now) (length (tree_of by.now).symbols) symbol.now }
+    ensures { OnOk result (out.new.items ≡ out.old.items ++ located_forcing_lines by.now.strings by.now.paths.now (tree_of by.now) (values_of by.now) (codes "selected by ") (symbol_view (exprs_of by.now) symbol.now).selectors (map position_view selectors.now) selected_by.now) }
+{
+    let selects = &Forces {
+        word: "selected by ",
+        all: symbol.selectors,
+        places: selectors,
+    };
+    push_forcing_lines(out, by, selects, selected_by)
+}
+
 /// Appends a line for each select and imply of a symbol that is among its reasons, and where, as far as places are told.
 fn push_forces(
     out: &mut Vec<u8>,
@@ -162,12 +181,7 @@ fn push_forces(
     requires fits { SymbolFits (exprs_of by.now) (length (tree_of by.now).symbols) symbol.now }
     ensures { OnOk result (out.new.items ≡ out.old.items ++ forces_lines by.now (symbol_view (exprs_of by.now) symbol.now) (map position_view selectors.now) (map position_view impliers.now) reasons.now.selected_by.items reasons.now.implied_by.items) }
 {
-    let selects = &Forces {
-        word: "selected by ",
-        all: symbol.selectors,
-        places: selectors,
-    };
-    push_forcing_lines(out, by, selects, &reasons.selected_by)?;
+    push_selects(out, by, symbol, selectors, &reasons.selected_by)?;
     let implies = &Forces {
         word: "implied by ",
         all: symbol.impliers,
@@ -184,13 +198,34 @@ fn push_needs<P: PartText>(
     needs: &[Vec<P>],
 ) -> Result<(), AllocError>
     requires { All (λ v. All (P.is_there (exprs_of by.now)) v.items) needs.now }
-    ensures { OnOk result (out.new.items ≡ out.old.items ++ (if without_prompt then inner_line (codes "it has no prompt") else part_lines (codes "needs ") (map (λ v. map (P.part_text by.now) v.items) needs.now))) }
+    ensures { OnOk result (out.new.items ≡ out.old.items ++ needed_lines without_prompt (map (λ v. map (P.part_text by.now) v.items) needs.now)) }
 {
     if without_prompt {
         out.extend_from_slice(b"  it has no prompt\n")
     } else {
         push_part_lines(out, by, b"needs ", needs)
     }
+}
+
+/// Appends what comes after a symbol's value and what was asked: what its prompts need, what selects and implies it, and what is unmet.
+fn push_details<P: PartText>(
+    out: &mut Vec<u8>,
+    by: &Context<'_>,
+    symbol: &Symbol<'_>,
+    reasons: &SymbolReasons,
+    needs: &[Vec<P>],
+    unmet: &[Vec<P>],
+    selectors: &[Position],
+    impliers: &[Position],
+) -> Result<(), AllocError>
+    requires fits { SymbolFits (exprs_of by.now) (length (tree_of by.now).symbols) symbol.now }
+    requires needs { All (λ v. All (P.is_there (exprs_of by.now)) v.items) needs.now }
+    requires unmet { All (λ v. All (P.is_there (exprs_of by.now)) v.items) unmet.now }
+    ensures { OnOk result (out.new.items ≡ out.old.items ++ detail_lines by.now (symbol_view (exprs_of by.now) symbol.now) reasons.now.hindrance (map (λ v. map (P.part_text by.now) v.items) needs.now) (map position_view selectors.now) (map position_view impliers.now) reasons.now.selected_by.items reasons.now.implied_by.items (map (λ v. map (P.part_text by.now) v.items) unmet.now)) }
+{
+    push_needs(out, by, is_without_prompt(reasons.hindrance, symbol), needs)?;
+    push_forces(out, by, symbol, reasons, selectors, impliers)?;
+    push_part_lines(out, by, b"unmet: ", unmet)
 }
 
 /// Appends a line for each alternative: the first begins with a word, the others with `or`. An `Err` means out of memory.
@@ -269,14 +304,16 @@ pub fn push_explanation(
         None,
     )?;
     push_hindrance_line(out, reasons.hindrance)?;
-    push_needs(
+    push_details(
         out,
         by,
-        is_without_prompt(reasons.hindrance, symbol),
+        symbol,
+        reasons,
         &reasons.needs,
-    )?;
-    push_forces(out, by, symbol, reasons, &[], &[])?;
-    push_part_lines(out, by, b"unmet: ", &reasons.unmet)
+        &reasons.unmet,
+        &[],
+        &[],
+    )
 }
 
 /// Appends what comes in the text that explains symbol `s` after its value and what was asked: what its prompts need, what selects and
@@ -305,14 +342,16 @@ pub fn push_located_details(
         paths,
     };
     let symbol = &under.rules.tree.symbol(s);
-    push_needs(
+    push_details(
         out,
         by,
-        is_without_prompt(reasons.hindrance, symbol),
+        symbol,
+        reasons,
         &places.needs,
-    )?;
-    push_forces(out, by, symbol, reasons, &lines.selectors, &lines.impliers)?;
-    push_part_lines(out, by, b"unmet: ", &places.unmet)
+        &places.unmet,
+        &lines.selectors,
+        &lines.impliers,
+    )
 }
 
 /// Appends of symbol `s`, which is selected against its dependencies, what selects it, by the numbers of the selects that decide, and
@@ -339,12 +378,7 @@ pub fn push_located_unmet(
         paths,
     };
     let symbol = &under.rules.tree.symbol(s);
-    let selects = &Forces {
-        word: "selected by ",
-        all: symbol.selectors,
-        places: selectors,
-    };
-    push_forcing_lines(out, by, selects, selected_by)?;
+    push_selects(out, by, symbol, selectors, selected_by)?;
     push_part_lines(out, by, b"unmet: ", unmet)
 }
 

@@ -1,68 +1,55 @@
 //! The words for what gives a value, and for what hinders one.
 ghost use Rattle.std.specs.Prelude.{◌≡◌};
-ghost use Rattle.kc_explanation.specs.Explained.{tri_case_text, lift_text, text_case_text, choice_case_text, hindrance_text, wanted_text};
+ghost use Rattle.kc_explanation.specs.Explained.{hindrance_text, wanted_text};
+ghost use Rattle.kc_explanation.specs.checker.CaseWords.{given_text, lifted_text};
 
-use kc_reasons::{ChoiceCase, Hindrance, Lift, TextCase, TriCase};
+use kc_reasons::{Case, ChoiceCase, Hindrance, Lift, TextCase, TriCase};
 use kc_value::Tri;
 
-/// What gives a bool or tristate its value.
-pub(crate) fn tri_case_text(case: TriCase) -> &'static str
-    ensures { result.now ≡ tri_case_text case }
+/// What gives a unit its value.
+pub(crate) fn given_text(case: Case) -> &'static str
+    ensures { result.now ≡ given_text case }
 {
     match case {
-        TriCase::User => "by user",
-        TriCase::Visibility => "by user, up to the visibility",
-        TriCase::Default => "default",
-        TriCase::Environment => "from the environment",
-        TriCase::Imply => "implied",
-        TriCase::Dependency => "implied, up to the direct dependency",
-        TriCase::Select => "selected",
-        TriCase::Nothing => "no default, not selected, not implied",
+        Case::Tri(TriCase::User, _) => "by user",
+        Case::Tri(TriCase::Visibility, _) => "by user, up to the visibility",
+        Case::Tri(TriCase::Default, _) => "default",
+        Case::Tri(TriCase::Environment, _) => "from the environment",
+        Case::Tri(TriCase::Imply, _) => "implied",
+        Case::Tri(TriCase::Dependency, _) => "implied, up to the direct dependency",
+        Case::Tri(TriCase::Select, _) => "selected",
+        Case::Tri(TriCase::Nothing, _) => "no default, not selected, not implied",
+        Case::Text(TextCase::User) => "by user",
+        Case::Text(TextCase::UserLowBound) => "by user, raised to the range",
+        Case::Text(TextCase::UserHighBound) => "by user, lowered to the range",
+        Case::Text(TextCase::Default) => "default",
+        Case::Text(TextCase::Environment) => "from the environment",
+        Case::Text(TextCase::NoNumber) => "the default is no number",
+        Case::Text(TextCase::LowBound) => "default, raised to the range",
+        Case::Text(TextCase::HighBound) => "default, lowered to the range",
+        Case::Text(TextCase::Zero) => "no default, so it is 0",
+        Case::Text(TextCase::Nothing) => "no default",
+        Case::Choice(ChoiceCase::User) => "chosen by user",
+        Case::Choice(ChoiceCase::Default) => "the choice's default",
+        Case::Choice(ChoiceCase::First) => "the choice's first visible member",
+        Case::Choice(ChoiceCase::FirstUnlisted) => "the choice's first visible member without n",
+        Case::Choice(ChoiceCase::FirstListed) => "each visible member has n, this one first",
+        Case::Choice(ChoiceCase::Optional) => "the choice is optional",
+        Case::Choice(ChoiceCase::NoMember) => "no member of the choice is visible",
+        Case::Choice(ChoiceCase::NotShown) => "the choice isn't shown",
     }
 }
 
 /// Why an `m` became `y`, if it did.
-pub(crate) fn lift_text(lift: Lift) -> &'static str
-    ensures { result.now ≡ lift_text lift }
-{
-    match lift {
-        Lift::AsGiven => "",
-        Lift::WithoutM => ", m is y here",
-        Lift::ImpliedY => ", an implied y leaves no m",
-    }
-}
-
-/// What gives a string, int or hex its value.
-pub(crate) fn text_case_text(case: TextCase) -> &'static str
-    ensures { result.now ≡ text_case_text case }
+pub(crate) fn lifted_text(case: Case) -> &'static str
+    ensures { result.now ≡ lifted_text case }
 {
     match case {
-        TextCase::User => "by user",
-        TextCase::UserLowBound => "by user, raised to the range",
-        TextCase::UserHighBound => "by user, lowered to the range",
-        TextCase::Default => "default",
-        TextCase::Environment => "from the environment",
-        TextCase::NoNumber => "the default is no number",
-        TextCase::LowBound => "default, raised to the range",
-        TextCase::HighBound => "default, lowered to the range",
-        TextCase::Zero => "no default, so it is 0",
-        TextCase::Nothing => "no default",
-    }
-}
-
-/// What gives a choice its member.
-pub(crate) fn choice_case_text(case: ChoiceCase) -> &'static str
-    ensures { result.now ≡ choice_case_text case }
-{
-    match case {
-        ChoiceCase::User => "chosen by user",
-        ChoiceCase::Default => "the choice's default",
-        ChoiceCase::First => "the choice's first visible member",
-        ChoiceCase::FirstUnlisted => "the choice's first visible member without n",
-        ChoiceCase::FirstListed => "each visible member has n, this one first",
-        ChoiceCase::Optional => "the choice is optional",
-        ChoiceCase::NoMember => "no member of the choice is visible",
-        ChoiceCase::NotShown => "the choice isn't shown",
+        Case::Tri(_, Lift::AsGiven) => "",
+        Case::Tri(_, Lift::WithoutM) => ", m is y here",
+        Case::Tri(_, Lift::ImpliedY) => ", an implied y leaves no m",
+        Case::Text(_) => "",
+        Case::Choice(_) => "",
     }
 }
 

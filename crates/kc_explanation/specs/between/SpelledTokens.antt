@@ -1,5 +1,5 @@
 -- The tokens of a spelled expression as the code has them.
-use Rattle.std.specs.Prelude.{ℕ, ◌<◌, List, length, map, codes}
+use Rattle.std.specs.Prelude.{◌<◌, List, length, map, codes}
 use Rattle.kc_value.specs.declared.tri.Tri.TheVariants.{N}
 use Rattle.kc_tokens.specs.Token.{Lexeme}
 use Rattle.kc_tokens.specs.TokenGrammar.{relation_text}

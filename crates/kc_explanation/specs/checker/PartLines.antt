@@ -1,9 +1,10 @@
 -- Lines of the text that explains a symbol's value, with places or without.
-use Rattle.std.specs.Prelude.{ℕ, List, [], ◌∷◌, ◌++◌, codes}
+use Rattle.std.specs.Prelude.{ℕ, Bool, List, [], ◌∷◌, ◌++◌, Option, codes, if◌then◌else◌}
 use Rattle.kc_tree_model.specs.Trees.{Symbol}
 use Rattle.kc_tree_model.specs.Blocks.{Position}
+use Rattle.kc_reasons_model.specs.declared.cases.Hindrance.{Hindrance}
 use Rattle.kc_explanation.specs.declared.context.Context.{Context}
-use Rattle.kc_explanation.specs.Explained.{inner_line}
+use Rattle.kc_explanation.specs.Explained.{inner_line, is_without_prompt}
 use Rattle.kc_explanation.specs.Located.{located_forcing_lines}
 use Rattle.kc_explanation.specs.checker.Contexts.{tree_of, values_of}
 
@@ -26,3 +27,16 @@ abbrev pub forces_lines : Context → Symbol → List Position → List Position
 forces_lines by symbol selectors impliers selected_by implied_by =
     located_forcing_lines by.strings by.paths.now (tree_of by) (values_of by) (codes "selected by ") symbol.selectors selectors selected_by
     ++ located_forcing_lines by.strings by.paths.now (tree_of by) (values_of by) (codes "implied by ") symbol.impliers impliers implied_by
+
+-- what the prompts need, if there is one
+abbrev pub needed_lines : (without_prompt : Bool) → List (List (List ℕ)) → List ℕ
+needed_lines without_prompt needs = if without_prompt
+    then inner_line (codes "it has no prompt")
+    else part_lines (codes "needs ") needs
+
+-- what comes after a symbol's value: what its prompts need, what selects and implies it, and what is unmet
+abbrev pub detail_lines : Context → Symbol → Option Hindrance → (needs : List (List (List ℕ))) → List Position → List Position → List ℕ → List ℕ → (unmet : List (List (List ℕ))) → List ℕ
+detail_lines by symbol hindrance needs selectors impliers selected_by implied_by unmet =
+    needed_lines (is_without_prompt hindrance symbol) needs
+    ++ (forces_lines by symbol selectors impliers selected_by implied_by
+    ++ part_lines (codes "unmet: ") unmet)

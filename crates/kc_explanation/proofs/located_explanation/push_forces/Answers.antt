@@ -1,4 +1,4 @@
-use Rattle.std.proofs.Common.{◌≡◌, ◌++◌, ap, map, ◌∙◌}
+use Rattle.std.proofs.Common.{◌++◌, ap, map, ◌∙◌}
 use Rattle.std.specs.Prelude.{codes}
 use Rattle.std.proofs.lemmas.Result.{on_ok_weaker}
 use Rattle.kc_tree.specs.between.Views.{symbol_view}
@@ -12,9 +12,9 @@ pub returns : goal.returns
 returns c =
     let by = c.args.by.now in
     let symbol = symbol_view (exprs_of by) c.args.symbol.now in
-    on_ok_weaker c.push_forcing_lines-2.result
+    on_ok_weaker c.push_forcing_lines.result
     (λ w. joined_two c.args.out.now.items _ _ _ _
-    (c.in_ok-push_forcing_lines.ensures
+    (c.in_ok-push_selects.ensures
     ∙ ap (λ ns. c.args.out.now.items ++ located_forcing_lines by.strings by.paths.now (tree_of by) (values_of by) (codes "selected by ") symbol.selectors (map position_view c.args.selectors.now) ns) c.deref.ensures.value)
-    (w ∙ ap (λ ns. c.push_forcing_lines.new.out.items ++ located_forcing_lines by.strings by.paths.now (tree_of by) (values_of by) (codes "implied by ") symbol.impliers (map position_view c.args.impliers.now) ns) c.deref-2.ensures.value))
-    c.push_forcing_lines-2.ensures
+    (w ∙ ap (λ ns. c.push_selects.new.out.items ++ located_forcing_lines by.strings by.paths.now (tree_of by) (values_of by) (codes "implied by ") symbol.impliers (map position_view c.args.impliers.now) ns) c.deref-2.ensures.value))
+    c.push_forcing_lines.ensures

@@ -1,4 +1,4 @@
-use Rattle.std.proofs.Common.{◌≡◌, ◌++◌, ap, sym, map, ◌∙◌}
+use Rattle.std.proofs.Common.{◌++◌, ap, sym, map, ◌∙◌}
 use Rattle.std.specs.Prelude.{codes}
 use Rattle.std.proofs.lemmas.Result.{on_ok_weaker}
 use Rattle.kc_tree.specs.between.Views.{symbol_view}
@@ -16,8 +16,8 @@ returns c =
     let tree = valuation_tree c.args.under.now in
     let values = valuation_values c.args.under.now in
     on_ok_weaker c.push_part_lines.result
-    (λ w. joined_two c.args.out.now.items _ _ _ _ c.in_ok-push_forcing_lines.ensures
-    (w ∙ ap (λ x. c.push_forcing_lines.new.out.items ++ x) (located_lines c.args.strings (environment tree values) exprs c.args.paths.now (codes "unmet: ") c.args.unmet.now))
+    (λ w. joined_two c.args.out.now.items _ _ _ _ c.in_ok-push_selects.ensures
+    (w ∙ ap (λ x. c.push_selects.new.out.items ++ x) (located_lines c.args.strings (environment tree values) exprs c.args.paths.now (codes "unmet: ") c.args.unmet.now))
     ∙ ap (λ x. c.args.out.now.items ++ x)
     (sym (located_unmet_is c.args.strings c.args.paths.now tree values c.args.s (symbol_view exprs c.symbol.result)
     (map position_view c.args.selectors.now) c.args.selected_by.now (located_alternatives_view exprs c.args.unmet.now) c.symbol.ensures.symbol)))

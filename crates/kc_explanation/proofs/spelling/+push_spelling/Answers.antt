@@ -2,9 +2,8 @@ use Rattle.std.proofs.Common.{◌≡◌, true, false, ap, sym, ◌∙◌, subst,
 use Rattle.std.proofs.lemmas.Result.{on_ok_weaker}
 use Rattle.kc_expr.specs.between.Arena.{node_expr}
 use Rattle.kc_expr.specs.between.ExprParts.{expr_of_parts, ArePartsOf}
-use Rattle.kc_explanation.specs.between.SpelledTokens.{lexeme_of, lexemes_of, left_operand, right_operand, IsTokenOf}
-use Rattle.kc_explanation.specs.checker.SpellingWalk.{is_enclosed, past_shown, spelling_in_reverse, inside}
-use Rattle.kc_explanation.proofs.SpellingLemmas.{in_whole, bare_relation, bare_both, bare_either, closed, past_operator, ended, ended_by_not, alone_token, relation_tokens}
+use Rattle.kc_explanation.specs.checker.SpellingWalk.{is_enclosed, spelling_in_reverse}
+use Rattle.kc_explanation.proofs.SpellingLemmas.{in_whole, bare_both, bare_either, closed, past_operator, ended, ended_by_not, alone_token, relation_tokens}
 use Rattle.kc_explanation.proofs.spelling.+push_spelling.Goals as goal
 
 pub returns-then-is_enclosed-clause-tokens : goal.returns-then-is_enclosed-clause-tokens

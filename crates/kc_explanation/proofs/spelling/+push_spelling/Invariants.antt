@@ -1,4 +1,4 @@
-use Rattle.std.proofs.Common.{◌≡◌, ℕ, ◌+◌, ◌≤◌, ◌++◌}
+use Rattle.std.proofs.Common.{◌≡◌, ◌+◌, ◌≤◌, ◌++◌}
 use Rattle.kc_expr.specs.between.Arena.{node_expr}
 use Rattle.kc_explanation.specs.between.SpelledTokens.{lexemes_of, IsTokenOf}
 use Rattle.std.specs.List.{All}

@@ -1,0 +1,15 @@
+use Rattle.std.proofs.Common.{◌++◌, ap, map, ◌∙◌}
+use Rattle.std.proofs.lemmas.Result.{on_ok_weaker}
+use Rattle.kc_explanation.specs.checker.Contexts.{exprs_of}
+use Rattle.kc_explanation.specs.checker.PartLines.{needed_lines}
+use Rattle.kc_explanation.proofs.ExplanationLemmas.{joined_three}
+use Rattle.kc_explanation.proofs.located_explanation.push_details.Goals as goal
+
+pub returns : goal.returns
+returns g c =
+    on_ok_weaker c.push_part_lines.result
+    (λ w. joined_three c.args.out.now.items _ _ _ _ _ _
+    (c.in_ok-push_needs.ensures
+    ∙ ap (λ b. c.args.out.now.items ++ needed_lines b (map (λ v. map (g.P.PartText.part_text c.args.by.now) v.items) c.args.needs.now)) (c.is_without_prompt.ensures (exprs_of c.args.by.now)))
+    c.in_ok-push_forces.ensures w)
+    c.push_part_lines.ensures
