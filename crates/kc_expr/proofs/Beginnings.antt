@@ -14,9 +14,8 @@ within_more (one_factor x) n h = one_factor (within_more x n h)
 within_more (more_ands o x f z eq) n h = more_ands o (within_more x n h) f (within_more z n h) eq
 within_more (operand t a eq) n h = operand t a eq
 within_more (relation t r u op a f b eq) n h = relation t r u op a f b eq
-within_more (negation t f x eq) zero h = absurd (omega arith)
 within_more (negation t f x eq) (suc n) h = negation t f (within_more x n (omega arith)) eq
-within_more (parentheses o c f x g eq) zero h = absurd (omega arith)
+within_more _ zero h = absurd (omega arith)
 within_more (parentheses o c f x g eq) (suc n) h = parentheses o c f (within_more x n (omega arith)) g eq
 
 abbrev pub Begins : Level → ℕ → List Lexeme → Type 0

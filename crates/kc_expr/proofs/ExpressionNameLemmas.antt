@@ -10,10 +10,10 @@ use Rattle.std.specs.List.{All}
 use Rattle.std.proofs.lemmas.List.Elements.{Contains-append_left, Contains-append_right, Contains-append_cases, All-contains}
 use Rattle.kc_expr.specs.declared.node.Leaf.{Leaf}
 use Rattle.kc_expr.specs.declared.node.Node.{Node}
-use Rattle.kc_expr.specs.declared.node.Node.TheVariants.{Alone, Related, Negated, Both, Either, Shown}
+use Rattle.kc_expr.specs.declared.node.Node.TheVariants.{Alone}
 use Rattle.kc_expr.specs.declared.node_store.NodeStore.{NodeStore}
 use Rattle.kc_expr.specs.between.Arena.{Exprs, node_expr}
-use Rattle.kc_expr.specs.Expr.{Expr, alone, related, negated, both, either, shown}
+use Rattle.kc_expr.specs.Expr.{Expr, negated, both, either, shown}
 use Rattle.kc_expr.specs.ExpressionNames.{names_in}
 use Rattle.kc_expr.specs.checker.Nodes.{operand_of, expr_of, some_node}
 use Rattle.kc_expr.specs.between.Operand.{operand_alone}
@@ -25,11 +25,7 @@ use Rattle.kc_expr.proofs.StoreLemmas.{within_nodes, node_of}
 -- a node that is no operand represents an expression that isn't just an operand
 pub not_alone : (names texts : List (List ℕ)) (es : List Expr) (n : Node) → ((a : Leaf) → n ≡ Alone a → ⊥) → operand_alone (expr_of names texts es n) ≡ None
 not_alone names texts es (Alone a) h = absurd (h a refl)
-not_alone names texts es (Related op a b) h = refl
-not_alone names texts es (Negated i) h = refl
-not_alone names texts es (Both i j) h = refl
-not_alone names texts es (Either i j) h = refl
-not_alone names texts es (Shown i) h = refl
+not_alone names texts es _ h = refl
 
 -- the operand of an arena's expression, by its node
 module _ (a : Exprs) (s : NodeStore) (i index : ℕ) (found : Node) (view : exprs_in s ≡ a) (same : index ≡ i) (sound : IsSound s) (within : i < length a.nodes)
@@ -56,20 +52,18 @@ module _ (x : List ℕ) where
       by_side (inr r) = Contains-append_left ws vs x (g r)
 
   pub to_words : (e : Expr) → Contains (names_in e) x → Contains (names_in_reverse e) x
-  to_words (alone a) h = h
-  to_words (related op a b) h = h
   to_words (negated e) h = to_words e h
   to_words (shown e) h = to_words e h
   to_words (both a b) h = swapped (names_in a) (names_in b) (names_in_reverse a) (names_in_reverse b) (to_words a) (to_words b) h
   to_words (either a b) h = swapped (names_in a) (names_in b) (names_in_reverse a) (names_in_reverse b) (to_words a) (to_words b) h
+  to_words _ h = h
 
   pub from_words : (e : Expr) → Contains (names_in_reverse e) x → Contains (names_in e) x
-  from_words (alone a) h = h
-  from_words (related op a b) h = h
   from_words (negated e) h = from_words e h
   from_words (shown e) h = from_words e h
   from_words (both a b) h = swapped (names_in_reverse b) (names_in_reverse a) (names_in b) (names_in a) (from_words b) (from_words a) h
   from_words (either a b) h = swapped (names_in_reverse b) (names_in_reverse a) (names_in b) (names_in a) (from_words b) (from_words a) h
+  from_words _ h = h
 
 -- names that were appended for the right part of an expression, and then for its left part, are those of both parts
 pub names_of_both : (front right left found all : List (List ℕ)) → found ≡ front ++ right → front ++ (right ++ left) ≡ all → found ++ left ≡ all

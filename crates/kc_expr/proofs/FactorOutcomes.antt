@@ -8,12 +8,11 @@ use Rattle.kc_tokens.specs.declared.token.Relop.{Relop}
 use Rattle.kc_tokens.specs.Token.{Lexeme}
 use Rattle.kc_expr.specs.Expr.{Expr, Operand, named, quoted, alone, related, negated, both, either}
 use Rattle.kc_tokens.specs.QuotedTexts.{quoted_text}
-use Rattle.kc_expr.specs.Grammar.{ors, ands, factor, one_and, more_ors, one_factor, more_ands, operand, relation, negation, parentheses, Read, on_read, chain, closed, is_and, is_or, is_close, past_depth_limit, after_operand, right_operand, operand_of_lexeme, constant_or, is_operand_kind, read_factor, read_ands, read_ors}
-use Rattle.kc_expr.proofs.Beginnings.{IsPrefix, ArePrefixes, whole_begins, front_begins, ands_begin, ors_begin, word_begins, none_begins, operand_begins, relation_begins, negation_begins, parentheses_begin, prefix_last, prefixes_begin, some_word}
+use Rattle.kc_expr.specs.Grammar.{Level, IsExpr, ors, ands, factor, one_and, more_ors, one_factor, more_ands, operand, relation, negation, parentheses, Read, on_read, chain, closed, is_and, is_or, is_close, past_depth_limit, after_operand, right_operand, operand_of_lexeme, constant_or, is_operand_kind, read_factor, read_ands, read_ors}
+use Rattle.kc_expr.proofs.Beginnings.{IsPrefix, ArePrefixes, whole_begins, front_begins, word_begins, none_begins, operand_begins, relation_begins, negation_begins, parentheses_begin, prefix_last, prefixes_begin, some_word}
 use Rattle.kc_expr.proofs.GrammarComplete.{Stops, is_relation, no_relation_after, operand_read, relation_read, chain_same, factor_short, ands_short}
-use Rattle.kc_expr.proofs.ReaderSteps.{beyond_kind, zero_kind, suc_kind}
-use Rattle.kc_expr.proofs.GrammarLaws.{and_kind, or_kind, close_kind, word_is, quoted_is}
-use Rattle.kc_expr.proofs.Outcomes.{Alike, alike_stops, IsRead, ends, wrong, deep, IsRefused, Outcome, refused_there, refused_after, refused_beside, chain_outcome}
+use Rattle.kc_expr.proofs.GrammarLaws.{beyond_kind, zero_kind, suc_kind, and_kind, or_kind, close_kind, word_is, quoted_is}
+use Rattle.kc_expr.proofs.Outcomes.{reader, Alike, alike_stops, IsRead, ends, wrong, deep, IsRefused, Outcome, refused_there, refused_after, refused_beside, chain_outcome}
 
 -- a token with which no factor begins
 abbrev begins_none : TokenKind → Bool
@@ -50,13 +49,6 @@ open_read d t ts e = rw (e, read_factor) refl
 limit_read : (t : Lexeme) (ts : List Lexeme) → IsPrefix t → read_factor 0 (t ∷ ts) ≡ past_depth_limit ts
 limit_read t ts (inl e) = rw (e, read_factor) refl
 limit_read t ts (inr e) = rw (e, read_factor) refl
-
--- a fault of the first factor is one of the level
-ands_fail : (d : ℕ) (ts : List Lexeme) (f : ExprKind × List Lexeme) → read_factor d ts ≡ Err f → read_ands (read_factor d) ts ≡ Err f
-ands_fail d ts f e = ap (λ q. on_read q (λ r. chain is_and both (read_factor d) (length ts) r.0 r.1)) e
-
-ors_fail : (d : ℕ) (ts : List Lexeme) (f : ExprKind × List Lexeme) → read_ands (read_factor d) ts ≡ Err f → read_ors (read_factor d) ts ≡ Err f
-ors_fail d ts f e = ap (λ q. on_read q (λ r. chain is_or either (read_ands (read_factor d)) (length ts) r.0 r.1)) e
 
 -- past the limit of depth
 past_prefixes : (ts us : List Lexeme) → ArePrefixes ts → past_depth_limit (ts ++ us) ≡ past_depth_limit us
@@ -97,9 +89,7 @@ prefixes_wrong (o ∷ ts) t us p h (suc d) = by_kind p.0 (prefixes_wrong ts t us
   where
     by_kind : IsPrefix o → read_factor d (ts ++ t ∷ us) ≡ Err (Malformed, t ∷ us) → read_factor (suc d) (o ∷ (ts ++ t ∷ us)) ≡ Err (Malformed, t ∷ us)
     by_kind (inl e) q = not_read d o (ts ++ t ∷ us) e ∙ ap (λ q. on_read q (λ r. Ok (negated r.0, r.1))) q
-    by_kind (inr e) q =
-        open_read d o (ts ++ t ∷ us) e
-        ∙ ap (λ q. on_read q closed) (ors_fail d (ts ++ t ∷ us) (Malformed, t ∷ us) (ands_fail d (ts ++ t ∷ us) (Malformed, t ∷ us) q))
+    by_kind (inr e) q = open_read d o (ts ++ t ∷ us) e ∙ rw q refl
 
 operand_some : (t : Lexeme) → is_operand_kind t.kind ≡ true → (a : Operand) × (operand_of_lexeme t ≡ Some a)
 operand_some t h = by_kind t.kind refl h
@@ -160,10 +150,7 @@ past_outcome o all before (t ∷ ts) p q is = by_kind t.kind refl (λ f.
     by_kind Open e ih = subst (Outcome factor 0 all) (sym (past_prefixes (t ∷ []) ts (inr e, tt))) (ih (inr e))
     by_kind Word e ih = let h = ap is_operand_kind e in subst (Outcome factor 0 all) (sym (past_operand t ts h)) (too_deep h)
     by_kind Quoted e ih = let h = ap is_operand_kind e in subst (Outcome factor 0 all) (sym (past_operand t ts h)) (too_deep h)
-    by_kind (Relation op) e ih = let h = ap begins_none e in subst (Outcome factor 0 all) (sym (past_none t ts h)) (malformed h)
-    by_kind And e ih = let h = ap begins_none e in subst (Outcome factor 0 all) (sym (past_none t ts h)) (malformed h)
-    by_kind Or e ih = let h = ap begins_none e in subst (Outcome factor 0 all) (sym (past_none t ts h)) (malformed h)
-    by_kind Close e ih = let h = ap begins_none e in subst (Outcome factor 0 all) (sym (past_none t ts h)) (malformed h)
+    by_kind _ e ih = let h = ap begins_none e in subst (Outcome factor 0 all) (sym (past_none t ts h)) (malformed h)
 
 -- an operand, and a relation after it
 module _ (d : ℕ) (t : Lexeme) (a : Operand) (is : operand_of_lexeme t ≡ Some a) where
@@ -263,39 +250,39 @@ parentheses_outcome d t ts (Err f) k y =
     fails zero h = absurd (omega arith)
     fails (suc n) h = (n, omega arith, fail n)
 
--- conjunctions and disjunctions
+-- conjunctions and disjunctions: a level of chains, over the level of their parts
+module _ (l m : Level) (is_joint : TokenKind → Bool) (join : Expr → Expr → Expr)
+    (short : (n : ℕ) (ts : List Lexeme) (r : Expr × List Lexeme) → reader m n ts ≡ Ok r → length r.1 ≤ length ts)
+    (one : (n : ℕ) (ts : List Lexeme) (e : Expr) → IsExpr m n ts e → IsExpr l n ts e)
+    (more : (n : ℕ) (ts us all : List Lexeme) (o : Lexeme) (a b : Expr) → IsExpr l n ts a
+    → is_joint o.kind ≡ true → IsExpr m n us b → all ≡ ts ++ o ∷ us → IsExpr l n all (join a b))
+    (reads : (n : ℕ) (ts : List Lexeme) → reader l n ts ≡ on_read (reader m n ts) (λ r. chain is_joint join (reader m n) (length ts) r.0 r.1)) where
+  level_outcome : (d : ℕ) → ((ts : List Lexeme) → Outcome m d ts (reader m d ts)) → (ts : List Lexeme) → Outcome l d ts (reader l d ts)
+  level_outcome d part ts = subst (Outcome l d ts) (sym (reads d ts)) (by_first (reader m d ts) (part ts))
+    where
+      fails : (n : ℕ) (us : List Lexeme) (f : ExprKind × List Lexeme) → reader m n us ≡ Err f → reader l n us ≡ Err f
+      fails n us f e = reads n us ∙ ap (λ q. on_read q (λ r. chain is_joint join (reader m n) (length us) r.0 r.1)) e
+
+      by_first : (q : Read) → Outcome m d ts q → Outcome l d ts (on_read q (λ r. chain is_joint join (reader m d) (length ts) r.0 r.1))
+      by_first (Err f) y = refused_beside m l d [] (λ n h us f e. fails n us f e) (λ n h us b. (b.0, b.1, one n (us ++ b.0) b.1 b.2)) ts ts f refl y
+      by_first (Ok (e, rest)) y =
+          chain_outcome l m d is_joint join short more part (length ts) ts y.front rest e (omega (arith, ap length y.is, length-append y.front rest)) y.is
+          (one d y.front e y.whole) (goes e rest y)
+        where
+          goes : (e : Expr) (rest : List Lexeme) (y : IsRead m d ts (e, rest)) (n : ℕ) → d ≤ n → (us : List Lexeme) → Alike rest us
+              → reader l n (y.front ++ us) ≡ chain is_joint join (reader m n) (length us) e us
+          goes e rest y n h us same =
+              reads n (y.front ++ us) ∙ ap (λ q. on_read q (λ r. chain is_joint join (reader m n) (length (y.front ++ us)) r.0 r.1)) (y.again n h us same)
+              ∙ chain_same is_joint join (reader m n) (short n) (length (y.front ++ us)) (length us) e us (omega (arith, length-append y.front us)) (omega arith)
+
 ands_outcome : (d : ℕ) → ((ts : List Lexeme) → Outcome factor d ts (read_factor d ts)) → (ts : List Lexeme) → Outcome ands d ts (read_ands (read_factor d) ts)
-ands_outcome d part ts = by_first (read_factor d ts) (part ts)
-  where
-    by_first : (q : Read) → Outcome factor d ts q → Outcome ands d ts (on_read q (λ r. chain is_and both (read_factor d) (length ts) r.0 r.1))
-    by_first (Err f) y = refused_beside factor ands d [] (λ n h us f e. ands_fail n us f e) (λ n h us b. ands_begin n us b) ts ts f refl y
-    by_first (Ok (e, rest)) y =
-        chain_outcome ands factor d is_and both factor_short (λ n ts us all o a b x f z e. more_ands o x (and_kind o.kind f) z e) part
-        (length ts) ts y.front rest e (omega (arith, ap length y.is, length-append y.front rest)) y.is (one_factor y.whole) (goes e rest y)
-      where
-        goes : (e : Expr) (rest : List Lexeme) (y : IsRead factor d ts (e, rest)) (n : ℕ) → d ≤ n → (us : List Lexeme) → Alike rest us
-            → read_ands (read_factor n) (y.front ++ us) ≡ chain is_and both (read_factor n) (length us) e us
-        goes e rest y n h us same =
-            ap (λ q. on_read q (λ r. chain is_and both (read_factor n) (length (y.front ++ us)) r.0 r.1)) (y.again n h us same)
-            ∙ chain_same is_and both (read_factor n) (factor_short n) (length (y.front ++ us)) (length us) e us
-            (omega (arith, length-append y.front us)) (omega arith)
+ands_outcome = level_outcome ands factor is_and both factor_short (λ n ts e x. one_factor x) (λ n ts us all o a b x f z e. more_ands o x (and_kind o.kind f) z e)
+    (λ n ts. refl)
 
 ors_outcome : (d : ℕ) → ((ts : List Lexeme) → Outcome ands d ts (read_ands (read_factor d) ts)) → (ts : List Lexeme)
     → Outcome ors d ts (read_ors (read_factor d) ts)
-ors_outcome d part ts = by_first (read_ands (read_factor d) ts) (part ts)
-  where
-    by_first : (q : Read) → Outcome ands d ts q → Outcome ors d ts (on_read q (λ r. chain is_or either (read_ands (read_factor d)) (length ts) r.0 r.1))
-    by_first (Err f) y = refused_beside ands ors d [] (λ n h us f e. ors_fail n us f e) (λ n h us b. ors_begin n us b) ts ts f refl y
-    by_first (Ok (e, rest)) y =
-        chain_outcome ors ands d is_or either ands_short (λ n ts us all o a b x f z e. more_ors o x (or_kind o.kind f) z e) part
-        (length ts) ts y.front rest e (omega (arith, ap length y.is, length-append y.front rest)) y.is (one_and y.whole) (goes e rest y)
-      where
-        goes : (e : Expr) (rest : List Lexeme) (y : IsRead ands d ts (e, rest)) (n : ℕ) → d ≤ n → (us : List Lexeme) → Alike rest us
-            → read_ors (read_factor n) (y.front ++ us) ≡ chain is_or either (read_ands (read_factor n)) (length us) e us
-        goes e rest y n h us same =
-            ap (λ q. on_read q (λ r. chain is_or either (read_ands (read_factor n)) (length (y.front ++ us)) r.0 r.1)) (y.again n h us same)
-            ∙ chain_same is_or either (read_ands (read_factor n)) (ands_short n) (length (y.front ++ us)) (length us) e us
-            (omega (arith, length-append y.front us)) (omega arith)
+ors_outcome = level_outcome ors ands is_or either ands_short (λ n ts e x. one_and x) (λ n ts us all o a b x f z e. more_ors o x (or_kind o.kind f) z e)
+    (λ n ts. refl)
 
 no_factor : (d : ℕ) (t : Lexeme) (ts : List Lexeme) → begins_none t.kind ≡ true → IsRefused factor d (t ∷ ts) (Malformed, t ∷ ts)
 no_factor d t ts h =
@@ -319,10 +306,7 @@ factor_outcome zero (t ∷ ts) = by_kind t.kind refl
     by_kind Quoted e = operand_first 0 t ts (constant_or quoted (quoted_text t.text)) (quoted_is t e)
     by_kind Not e = subst (Outcome factor 0 (t ∷ ts)) (sym (limit_read t ts (inl e))) (past_outcome t (t ∷ ts) [] ts (inl e) tt refl)
     by_kind Open e = subst (Outcome factor 0 (t ∷ ts)) (sym (limit_read t ts (inr e))) (past_outcome t (t ∷ ts) [] ts (inr e) tt refl)
-    by_kind (Relation op) e = none (ap begins_none e)
-    by_kind And e = none (ap begins_none e)
-    by_kind Or e = none (ap begins_none e)
-    by_kind Close e = none (ap begins_none e)
+    by_kind _ e = none (ap begins_none e)
 factor_outcome (suc d) (t ∷ ts) = by_kind t.kind refl (factor_outcome d)
   where
     none : begins_none t.kind ≡ true → Outcome factor (suc d) (t ∷ ts) (read_factor (suc d) (t ∷ ts))
@@ -336,10 +320,7 @@ factor_outcome (suc d) (t ∷ ts) = by_kind t.kind refl (factor_outcome d)
     by_kind Open e ih =
         subst (Outcome factor (suc d) (t ∷ ts)) (sym (open_read d t ts e))
         (parentheses_outcome d t ts (read_ors (read_factor d) ts) e (ors_outcome d (ands_outcome d ih) ts))
-    by_kind (Relation op) e ih = none (ap begins_none e)
-    by_kind And e ih = none (ap begins_none e)
-    by_kind Or e ih = none (ap begins_none e)
-    by_kind Close e ih = none (ap begins_none e)
+    by_kind _ e ih = none (ap begins_none e)
 
 -- what the reader of expressions gives of tokens is an expression that is read at greater depths too, or a fault with its cause
 pub expr_outcome : (d : ℕ) (ts : List Lexeme) → Outcome ors d ts (read_ors (read_factor d) ts)

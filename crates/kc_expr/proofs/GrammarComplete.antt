@@ -7,7 +7,7 @@ use Rattle.kc_tokens.specs.Token.{Lexeme}
 use Rattle.kc_expr.specs.Expr.{named, quoted, Expr, Operand, alone, related, negated, both, either}
 use Rattle.kc_tokens.specs.QuotedTexts.{quoted_text}
 use Rattle.kc_expr.specs.Grammar.{Level, ors, ands, factor, IsExpr, one_and, more_ors, one_factor, more_ands, operand, relation, negation, parentheses, Read, on_read, chain, is_and, is_or, read_ands, read_ors, closed, right_operand, after_operand, operand_of_lexeme, operand_of_kind, constant_or, read_factor, read_to_end, read_expr}
-use Rattle.kc_expr.proofs.GrammarLaws.{Reads, ands_sound, factor_sound}
+use Rattle.kc_expr.proofs.GrammarLaws.{Reads, after_operand_kind, ands_sound, factor_sound}
 
 abbrev pub is_relation : TokenKind → Bool
 is_relation (Relation op) = true
@@ -79,16 +79,7 @@ pub no_relation_after : (a : Operand) (rest : List Lexeme) → Stops is_relation
 no_relation_after a [] s = refl
 no_relation_after a (t ∷ ts) s = none_at t.kind t ts s
   where
-    none_at : (k : TokenKind) (t : Lexeme) (ts : List Lexeme) → is_relation k ≡ false → elim k as (λ _. Read) [
-      | Relation op ↦ right_operand (related op a) ts
-      | Word ↦ Ok (alone a, t ∷ ts)
-      | Quoted ↦ Ok (alone a, t ∷ ts)
-      | Not ↦ Ok (alone a, t ∷ ts)
-      | And ↦ Ok (alone a, t ∷ ts)
-      | Or ↦ Ok (alone a, t ∷ ts)
-      | Open ↦ Ok (alone a, t ∷ ts)
-      | Close ↦ Ok (alone a, t ∷ ts)
-    ] ≡ Ok (alone a, t ∷ ts)
+    none_at : (k : TokenKind) (t : Lexeme) (ts : List Lexeme) → is_relation k ≡ false → after_operand_kind a k t ts ≡ Ok (alone a, t ∷ ts)
     none_at (Relation op) t ts s = cc
     none_at Word t ts s = refl
     none_at Quoted t ts s = refl
@@ -105,12 +96,7 @@ operand_at Word zero t a ts e h = let q : constant_or named t.text ≡ a = cc in
 operand_at Word (suc d) t a ts e h = let q : constant_or named t.text ≡ a = cc in rw (e, read_factor) (ap (λ a. after_operand a ts) q)
 operand_at Quoted zero t a ts e h = let q : constant_or quoted (quoted_text t.text) ≡ a = cc in rw (e, read_factor) (ap (λ a. after_operand a ts) q)
 operand_at Quoted (suc d) t a ts e h = let q : constant_or quoted (quoted_text t.text) ≡ a = cc in rw (e, read_factor) (ap (λ a. after_operand a ts) q)
-operand_at (Relation op) d t a ts e h = cc
-operand_at Not d t a ts e h = cc
-operand_at And d t a ts e h = cc
-operand_at Or d t a ts e h = cc
-operand_at Open d t a ts e h = cc
-operand_at Close d t a ts e h = cc
+operand_at _ d t a ts e h = cc
 
 pub operand_read : (d : ℕ) (t : Lexeme) (a : Operand) (ts : List Lexeme) → operand_of_lexeme t ≡ Some a → read_factor d (t ∷ ts) ≡ after_operand a ts
 operand_read d t a ts h = operand_at t.kind d t a ts refl h

@@ -21,23 +21,11 @@ on_ok (Err k) f y e = cc
 
 pub and_kind : (k : TokenKind) → is_and k ≡ true → k ≡ And
 and_kind And e = refl
-and_kind Word e = cc
-and_kind Quoted e = cc
-and_kind (Relation op) e = cc
-and_kind Not e = cc
-and_kind Or e = cc
-and_kind Open e = cc
-and_kind Close e = cc
+and_kind _ e = cc
 
 pub or_kind : (k : TokenKind) → is_or k ≡ true → k ≡ Or
 or_kind Or e = refl
-or_kind Word e = cc
-or_kind Quoted e = cc
-or_kind (Relation op) e = cc
-or_kind Not e = cc
-or_kind And e = cc
-or_kind Open e = cc
-or_kind Close e = cc
+or_kind _ e = cc
 
 -- a chain keeps what every longer front keeps
 module _ (l m : Level) (d : ℕ) (is_joint : TokenKind → Bool) (join : Expr → Expr → Expr) (part : List Lexeme → Read)
@@ -77,26 +65,46 @@ module _ (d : ℕ) (part : List Lexeme → Read) (sound : (ts : List Lexeme) (r 
       chain_sound ors ands d is_or either (read_ands part) ands_sound (λ ts us all o a b x f z e. more_ors o x (or_kind o.kind f) z e)
       (length ts) ts front y.1 y.0 r eq (one_and z) k
 
+-- what the reader past the limit of depth gives of a token of a kind and the tokens after it
+abbrev pub beyond_kind : TokenKind → Lexeme → List Lexeme → Read
+beyond_kind k t ts = elim k as (λ _. Read) [
+  | Not ↦ past_depth_limit ts
+  | Open ↦ past_depth_limit ts
+  | Word ↦ Err (TooDeep, t ∷ ts)
+  | Quoted ↦ Err (TooDeep, t ∷ ts)
+  | _ ↦ Err (Malformed, t ∷ ts)
+]
+
+abbrev pub after_operand_kind : Operand → TokenKind → Lexeme → List Lexeme → Read
+after_operand_kind a k t ts = elim k as (λ _. Read) [
+  | Relation op ↦ right_operand (related op a) ts
+  | _ ↦ Ok (alone a, t ∷ ts)
+]
+
+abbrev pub zero_kind : TokenKind → Lexeme → List Lexeme → Read
+zero_kind k t ts = elim k as (λ _. Read) [
+  | Not ↦ past_depth_limit ts
+  | Open ↦ past_depth_limit ts
+  | Word ↦ after_operand (constant_or named t.text) ts
+  | Quoted ↦ after_operand (constant_or quoted (quoted_text t.text)) ts
+  | _ ↦ Err (Malformed, t ∷ ts)
+]
+
+abbrev pub suc_kind : ℕ → TokenKind → Lexeme → List Lexeme → Read
+suc_kind d k t ts = elim k as (λ _. Read) [
+  | Not ↦ on_read (read_factor d ts) (λ r. Ok (negated r.0, r.1))
+  | Open ↦ on_read (read_ors (read_factor d) ts) closed
+  | Word ↦ after_operand (constant_or named t.text) ts
+  | Quoted ↦ after_operand (constant_or quoted (quoted_text t.text)) ts
+  | _ ↦ Err (Malformed, t ∷ ts)
+]
+
 -- past the greatest depth nothing is read
 beyond_at : (k : TokenKind) (ts : List Lexeme) (t : Lexeme) (r : Expr × List Lexeme) → (past_depth_limit ts ≡ Ok r → ⊥)
-    → elim k as (λ _. Read) [
-      | Not ↦ past_depth_limit ts
-      | Open ↦ past_depth_limit ts
-      | Word ↦ Err (TooDeep, t ∷ ts)
-      | Quoted ↦ Err (TooDeep, t ∷ ts)
-      | Relation op ↦ Err (Malformed, t ∷ ts)
-      | And ↦ Err (Malformed, t ∷ ts)
-      | Or ↦ Err (Malformed, t ∷ ts)
-      | Close ↦ Err (Malformed, t ∷ ts)
-    ] ≡ Ok r → ⊥
+    → beyond_kind k t ts ≡ Ok r → ⊥
 beyond_at Not ts t r ih h = ih h
 beyond_at Open ts t r ih h = ih h
-beyond_at Word ts t r ih h = cc
-beyond_at Quoted ts t r ih h = cc
-beyond_at (Relation op) ts t r ih h = cc
-beyond_at And ts t r ih h = cc
-beyond_at Or ts t r ih h = cc
-beyond_at Close ts t r ih h = cc
+beyond_at _ ts t r ih h = cc
 
 beyond_none : (ts : List Lexeme) (r : Expr × List Lexeme) → past_depth_limit ts ≡ Ok r → ⊥
 beyond_none [] r h = cc
@@ -122,25 +130,9 @@ module _ (d : ℕ) (t : Lexeme) (a : Operand) (is : operand_of_lexeme t ≡ Some
   right_sound op u (v ∷ ts) r e h = right_at (operand_of_lexeme v) op u v ts r e refl h
 
   after_at : (k : TokenKind) (u : Lexeme) (ts : List Lexeme) (r : Expr × List Lexeme) → u.kind ≡ k
-      → elim k as (λ _. Read) [
-        | Relation op ↦ right_operand (related op a) ts
-        | Word ↦ Ok (alone a, u ∷ ts)
-        | Quoted ↦ Ok (alone a, u ∷ ts)
-        | Not ↦ Ok (alone a, u ∷ ts)
-        | And ↦ Ok (alone a, u ∷ ts)
-        | Or ↦ Ok (alone a, u ∷ ts)
-        | Open ↦ Ok (alone a, u ∷ ts)
-        | Close ↦ Ok (alone a, u ∷ ts)
-      ]
-      ≡ Ok r → Reads factor d (t ∷ u ∷ ts) r
+      → after_operand_kind a k u ts ≡ Ok r → Reads factor d (t ∷ u ∷ ts) r
   after_at (Relation op) u ts r e h = right_sound op u ts r e h
-  after_at Word u ts r e h = single (u ∷ ts) r h
-  after_at Quoted u ts r e h = single (u ∷ ts) r h
-  after_at Not u ts r e h = single (u ∷ ts) r h
-  after_at And u ts r e h = single (u ∷ ts) r h
-  after_at Or u ts r e h = single (u ∷ ts) r h
-  after_at Open u ts r e h = single (u ∷ ts) r h
-  after_at Close u ts r e h = single (u ∷ ts) r h
+  after_at _ u ts r e h = single (u ∷ ts) r h
 
   pub after_sound : (ts : List Lexeme) (r : Expr × List Lexeme) → after_operand a ts ≡ Ok r → Reads factor d (t ∷ ts) r
   after_sound [] r h = single [] r h
@@ -163,13 +155,7 @@ negation_sound d t ts r e ih h =
 
 pub close_kind : (k : TokenKind) → is_close k ≡ true → k ≡ Close
 close_kind Close e = refl
-close_kind Or e = cc
-close_kind Word e = cc
-close_kind Quoted e = cc
-close_kind (Relation op) e = cc
-close_kind Not e = cc
-close_kind And e = cc
-close_kind Open e = cc
+close_kind _ e = cc
 
 closed_at : (b : Bool) (d : ℕ) (t c : Lexeme) (x : Expr) (ts us front : List Lexeme) (r : Expr × List Lexeme) → t.kind ≡ Open → is_close c.kind ≡ b
     → ts ≡ front ++ c ∷ us → IsExpr ors d front x
@@ -189,50 +175,23 @@ closed_sound d t ts (x, []) r e s h = cc
 closed_sound d t ts (x, c ∷ us) r e s h = closed_at (is_close c.kind) d t c x ts us s.0 r e refl s.1 s.2 h
 
 zero_at : (k : TokenKind) (t : Lexeme) (ts : List Lexeme) (r : Expr × List Lexeme) → t.kind ≡ k
-    → elim k as (λ _. Read) [
-      | Not ↦ past_depth_limit ts
-      | Open ↦ past_depth_limit ts
-      | Word ↦ after_operand (constant_or named t.text) ts
-      | Quoted ↦ after_operand (constant_or quoted (quoted_text t.text)) ts
-      | Relation op ↦ Err (Malformed, t ∷ ts)
-      | And ↦ Err (Malformed, t ∷ ts)
-      | Or ↦
-          Err (Malformed, t ∷ ts)
-      | Close ↦ Err (Malformed, t ∷ ts)
-    ] ≡ Ok r → Reads factor 0 (t ∷ ts) r
+    → zero_kind k t ts ≡ Ok r → Reads factor 0 (t ∷ ts) r
 zero_at Not t ts r e h = absurd (beyond_none ts r h)
 zero_at Open t ts r e h = absurd (beyond_none ts r h)
 zero_at Word t ts r e h = after_sound 0 t (constant_or named t.text) (word_is t e) ts r h
 zero_at Quoted t ts r e h = after_sound 0 t (constant_or quoted (quoted_text t.text)) (quoted_is t e) ts r h
-zero_at (Relation op) t ts r e h = cc
-zero_at And t ts r e h = cc
-zero_at Or t ts r e h = cc
-zero_at Close t ts r e h = cc
+zero_at _ t ts r e h = cc
 
 suc_at : (k : TokenKind) (d : ℕ) (t : Lexeme) (ts : List Lexeme) (r : Expr × List Lexeme) → t.kind ≡ k
     → ((ts : List Lexeme) (r : Expr × List Lexeme) → read_factor d ts ≡ Ok r → Reads factor d ts r)
-    → elim k as (λ _. Read) [
-      | Not ↦ on_read (read_factor d ts) (λ r. Ok (negated r.0, r.1))
-      | Open ↦ on_read (read_ors (read_factor d) ts) closed
-      | Word ↦ after_operand (constant_or named t.text) ts
-      | Quoted ↦ after_operand (constant_or quoted (quoted_text t.text)) ts
-      | Relation op ↦
-          Err (Malformed, t ∷ ts)
-      | And ↦ Err (Malformed, t ∷ ts)
-      | Or ↦ Err (Malformed, t ∷ ts)
-      | Close ↦ Err (Malformed, t ∷ ts)
-    ] ≡ Ok r
-    → Reads factor (suc d) (t ∷ ts) r
+    → suc_kind d k t ts ≡ Ok r → Reads factor (suc d) (t ∷ ts) r
 suc_at Not d t ts r e ih h = negation_sound d t ts r e (ih ts) h
 suc_at Open d t ts r e ih h =
     let (y, p, k) = on_ok (read_ors (read_factor d) ts) closed r h in
     closed_sound d t ts y r e (ors_sound d (read_factor d) ih ts y p) k
 suc_at Word d t ts r e ih h = after_sound (suc d) t (constant_or named t.text) (word_is t e) ts r h
 suc_at Quoted d t ts r e ih h = after_sound (suc d) t (constant_or quoted (quoted_text t.text)) (quoted_is t e) ts r h
-suc_at (Relation op) d t ts r e ih h = cc
-suc_at And d t ts r e ih h = cc
-suc_at Or d t ts r e ih h = cc
-suc_at Close d t ts r e ih h = cc
+suc_at _ d t ts r e ih h = cc
 
 -- a factor that is read at the front of tokens is in the grammar, within the given depth
 pub factor_sound : (d : ℕ) (ts : List Lexeme) (r : Expr × List Lexeme) → read_factor d ts ≡ Ok r → Reads factor d ts r
@@ -242,9 +201,8 @@ factor_sound zero (t ∷ ts) r h = zero_at t.kind t ts r refl h
 factor_sound (suc d) (t ∷ ts) r h = suc_at t.kind d t ts r refl (factor_sound d) h
 
 pub whole_ok : (r : Read) (e : Expr) → read_to_end r ≡ Ok e → r ≡ Ok (e, [])
-whole_ok (Err k) e h = cc
 whole_ok (Ok (x, [])) e h = let q : x ≡ e = cc in ap (λ y. ok (y, [])) q
-whole_ok (Ok (x, t ∷ ts)) e h = cc
+whole_ok _ e h = cc
 
 -- the expression as which tokens are read is the one that the grammar has for them
 pub expr_sound : (ts : List Lexeme) (e : Expr) → read_expr ts ≡ Ok e → IsExpr ors 64 ts e

@@ -26,10 +26,9 @@ after language b bs at x = elim x as (λ _. Result (List Lexeme) ExprFault) [
 
 -- a token of a kind with a property, or none
 abbrev IsGood : (TokenKind → Type 0) → NextToken → Type 0
-IsGood Good White = Unit {0}
-IsGood Good Comment = Unit {0}
 IsGood Good (Token kind len) = Good kind
 IsGood Good (Fault kind ahead) = ⊥
+IsGood Good _ = Unit {0}
 
 abbrev pub AllKinds : (TokenKind → Type 0) → List Lexeme → Type 0
 AllKinds Good [] = Unit {0}
@@ -66,20 +65,15 @@ abbrev pub IsUnquoted : TokenKind → Type 0
 IsUnquoted kind = kind ≡ Quoted → ⊥
 
 no_quoted : (n : ℕ) (o : Option ℕ) (x : NextToken) → IsGood IsUnquoted x → quoted_or_left_out n o ≡ x → ⊥
-no_quoted n None White g h = cc
-no_quoted n None Comment g h = cc
 no_quoted n None (Token kind len) g h = g (let q : Token Quoted n ≡ Token kind len = h in cc)
 no_quoted n None (Fault kind ahead) g h = g
-no_quoted n (Some k) White g h = cc
-no_quoted n (Some k) Comment g h = cc
-no_quoted n (Some k) (Token kind len) g h = cc
+no_quoted n None _ g h = cc
 no_quoted n (Some k) (Fault kind ahead) g h = g
+no_quoted n (Some k) _ g h = cc
 
 no_closed : (l : Language) (bytes : List ℕ) (o : Option ℕ) (x : NextToken) → IsGood IsUnquoted x → quoted_up_to l bytes o ≡ x → ⊥
-no_closed l bytes None White g h = cc
-no_closed l bytes None Comment g h = cc
-no_closed l bytes None (Token kind len) g h = cc
 no_closed l bytes None (Fault kind ahead) g h = g
+no_closed l bytes None _ g h = cc
 no_closed l bytes (Some n) x g h = no_quoted (n + 1) (dollar_left_out l (take (n + 1) bytes)) x g h
 
 pub unquoted_line : (l m : Language) (skip at : ℕ) (bytes : List ℕ) (ts : List Lexeme) → AllKinds IsUnquoted ts → lexemes_from l skip at bytes ≡ Ok ts
@@ -94,10 +88,8 @@ unquoted_line l m = line_alike l m IsUnquoted (λ b bs x good e. by_quote b bs x
 no_dollar_of : (n : ℕ) (o p : Option ℕ) (x : NextToken) → (o ≡ None → p ≡ None) → IsGood (λ _. Unit {0}) x → quoted_or_left_out n o ≡ x
     → quoted_or_left_out n p ≡ x
 no_dollar_of n None p x f g h = ap (quoted_or_left_out n) (f refl) ∙ h
-no_dollar_of n (Some k) p White f g h = cc
-no_dollar_of n (Some k) p Comment f g h = cc
-no_dollar_of n (Some k) p (Token kind len) f g h = cc
 no_dollar_of n (Some k) p (Fault kind ahead) f g h = absurd g
+no_dollar_of n (Some k) p _ f g h = cc
 
 closed_in_linux : (version : LinuxVersion) (bytes : List ℕ) (o : Option ℕ) (x : NextToken) → IsGood (λ _. Unit {0}) x → quoted_up_to Strict bytes o ≡ x → quoted_up_to (Linux version) bytes o ≡ x
 closed_in_linux version bytes None x g h = h

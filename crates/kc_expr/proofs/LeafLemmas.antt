@@ -1,12 +1,11 @@
 -- Operands of tokens.
 use Rattle.std.proofs.Common.{◌≡◌, ℕ, suc, zero, ◌<◌, ◌≤◌, Bool, true, List, [], ◌∷◌, length, get_or, drop, None, refl, ap, ◌∙◌, arith}
-use Rattle.std.proofs.lemmas.Bool.Decides.{nat_tests}
-use Rattle.kc_value.specs.declared.tri.Tri.TheVariants.{N, M, Y}
+use Rattle.kc_value.specs.declared.tri.Tri.TheVariants.{M}
 use Rattle.kc_expr.specs.declared.node.Leaf.{Leaf}
-use Rattle.kc_expr.specs.declared.node.Leaf.TheVariants.{Constant, Name, Quoted as Text}
+use Rattle.kc_expr.specs.declared.node.Leaf.TheVariants.{Constant}
 use Rattle.kc_tokens.specs.declared.token.Token.{Token as CodeToken}
 use Rattle.kc_tokens.specs.declared.token.TokenKind.{TokenKind}
-use Rattle.kc_tokens.specs.declared.token.TokenKind.TheVariants.{Word, Quoted, Relation, Not, And, Or, Open, Close}
+use Rattle.kc_tokens.specs.declared.token.TokenKind.TheVariants.{Word, Quoted}
 use Rattle.kc_expr.specs.Expr.{alone, both, constant, named, modules}
 use Rattle.kc_expr.specs.Grammar.{operand_of_kind}
 use Rattle.kc_tokens.specs.Token.{lexemes_of, lexeme_of}
@@ -28,12 +27,7 @@ operand_at ts at d k h e = ap first_operand (lexeme_at ts at d h) ∙ ap (λ k. 
 other_kind : (k : TokenKind) (text : List ℕ) → (k ≡ Word → ⊥) → (k ≡ Quoted → ⊥) → operand_of_kind k text ≡ None
 other_kind Word text w q = absurd (w refl)
 other_kind Quoted text w q = absurd (q refl)
-other_kind (Relation op) text w q = refl
-other_kind Not text w q = refl
-other_kind And text w q = refl
-other_kind Or text w q = refl
-other_kind Open text w q = refl
-other_kind Close text w q = refl
+other_kind _ text w q = refl
 
 pub no_operand_at : (ts : List CodeToken) (at : ℕ) (d : CodeToken) → at < length ts → ((get_or ts at d).kind ≡ Word → ⊥) → ((get_or ts at d).kind ≡ Quoted → ⊥)
     → first_operand (drop at (lexemes_of ts)) ≡ None
@@ -49,14 +43,8 @@ nothing_at (t ∷ ts) (suc at) h = nothing_at ts at (omega arith)
 pub m_condition : (condition : Bool) (leaf : Leaf) (names texts : List (List ℕ)) → condition ≡ true → is_m leaf ≡ true
     → as_condition condition (alone (operand_of names texts leaf)) ≡ both (alone (constant M)) (alone (named modules))
 m_condition condition (Constant M) names texts e h = rw e refl
-m_condition condition (Constant N) names texts e h = cc
-m_condition condition (Constant Y) names texts e h = cc
-m_condition condition (Name i) names texts e h = cc
-m_condition condition (Text i) names texts e h = cc
+m_condition condition _ names texts e h = cc
 
 pub m_leaf : (leaf : Leaf) (names texts : List (List ℕ)) → is_m leaf ≡ true → operand_of names texts leaf ≡ constant M
 m_leaf (Constant M) names texts h = refl
-m_leaf (Constant N) names texts h = cc
-m_leaf (Constant Y) names texts h = cc
-m_leaf (Name i) names texts h = cc
-m_leaf (Text i) names texts h = cc
+m_leaf _ names texts h = cc

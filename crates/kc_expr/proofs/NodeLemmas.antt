@@ -1,7 +1,5 @@
 -- The expressions of nodes, one after another.
 use Rattle.std.proofs.Common.{◌≡◌, ℕ, suc, zero, ◌+◌, ◌<◌, ◌≤◌, List, [], ◌∷◌, ◌++◌, length, get_or, refl, ap, sym, ◌∙◌, arith, length-append, inl, inr, ◌⊎◌}
-use Rattle.std.proofs.lemmas.List.{take-append-le}
-use Rattle.std.proofs.Math.Seq.{take-length}
 use Rattle.std.proofs.lemmas.List.{get_or_append_left}
 use Rattle.std.proofs.Math.Seq.{get_or-append_seam}
 use Rattle.kc_value.specs.declared.tri.Tri.{Tri}
@@ -9,8 +7,8 @@ use Rattle.kc_value.specs.declared.tri.Tri.TheVariants.{N, M, Y}
 use Rattle.kc_value.specs.Tri.{tri_and, tri_or}
 use Rattle.kc_expr.specs.Expr.{Expr, alone, constant, negated, both, either, shown}
 use Rattle.kc_expr.specs.declared.node.Node.{Node}
-use Rattle.kc_expr.specs.declared.node.Node.TheVariants.{Alone, Related, Negated, Both, Either, Shown}
-use Rattle.kc_expr.specs.between.Arena.{Grows, Represents}
+use Rattle.kc_expr.specs.declared.node.Node.TheVariants.{Negated, Both, Either, Shown}
+use Rattle.kc_expr.specs.between.Arena.{Represents}
 use Rattle.std.proofs.lemmas.Bool.{cases_lt}
 use Rattle.kc_expr.specs.checker.Nodes.{expr_of, exprs_after, exprs_of, at, NodeFits, AreNodes, some_node}
 
@@ -18,23 +16,17 @@ pub tri_and_comm : (a b : Tri) → tri_and a b ≡ tri_and b a
 tri_and_comm N N = refl
 tri_and_comm N M = refl
 tri_and_comm N Y = refl
-tri_and_comm M N = refl
-tri_and_comm M M = refl
-tri_and_comm M Y = refl
-tri_and_comm Y N = refl
-tri_and_comm Y M = refl
-tri_and_comm Y Y = refl
+tri_and_comm _ N = refl
+tri_and_comm _ M = refl
+tri_and_comm _ Y = refl
 
 pub tri_and_assoc : (a b c : Tri) → tri_and (tri_and a b) c ≡ tri_and a (tri_and b c)
 tri_and_assoc N b c = refl
 tri_and_assoc Y b c = refl
 tri_and_assoc M N c = refl
-tri_and_assoc M M N = refl
-tri_and_assoc M M M = refl
-tri_and_assoc M M Y = refl
-tri_and_assoc M Y N = refl
-tri_and_assoc M Y M = refl
-tri_and_assoc M Y Y = refl
+tri_and_assoc M _ N = refl
+tri_and_assoc M _ M = refl
+tri_and_assoc M _ Y = refl
 
 -- a value that is joined by `&&` with a right value and then with a left one is the value joined with the `&&` of both
 pub chained : (least left right : Tri) → tri_and (tri_and least right) left ≡ tri_and least (tri_and left right)
@@ -44,23 +36,17 @@ pub tri_or_comm : (a b : Tri) → tri_or a b ≡ tri_or b a
 tri_or_comm N N = refl
 tri_or_comm N M = refl
 tri_or_comm N Y = refl
-tri_or_comm M N = refl
-tri_or_comm M M = refl
-tri_or_comm M Y = refl
-tri_or_comm Y N = refl
-tri_or_comm Y M = refl
-tri_or_comm Y Y = refl
+tri_or_comm _ N = refl
+tri_or_comm _ M = refl
+tri_or_comm _ Y = refl
 
 pub tri_or_assoc : (a b c : Tri) → tri_or (tri_or a b) c ≡ tri_or a (tri_or b c)
 tri_or_assoc N b c = refl
 tri_or_assoc Y b c = refl
 tri_or_assoc M N c = refl
-tri_or_assoc M M N = refl
-tri_or_assoc M M M = refl
-tri_or_assoc M M Y = refl
-tri_or_assoc M Y N = refl
-tri_or_assoc M Y M = refl
-tri_or_assoc M Y Y = refl
+tri_or_assoc M _ N = refl
+tri_or_assoc M _ M = refl
+tri_or_assoc M _ Y = refl
 
 pub ors_start : (greatest left right : Tri) → greatest ≡ right → tri_or greatest left ≡ tri_or left right
 ors_start greatest left right e = rw e (tri_or_comm right left)
@@ -69,9 +55,6 @@ pub ors_more : (new greatest found left right here all : Tri) → new ≡ tri_or
     → tri_or greatest here ≡ all → tri_or new left ≡ all
 ors_more new greatest found left right here all e f h k = rw (e, f) (tri_or_assoc greatest right left ∙ ap (tri_or greatest) (tri_or_comm right left)
     ∙ ap (tri_or greatest) (sym h) ∙ k)
-
-pub or_of : (r a b x y : Tri) → r ≡ tri_or a b → a ≡ x → b ≡ y → r ≡ tri_or x y
-or_of r a b x y e f g = cc
 
 pub chain_start : (least left right : Tri) → least ≡ right → tri_and least left ≡ tri_and left right
 chain_start least left right e = rw e (tri_and_comm right left)
@@ -90,12 +73,11 @@ module _ (names texts : List (List ℕ)) where
   -- a node over expressions that are kept is the same expression
   same_over : (es fs : List Expr) (x y k : ℕ) (n : Node) → NodeFits x y k n → ((i : ℕ) → i < k → at fs i ≡ at es i)
       → expr_of names texts es n ≡ expr_of names texts fs n
-  same_over es fs x y k (Alone a) h e = refl
-  same_over es fs x y k (Related op a b) h e = refl
   same_over es fs x y k (Negated i) h e = ap negated (sym (e i h))
   same_over es fs x y k (Both i j) h e = ap (λ a. both a (at es j)) (sym (e i h.0)) ∙ ap (both (at fs i)) (sym (e j h.1))
   same_over es fs x y k (Either i j) h e = ap (λ a. either a (at es j)) (sym (e i h.0)) ∙ ap (either (at fs i)) (sym (e j h.1))
   same_over es fs x y k (Shown i) h e = ap shown (sym (e i h))
+  same_over es fs x y k _ h e = refl
 
   pub step_at : (x y : ℕ) (es : List Expr) (ns : List Node) (i at_i : ℕ) → at_i ≡ length es + i
       → ((k m : ℕ) → m ≡ length es + k → k < length ns → NodeFits x y m (get_or ns k some_node)) → i < length ns
@@ -133,18 +115,6 @@ module _ (names texts : List (List ℕ)) where
       ≡ exprs_after names texts es ns ++ expr_of names texts (exprs_after names texts es ns) n ∷ []
   exprs-push es [] n = refl
   exprs-push es (m ∷ ns) n = exprs-push (es ++ expr_of names texts es m ∷ []) ns n
-
-  -- an arena to which a node is appended keeps its names and nodes
-  pub grows_by : (ns : List Node) (n : Node) → Grows (record { names = names; nodes = exprs_of names texts ns })
-      (record { names = names; nodes = exprs_of names texts (ns ++ n ∷ []) })
-  grows_by ns n = record {
-    names = take-length names;
-    nodes = rw (
-      exprs-push [] ns n,
-      take-append-le (length (exprs_of names texts ns)) (exprs_of names texts ns)
-          (expr_of names texts (exprs_of names texts ns) n ∷ []) (omega arith),
-    ) (take-length (exprs_of names texts ns));
-  }
 
   pub represents_last : (ns : List Node) (n : Node) (id : ℕ) → id ≡ length ns
       → Represents (record { names = names; nodes = exprs_of names texts (ns ++ n ∷ []) }) id (expr_of names texts (exprs_of names texts ns) n)

@@ -11,13 +11,13 @@ use Rattle.kc_tokens.specs.declared.token.Relop.{Relop}
 use Rattle.kc_tokens.specs.declared.token.TokenKind.{TokenKind}
 use Rattle.kc_tokens.specs.declared.token.TokenKind.TheVariants.{Not, Open, Close}
 use Rattle.kc_expr.specs.between.Arena.{Represents, node_expr}
-use Rattle.kc_expr.specs.Expr.{Expr, Operand, alone, related, negated, both, either}
+use Rattle.kc_expr.specs.Expr.{Expr, Operand, alone, related, negated}
 use Rattle.kc_expr.specs.Grammar.{Read, on_read, past_depth_limit, closed, fault_of}
 use Rattle.kc_expr.specs.checker.Conditions.{as_condition}
 use Rattle.kc_expr.specs.checker.ParserResults.{first_kind, first_operand, first_relation, operand_read, factor_read, ors_read, read_all_tokens, IsParsed, IsExpressionRefused, Parses, IsParsedToEnd, IsRefusedToEnd, MeetsFault}
 use Rattle.kc_expr.specs.checker.Store.{exprs_in, IsSound, Extends}
 use Rattle.kc_tokens.specs.Token.{Lexeme}
-use Rattle.kc_expr.proofs.ReaderSteps.{drop_one, operand_none, operand_alone, operand_no_right, operand_related, factor_operand, factor_too_deep, factor_not, factor_open, closed_ok, closed_not, whole_fails, whole_left, whole_ok}
+use Rattle.kc_expr.proofs.ReaderSteps.{IsLevel, drop_one, operand_none, operand_alone, operand_no_right, operand_related, factor_operand, factor_too_deep, factor_not, factor_open, closed_ok, closed_not, whole_fails, whole_left, whole_ok}
 use Rattle.kc_expr.proofs.StoreLemmas.{represents_later}
 
 -- conditions of composed expressions
@@ -28,14 +28,6 @@ as_related false op a b = refl
 as_negated : (c : Bool) (e : Expr) → negated (as_condition c e) ≡ as_condition c (negated e)
 as_negated true e = refl
 as_negated false e = refl
-
-pub as_both : (c : Bool) (a b : Expr) → both (as_condition c a) (as_condition c b) ≡ as_condition c (both a b)
-as_both true a b = refl
-as_both false a b = refl
-
-pub as_either : (c : Bool) (a b : Expr) → either (as_condition c a) (as_condition c b) ≡ as_condition c (either a b)
-as_either true a b = refl
-as_either false a b = refl
 
 -- where a fault of one reading is that of another too, the parser's refusal by the former is one by the latter
 pub refused_on : (all : List Lexeme) (read more : Read) (e : ExprFault) → ((f : ExprKind × List Lexeme) → read ≡ Err f → more ≡ Err f) → IsExpressionRefused all read e
@@ -196,22 +188,15 @@ pub record IsChained (on : ℕ → Expr → List Lexeme → Read) (whole : ℕ �
   pub represents : Represents (exprs_in s) id (as_condition condition expr)
 
 -- chains, by the steps of their readers
-module _ (part whole : ℕ → List Lexeme → Read) (on : ℕ → Expr → List Lexeme → Read) (kind : TokenKind) (joined : Expr → Expr → Expr)
-    (first_fails : (d : ℕ) (us : List Lexeme) (f : ExprKind × List Lexeme) → part d us ≡ Err f → whole d us ≡ Err f)
-    (first : (d : ℕ) (us ws : List Lexeme) (e : Expr) → part d us ≡ Ok (e, ws) → whole d us ≡ on d e ws)
-    (link_fails : (d : ℕ) (us : List Lexeme) (e : Expr) (f : ExprKind × List Lexeme) → first_kind us ≡ Some kind → part d (drop 1 us) ≡ Err f
-    → on d e us ≡ Err f)
-    (link : (d : ℕ) (us ws : List Lexeme) (e b : Expr) → first_kind us ≡ Some kind → part d (drop 1 us) ≡ Ok (b, ws) → on d e us ≡ on d (joined e b) ws)
-    (ends : (d : ℕ) (us : List Lexeme) (e : Expr) → (first_kind us ≡ Some kind → ⊥) → on d e us ≡ Ok (e, us))
-    (as_joined : (c : Bool) (a b : Expr) → joined (as_condition c a) (as_condition c b) ≡ as_condition c (joined a b))
-    (all : List Lexeme) (condition : Bool) (at d : ℕ) where
+module _ {part whole : ℕ → List Lexeme → Read} {on : ℕ → Expr → List Lexeme → Read} {kind : TokenKind} {joined : Expr → Expr → Expr}
+    (level : IsLevel part whole on kind joined) (all : List Lexeme) (condition : Bool) (at d : ℕ) where
   pub chain_first_fails : (e : ExprFault) → IsExpressionRefused all (part d (drop at all)) e → IsExpressionRefused all (whole d (drop at all)) e
-  chain_first_fails e h = refused_on all (part d (drop at all)) (whole d (drop at all)) e (first_fails d (drop at all)) h
+  chain_first_fails e h = refused_on all (part d (drop at all)) (whole d (drop at all)) e (level.first_fails d (drop at all)) h
 
   pub chain_begins : (s : NodeStore) (id next : ℕ) → IsParsed s all condition at (part d (drop at all)) id next → IsChained on whole s all condition at d id next
   chain_begins s id next p = record {
     expr = p.expr;
-    reads = first d (drop at all) (drop next all) p.expr p.reads;
+    reads = level.first d (drop at all) (drop next all) p.expr p.reads;
     forward = p.forward;
     within = p.within;
     represents = p.represents;
@@ -220,7 +205,7 @@ module _ (part whole : ℕ → List Lexeme → Read) (on : ℕ → Expr → List
   pub chain_fails : (s : NodeStore) (left next : ℕ) → IsChained on whole s all condition at d left next → first_kind (drop next all) ≡ Some kind → (e : ExprFault)
       → IsExpressionRefused all (part d (drop (next + 1) all)) e → IsExpressionRefused all (whole d (drop at all)) e
   chain_fails s left next c k e h = refused_on all (part d (drop (next + 1) all)) (whole d (drop at all)) e
-      (λ f r. c.reads ∙ link_fails d (drop next all) c.expr f k (ap (part d) (sym (drop_one next all)) ∙ r)) h
+      (λ f r. c.reads ∙ level.link_fails d (drop next all) c.expr f k (ap (part d) (sym (drop_one next all)) ∙ r)) h
 
   pub chain_goes_on : (s0 s1 s2 : NodeStore) (left next right after id : ℕ) → IsChained on whole s0 all condition at d left next
       → first_kind (drop next all) ≡ Some kind → IsSound s0 → Extends s0 s1 → IsParsed s1 all condition (next + 1) (part d (drop (next + 1) all)) right after
@@ -229,18 +214,18 @@ module _ (part whole : ℕ → List Lexeme → Read) (on : ℕ → Expr → List
       let kept = represents_later s0 s1 left (as_condition condition c.expr) sound x c.represents in
       record {
         expr = joined c.expr p.expr;
-        reads = c.reads ∙ link d (drop next all) (drop after all) c.expr p.expr k (ap (part d) (sym (drop_one next all)) ∙ p.reads);
+        reads = c.reads ∙ level.link d (drop next all) (drop after all) c.expr p.expr k (ap (part d) (sym (drop_one next all)) ∙ p.reads);
         forward = omega (arith, c.forward, p.forward);
         within = p.within;
         represents = subst (Represents (exprs_in s2) id) (ap (λ v. joined v (node_expr (exprs_in s1) right)) kept.is
-            ∙ ap (joined (as_condition condition c.expr)) p.represents.is ∙ as_joined condition c.expr p.expr) h;
+            ∙ ap (joined (as_condition condition c.expr)) p.represents.is ∙ level.as_joined condition c.expr p.expr) h;
       }
 
   pub chain_ends : (s : NodeStore) (id next : ℕ) → IsChained on whole s all condition at d id next → (first_kind (drop next all) ≡ Some kind → ⊥)
       → IsParsed s all condition at (whole d (drop at all)) id next
   chain_ends s id next c n = record {
     expr = c.expr;
-    reads = c.reads ∙ ends d (drop next all) c.expr n;
+    reads = c.reads ∙ level.ends d (drop next all) c.expr n;
     forward = c.forward;
     within = c.within;
     represents = c.represents;

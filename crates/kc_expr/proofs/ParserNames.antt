@@ -1,8 +1,8 @@
 -- The names that the parser appends.
 use Rattle.std.proofs.Common.{◌≡◌, ℕ, Bool, true, false, List, [], ◌∷◌, ◌++◌, refl, ap, sym, ◌∙◌}
-use Rattle.kc_value.specs.declared.tri.Tri.TheVariants.{N, M, Y}
+use Rattle.kc_value.specs.declared.tri.Tri.TheVariants.{N}
 use Rattle.kc_expr.specs.declared.node.Leaf.{Leaf}
-use Rattle.kc_expr.specs.declared.node.Leaf.TheVariants.{Constant, Name, Quoted as Text}
+use Rattle.kc_expr.specs.declared.node.Leaf.TheVariants.{Constant}
 use Rattle.kc_expr.specs.declared.node_store.NodeStore.{NodeStore}
 use Rattle.kc_tokens.specs.declared.token.Relop.{Relop}
 use Rattle.kc_expr.specs.between.Arena.{Represents, node_expr}
@@ -26,15 +26,9 @@ both_added xs ys old one two e f = f ∙ ap (with_names ys) e ∙ sym (with_name
 alone_names : (condition : Bool) (leaf : Leaf) (names texts : List (List ℕ)) → operand_names (operand_of names texts leaf) ++ names_of_m condition leaf
     ≡ names_in (as_condition condition (alone (operand_of names texts leaf)))
 alone_names true (Constant N) names texts = refl
-alone_names true (Constant M) names texts = refl
-alone_names true (Constant Y) names texts = refl
-alone_names true (Name i) names texts = refl
-alone_names true (Text i) names texts = refl
+alone_names true _ names texts = refl
 alone_names false (Constant N) names texts = refl
-alone_names false (Constant M) names texts = refl
-alone_names false (Constant Y) names texts = refl
-alone_names false (Name i) names texts = refl
-alone_names false (Text i) names texts = refl
+alone_names false _ names texts = refl
 
 -- no name is added for a constant that isn't `m`, nor outside a condition
 module _ (old new : NodeStore) (id : ℕ) where

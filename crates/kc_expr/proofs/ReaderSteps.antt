@@ -1,71 +1,20 @@
 -- Steps of reading an expression.
-use Rattle.std.proofs.Common.{◌≡◌, ℕ, suc, zero, ◌+◌, ◌<◌, ◌⊎◌, inl, inr, false, List, [], ◌∷◌, length, drop, Some, None, Ok, Err, refl, ap, sym, ◌∙◌, arith, drop-drop}
+use Rattle.std.proofs.Common.{◌≡◌, ℕ, suc, zero, ◌+◌, ◌<◌, ◌≤◌, ◌⊎◌, inl, inr, Bool, true, false, List, [], ◌∷◌, length, drop, Some, None, Ok, Err, refl, ap, sym, ◌∙◌, arith, drop-drop}
 use Rattle.kc_tokens.specs.declared.fault.ExprKind.{ExprKind}
 use Rattle.kc_tokens.specs.declared.fault.ExprKind.TheVariants.{Malformed, TooDeep}
 use Rattle.kc_tokens.specs.declared.token.Relop.{Relop}
 use Rattle.kc_tokens.specs.declared.token.TokenKind.{TokenKind}
 use Rattle.kc_tokens.specs.declared.token.TokenKind.TheVariants.{Word, Quoted, Relation, Not, And, Or, Open, Close}
-use Rattle.kc_expr.specs.Expr.{Expr, Operand, named, quoted, alone, related, negated, both, either}
-use Rattle.kc_tokens.specs.QuotedTexts.{quoted_text}
-use Rattle.kc_expr.specs.Grammar.{Read, on_read, past_depth_limit, chain, is_and, is_or, is_close, closed, after_operand, right_operand, constant_or, operand_of_kind, read_factor, read_ands, read_ors, read_to_end, read_expr}
+use Rattle.kc_expr.specs.Expr.{Expr, Operand, alone, related, negated, both, either}
+use Rattle.kc_expr.specs.Grammar.{Read, on_read, past_depth_limit, chain, is_and, is_or, is_close, closed, after_operand, right_operand, operand_of_kind, read_factor, read_ands, read_to_end, read_expr}
 use Rattle.kc_expr.specs.checker.ParserResults.{first_kind, first_operand, first_relation, relation_of, operand_else, operand_read, factor_read, ands_read, ors_read, read_all_tokens}
 use Rattle.kc_tokens.specs.Token.{Lexeme}
+use Rattle.kc_expr.specs.checker.Conditions.{as_condition}
+use Rattle.kc_expr.proofs.GrammarLaws.{beyond_kind, after_operand_kind, zero_kind, suc_kind}
 use Rattle.kc_expr.proofs.GrammarComplete.{Stops, chain_same, chain_stops, factor_short, ands_short}
 
 pub drop_one : {X : Type 0} (at : ℕ) (xs : List X) → drop (at + 1) xs ≡ drop 1 (drop at xs)
 drop_one at xs = sym (drop-drop 1 at xs)
-
--- what the reader past the limit of depth gives of a token of a kind and the tokens after it
-abbrev pub beyond_kind : TokenKind → Lexeme → List Lexeme → Read
-beyond_kind k t ts = elim k as (λ _. Read) [
-  | Not ↦ past_depth_limit ts
-  | Open ↦ past_depth_limit ts
-  | Word ↦ Err (TooDeep, t ∷ ts)
-  | Quoted ↦ Err (TooDeep, t ∷ ts)
-  | Relation op ↦ Err (Malformed, t ∷ ts)
-  | And ↦ Err (Malformed, t ∷ ts)
-  | Or ↦ Err (Malformed, t ∷ ts)
-  | Close ↦
-      Err (Malformed, t ∷ ts)
-]
-
-abbrev after_operand_kind : Operand → TokenKind → Lexeme → List Lexeme → Read
-after_operand_kind a k t ts = elim k as (λ _. Read) [
-  | Relation op ↦ right_operand (related op a) ts
-  | Word ↦ Ok (alone a, t ∷ ts)
-  | Quoted ↦ Ok (alone a, t ∷ ts)
-  | Not ↦ Ok (alone a, t ∷ ts)
-  | And ↦ Ok (alone a, t ∷ ts)
-  | Or ↦ Ok (alone a, t ∷ ts)
-  | Open ↦ Ok (alone a, t ∷ ts)
-  | Close ↦ Ok (alone a, t ∷ ts)
-]
-
-abbrev pub zero_kind : TokenKind → Lexeme → List Lexeme → Read
-zero_kind k t ts = elim k as (λ _. Read) [
-  | Not ↦ past_depth_limit ts
-  | Open ↦ past_depth_limit ts
-  | Word ↦ after_operand (constant_or named t.text) ts
-  | Quoted ↦ after_operand (constant_or quoted (quoted_text t.text)) ts
-  | Relation op ↦ Err (Malformed, t ∷ ts)
-  | And ↦ Err (Malformed, t ∷ ts)
-  | Or ↦
-      Err (Malformed, t ∷ ts)
-  | Close ↦ Err (Malformed, t ∷ ts)
-]
-
-abbrev pub suc_kind : ℕ → TokenKind → Lexeme → List Lexeme → Read
-suc_kind d k t ts = elim k as (λ _. Read) [
-  | Not ↦ on_read (read_factor d ts) (λ r. Ok (negated r.0, r.1))
-  | Open ↦ on_read (read_ors (read_factor d) ts) closed
-  | Word ↦ after_operand (constant_or named t.text) ts
-  | Quoted ↦ after_operand (constant_or quoted (quoted_text t.text)) ts
-  | Relation op ↦
-      Err (Malformed, t ∷ ts)
-  | And ↦ Err (Malformed, t ∷ ts)
-  | Or ↦ Err (Malformed, t ∷ ts)
-  | Close ↦ Err (Malformed, t ∷ ts)
-]
 
 -- past the greatest depth
 module _ (us : List Lexeme) where
@@ -90,10 +39,7 @@ beyond_by Not t ts e n s = absurd (n (inl refl))
 beyond_by Open t ts e n s = absurd (n (inr refl))
 beyond_by Word t ts e n s = absurd (s (inl refl))
 beyond_by Quoted t ts e n s = absurd (s (inr refl))
-beyond_by (Relation op) t ts e n s = ap (λ k. beyond_kind k t ts) e
-beyond_by And t ts e n s = ap (λ k. beyond_kind k t ts) e
-beyond_by Or t ts e n s = ap (λ k. beyond_kind k t ts) e
-beyond_by Close t ts e n s = ap (λ k. beyond_kind k t ts) e
+beyond_by _ t ts e n s = ap (λ k. beyond_kind k t ts) e
 
 pub beyond_other : (us : List Lexeme) → ((first_kind us ≡ Some Not) ⊎ (first_kind us ≡ Some Open) → ⊥)
     → ((first_kind us ≡ Some Word) ⊎ (first_kind us ≡ Some Quoted) → ⊥) → past_depth_limit us ≡ Err (Malformed, us)
@@ -109,13 +55,7 @@ operand_none (t ∷ ts) h = ap (λ o. operand_else o t ts) h
 after_operand_by : (k : TokenKind) (a : Operand) (t : Lexeme) (ts : List Lexeme) → t.kind ≡ k → relation_of k ≡ None
     → after_operand a (t ∷ ts) ≡ Ok (alone a, t ∷ ts)
 after_operand_by (Relation op) a t ts e h = cc
-after_operand_by Word a t ts e h = ap (λ k. after_operand_kind a k t ts) e
-after_operand_by Quoted a t ts e h = ap (λ k. after_operand_kind a k t ts) e
-after_operand_by Not a t ts e h = ap (λ k. after_operand_kind a k t ts) e
-after_operand_by And a t ts e h = ap (λ k. after_operand_kind a k t ts) e
-after_operand_by Or a t ts e h = ap (λ k. after_operand_kind a k t ts) e
-after_operand_by Open a t ts e h = ap (λ k. after_operand_kind a k t ts) e
-after_operand_by Close a t ts e h = ap (λ k. after_operand_kind a k t ts) e
+after_operand_by _ a t ts e h = ap (λ k. after_operand_kind a k t ts) e
 
 no_relation_after : (a : Operand) (ts : List Lexeme) → first_relation ts ≡ None → after_operand a ts ≡ Ok (alone a, ts)
 no_relation_after a [] h = refl
@@ -128,13 +68,7 @@ operand_alone (t ∷ ts) a h r = ap (λ o. operand_else o t ts) h ∙ no_relatio
 
 relation_kind : (k : TokenKind) (op : Relop) → relation_of k ≡ Some op → k ≡ Relation op
 relation_kind (Relation op) o h = ap Relation (let q : op ≡ o = cc in q)
-relation_kind Word op h = cc
-relation_kind Quoted op h = cc
-relation_kind Not op h = cc
-relation_kind And op h = cc
-relation_kind Or op h = cc
-relation_kind Open op h = cc
-relation_kind Close op h = cc
+relation_kind _ op h = cc
 
 after_relation : (a : Operand) (op : Relop) (ts : List Lexeme) → first_relation ts ≡ Some op → after_operand a ts ≡ right_operand (related op a) (drop 1 ts)
 after_relation a op [] h = cc
@@ -166,18 +100,8 @@ factor_by : (d : ℕ) (k : TokenKind) (t : Lexeme) (ts : List Lexeme) → t.kind
     → read_factor d (t ∷ ts) ≡ operand_else (operand_of_kind k t.text) t ts
 factor_by d Not t ts e n o = absurd (n refl)
 factor_by d Open t ts e n o = absurd (o refl)
-factor_by zero Word t ts e n o = ap (λ k. zero_kind k t ts) e
-factor_by zero Quoted t ts e n o = ap (λ k. zero_kind k t ts) e
-factor_by zero (Relation op) t ts e n o = ap (λ k. zero_kind k t ts) e
-factor_by zero And t ts e n o = ap (λ k. zero_kind k t ts) e
-factor_by zero Or t ts e n o = ap (λ k. zero_kind k t ts) e
-factor_by zero Close t ts e n o = ap (λ k. zero_kind k t ts) e
-factor_by (suc d) Word t ts e n o = ap (λ k. suc_kind d k t ts) e
-factor_by (suc d) Quoted t ts e n o = ap (λ k. suc_kind d k t ts) e
-factor_by (suc d) (Relation op) t ts e n o = ap (λ k. suc_kind d k t ts) e
-factor_by (suc d) And t ts e n o = ap (λ k. suc_kind d k t ts) e
-factor_by (suc d) Or t ts e n o = ap (λ k. suc_kind d k t ts) e
-factor_by (suc d) Close t ts e n o = ap (λ k. suc_kind d k t ts) e
+factor_by zero _ t ts e n o = ap (λ k. zero_kind k t ts) e
+factor_by (suc d) _ t ts e n o = ap (λ k. suc_kind d k t ts) e
 
 pub factor_operand : (d : ℕ) (us : List Lexeme) → (first_kind us ≡ Some Not → ⊥) → (first_kind us ≡ Some Open → ⊥) → factor_read d us ≡ operand_read us
 unfolding factor_read operand_read
@@ -209,13 +133,7 @@ closed_ok e (t ∷ ts) h = let k : t.kind ≡ Close = cc in rw k refl
 
 close_by : (k : TokenKind) → (Some k ≡ Some Close → ⊥) → is_close k ≡ false
 close_by Close n = absurd (n refl)
-close_by Word n = refl
-close_by Quoted n = refl
-close_by (Relation op) n = refl
-close_by Not n = refl
-close_by And n = refl
-close_by Or n = refl
-close_by Open n = refl
+close_by _ n = refl
 
 pub closed_not : (e : Expr) (us : List Lexeme) → (first_kind us ≡ Some Close → ⊥) → closed (e, us) ≡ Err (Malformed, us)
 closed_not e [] n = refl
@@ -230,91 +148,77 @@ ors_on d e us = chain is_or either (read_ands (read_factor d)) (length us) e us
 
 and_by : (k : TokenKind) → (Some k ≡ Some And → ⊥) → is_and k ≡ false
 and_by And n = absurd (n refl)
-and_by Word n = refl
-and_by Quoted n = refl
-and_by (Relation op) n = refl
-and_by Not n = refl
-and_by Or n = refl
-and_by Open n = refl
-and_by Close n = refl
+and_by _ n = refl
 
 or_by : (k : TokenKind) → (Some k ≡ Some Or → ⊥) → is_or k ≡ false
 or_by Or n = absurd (n refl)
-or_by Word n = refl
-or_by Quoted n = refl
-or_by (Relation op) n = refl
-or_by Not n = refl
-or_by And n = refl
-or_by Open n = refl
-or_by Close n = refl
+or_by _ n = refl
 
-pub ands_first_fails : (d : ℕ) (us : List Lexeme) (f : ExprKind × List Lexeme) → factor_read d us ≡ Err f → ands_read d us ≡ Err f
-unfolding factor_read ands_read
-ands_first_fails d us f e = ap (λ q. on_read q (λ r. chain is_and both (read_factor d) (length us) r.0 r.1)) e
+as_both : (c : Bool) (a b : Expr) → both (as_condition c a) (as_condition c b) ≡ as_condition c (both a b)
+as_both true a b = refl
+as_both false a b = refl
 
-pub ands_first : (d : ℕ) (us ws : List Lexeme) (e : Expr) → factor_read d us ≡ Ok (e, ws) → ands_read d us ≡ ands_on d e ws
+as_either : (c : Bool) (a b : Expr) → either (as_condition c a) (as_condition c b) ≡ as_condition c (either a b)
+as_either true a b = refl
+as_either false a b = refl
+
+-- how the reader of a level goes on after its first part, at an operator and where no operator follows
+pub record IsLevel (part whole : ℕ → List Lexeme → Read) (on : ℕ → Expr → List Lexeme → Read) (kind : TokenKind) (join : Expr → Expr → Expr) : Type 0 where
+  pub first_fails : (d : ℕ) (us : List Lexeme) (f : ExprKind × List Lexeme) → part d us ≡ Err f → whole d us ≡ Err f
+  pub first : (d : ℕ) (us ws : List Lexeme) (e : Expr) → part d us ≡ Ok (e, ws) → whole d us ≡ on d e ws
+  pub link_fails : (d : ℕ) (us : List Lexeme) (e : Expr) (f : ExprKind × List Lexeme) → first_kind us ≡ Some kind → part d (drop 1 us) ≡ Err f
+      → on d e us ≡ Err f
+  pub link : (d : ℕ) (us ws : List Lexeme) (e b : Expr) → first_kind us ≡ Some kind → part d (drop 1 us) ≡ Ok (b, ws) → on d e us ≡ on d (join e b) ws
+  pub ends : (d : ℕ) (us : List Lexeme) (e : Expr) → (first_kind us ≡ Some kind → ⊥) → on d e us ≡ Ok (e, us)
+  pub as_joined : (c : Bool) (a b : Expr) → join (as_condition c a) (as_condition c b) ≡ as_condition c (join a b)
+
+module _ (is_joint : TokenKind → Bool) (kind : TokenKind) (join : Expr → Expr → Expr) (part : ℕ → List Lexeme → Read)
+    (short : (d : ℕ) (ts : List Lexeme) (r : Expr × List Lexeme) → part d ts ≡ Ok r → length r.1 ≤ length ts) (joint : is_joint kind ≡ true)
+    (other : (k : TokenKind) → (Some k ≡ Some kind → ⊥) → is_joint k ≡ false) where
+  abbrev on : ℕ → Expr → List Lexeme → Read
+  on d e us = chain is_joint join (part d) (length us) e us
+
+  abbrev then : ℕ → List Lexeme → (Expr → Expr) → Read → Read
+  then d us f q = on_read q (λ r. chain is_joint join (part d) (length us) (f r.0) r.1)
+
+  link_fails : (d : ℕ) (us : List Lexeme) (e : Expr) (f : ExprKind × List Lexeme) → first_kind us ≡ Some kind → part d (drop 1 us) ≡ Err f → on d e us ≡ Err f
+  link_fails d [] e f k h = cc
+  link_fails d (t ∷ ts) e f k h =
+      let same : t.kind ≡ kind = cc in
+      let q : is_joint t.kind ≡ true = ap is_joint same ∙ joint in
+      rw (q, chain) (ap (then d ts (join e)) h)
+
+  link : (d : ℕ) (us ws : List Lexeme) (e b : Expr) → first_kind us ≡ Some kind → part d (drop 1 us) ≡ Ok (b, ws) → on d e us ≡ on d (join e b) ws
+  link d [] ws e b k h = cc
+  link d (t ∷ ts) ws e b k h =
+      let same : t.kind ≡ kind = cc in
+      let q : is_joint t.kind ≡ true = ap is_joint same ∙ joint in
+      rw (q, chain) (ap (then d ts (join e)) h
+      ∙ chain_same is_joint join (part d) (short d) (length ts) (length ws) (join e b) ws (short d ts (b, ws) h) (omega arith))
+
+  stops : (us : List Lexeme) → (first_kind us ≡ Some kind → ⊥) → Stops is_joint us
+  stops [] n = tt
+  stops (t ∷ ts) n = other t.kind n
+
+  level : ((c : Bool) (a b : Expr) → join (as_condition c a) (as_condition c b) ≡ as_condition c (join a b))
+      → IsLevel part (λ d us. then d us (λ e. e) (part d us)) on kind join
+  level as_joined = record {
+    first_fails = λ d us f e. ap (then d us (λ e. e)) e;
+    first = λ d us ws e h. ap (then d us (λ e. e)) h
+        ∙ chain_same is_joint join (part d) (short d) (length us) (length ws) e ws (short d us (e, ws) h) (omega arith);
+    link_fails = link_fails;
+    link = link;
+    ends = λ d us e n. chain_stops is_joint join (part d) (short d) (length us) e us (stops us n);
+    as_joined = as_joined;
+  }
+
+pub ands_level : IsLevel factor_read ands_read ands_on And both
 unfolding factor_read ands_read ands_on
-ands_first d us ws e h =
-    ap (λ q. on_read q (λ r. chain is_and both (read_factor d) (length us) r.0 r.1)) h
-    ∙ chain_same is_and both (read_factor d) (factor_short d) (length us) (length ws) e ws (factor_short d us (e, ws) h) (omega arith)
+ands_level = level is_and And both read_factor factor_short refl and_by as_both
 
-pub ands_link_fails : (d : ℕ) (us : List Lexeme) (e : Expr) (f : ExprKind × List Lexeme) → first_kind us ≡ Some And → factor_read d (drop 1 us) ≡ Err f
-    → ands_on d e us ≡ Err f
-unfolding factor_read ands_on
-ands_link_fails d [] e f k h = cc
-ands_link_fails d (t ∷ ts) e f k h = let q : t.kind ≡ And = cc in rw (q, chain)
-    (ap (λ q. on_read q (λ r. chain is_and both (read_factor d) (length ts) (both e r.0) r.1)) h)
-
-pub ands_link : (d : ℕ) (us ws : List Lexeme) (e b : Expr) → first_kind us ≡ Some And → factor_read d (drop 1 us) ≡ Ok (b, ws)
-    → ands_on d e us ≡ ands_on d (both e b) ws
-unfolding factor_read ands_on
-ands_link d [] ws e b k h = cc
-ands_link d (t ∷ ts) ws e b k h =
-    let q : t.kind ≡ And = cc in
-    rw (q, chain) (ap (λ q. on_read q (λ r. chain is_and both (read_factor d) (length ts) (both e r.0) r.1)) h
-    ∙ chain_same is_and both (read_factor d) (factor_short d) (length ts) (length ws) (both e b) ws (factor_short d ts (b, ws) h) (omega arith))
-
-and_stops : (us : List Lexeme) → (first_kind us ≡ Some And → ⊥) → Stops is_and us
-and_stops [] n = tt
-and_stops (t ∷ ts) n = and_by t.kind n
-
-pub ands_end : (d : ℕ) (us : List Lexeme) (e : Expr) → (first_kind us ≡ Some And → ⊥) → ands_on d e us ≡ Ok (e, us)
-unfolding ands_on
-ands_end d us e n = chain_stops is_and both (read_factor d) (factor_short d) (length us) e us (and_stops us n)
-
-pub ors_first_fails : (d : ℕ) (us : List Lexeme) (f : ExprKind × List Lexeme) → ands_read d us ≡ Err f → ors_read d us ≡ Err f
-unfolding ands_read ors_read
-ors_first_fails d us f e = ap (λ q. on_read q (λ r. chain is_or either (read_ands (read_factor d)) (length us) r.0 r.1)) e
-
-pub ors_first : (d : ℕ) (us ws : List Lexeme) (e : Expr) → ands_read d us ≡ Ok (e, ws) → ors_read d us ≡ ors_on d e ws
+pub ors_level : IsLevel ands_read ors_read ors_on Or either
 unfolding ands_read ors_read ors_on
-ors_first d us ws e h =
-    ap (λ q. on_read q (λ r. chain is_or either (read_ands (read_factor d)) (length us) r.0 r.1)) h
-    ∙ chain_same is_or either (read_ands (read_factor d)) (ands_short d) (length us) (length ws) e ws (ands_short d us (e, ws) h) (omega arith)
-
-pub ors_link_fails : (d : ℕ) (us : List Lexeme) (e : Expr) (f : ExprKind × List Lexeme) → first_kind us ≡ Some Or → ands_read d (drop 1 us) ≡ Err f
-    → ors_on d e us ≡ Err f
-unfolding ands_read ors_on
-ors_link_fails d [] e f k h = cc
-ors_link_fails d (t ∷ ts) e f k h = let q : t.kind ≡ Or = cc in rw (q, chain)
-    (ap (λ q. on_read q (λ r. chain is_or either (read_ands (read_factor d)) (length ts) (either e r.0) r.1)) h)
-
-pub ors_link : (d : ℕ) (us ws : List Lexeme) (e b : Expr) → first_kind us ≡ Some Or → ands_read d (drop 1 us) ≡ Ok (b, ws)
-    → ors_on d e us ≡ ors_on d (either e b) ws
-unfolding ands_read ors_on
-ors_link d [] ws e b k h = cc
-ors_link d (t ∷ ts) ws e b k h =
-    let q : t.kind ≡ Or = cc in
-    rw (q, chain) (ap (λ q. on_read q (λ r. chain is_or either (read_ands (read_factor d)) (length ts) (either e r.0) r.1)) h
-    ∙ chain_same is_or either (read_ands (read_factor d)) (ands_short d) (length ts) (length ws) (either e b) ws (ands_short d ts (b, ws) h) (omega arith))
-
-or_stops : (us : List Lexeme) → (first_kind us ≡ Some Or → ⊥) → Stops is_or us
-or_stops [] n = tt
-or_stops (t ∷ ts) n = or_by t.kind n
-
-pub ors_end : (d : ℕ) (us : List Lexeme) (e : Expr) → (first_kind us ≡ Some Or → ⊥) → ors_on d e us ≡ Ok (e, us)
-unfolding ors_on
-ors_end d us e n = chain_stops is_or either (read_ands (read_factor d)) (ands_short d) (length us) e us (or_stops us n)
+ors_level = level is_or Or either (λ d. read_ands (read_factor d)) ands_short refl or_by as_either
 
 -- a fault of reading an expression is one of reading all tokens as an expression
 pub whole_fails : (d : ℕ) (us : List Lexeme) (f : ExprKind × List Lexeme) → ors_read d us ≡ Err f → read_all_tokens d us ≡ Err f

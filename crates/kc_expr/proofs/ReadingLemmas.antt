@@ -35,9 +35,8 @@ extent_by false t us ih = ap (λ vs. t ∷ vs) ih
 
 -- an expression's tokens are a front of the tokens
 extent_front : (ts : List Lexeme) → take (length (extent ts)) ts ≡ extent ts
-extent_front [] = refl
-extent_front (t ∷ []) = refl
 extent_front (t ∷ u ∷ ts) = extent_by ((is_operand_kind t.kind || is_close t.kind) && is_operand_kind u.kind) t (u ∷ ts) (extent_front (u ∷ ts))
+extent_front _ = refl
 
 -- the slice `&tokens[..end]` has the tokens up to the end of the expression
 pub front_pieces : (ts : List CodeToken) (at end : ℕ) → end ≡ expr_end (lexemes_of ts) at → lexemes_of (take end ts)

@@ -7,13 +7,14 @@ use Rattle.kc_value.specs.declared.tri.Tri.TheVariants.{N}
 use Rattle.kc_expr.specs.declared.node.Leaf.{Leaf}
 use Rattle.kc_expr.specs.declared.node.Leaf.TheVariants.{Constant, Name, Quoted}
 use Rattle.kc_expr.specs.declared.node.Node.{Node}
-use Rattle.kc_expr.specs.declared.node.Node.TheVariants.{Alone, Related, Negated, Both, Either, Shown}
+use Rattle.kc_expr.specs.declared.node.Node.TheVariants.{Alone, Related}
 use Rattle.kc_expr.specs.declared.node_store.NodeStore.{NodeStore}
 use Rattle.kc_expr.specs.between.Arena.{Exprs, node_expr, Represents, Grows}
 use Rattle.kc_expr.specs.Expr.{Expr, alone, related, constant, named, quoted}
 use Rattle.kc_expr.specs.Lookup.{AreDistinct}
 use Rattle.kc_expr.specs.checker.Nodes.{operand_of, expr_of, exprs_after, exprs_of, LeafFits, NodeFits, some_node}
 use Rattle.kc_expr.specs.checker.Store.{stored_names, exprs_in, IsSound, Extends}
+use Rattle.kc_tokens.proofs.KeptLists.{kept_through}
 use Rattle.kc_expr.proofs.NodeLemmas.{at_node, nodes_push, represents_last, length-exprs}
 
 -- the expression that a sound store represents at a number is that of the node with this number
@@ -36,12 +37,6 @@ prefix_long xs ys e = omega (arith, ap length e, length-take (length xs) ys)
 kept_get : {X : Type 0} (xs ys : List X) (i : ℕ) (d : X) → take (length xs) ys ≡ xs → i < length xs → get_or ys i d ≡ get_or xs i d
 kept_get xs ys i d e h = ap (λ zs. get_or zs i d) (prefix_parts xs ys e) ∙ get_or_append_left xs (drop (length xs) ys) d i h
 
-prefix_trans : {X : Type 0} (xs ys zs : List X) → take (length xs) ys ≡ xs → take (length ys) zs ≡ ys → take (length xs) zs ≡ xs
-prefix_trans xs ys zs e f =
-    ap (take (length xs)) (prefix_parts ys zs f ∙ ap (λ vs. vs ++ drop (length ys) zs) (prefix_parts xs ys e)
-    ∙ append_assoc xs (drop (length xs) ys) (drop (length ys) zs))
-    ∙ take-append_seam xs (drop (length xs) ys ++ drop (length ys) zs)
-
 prefix_map : {X Y : Type 0} (f : X → Y) (xs ys : List X) → take (length xs) ys ≡ xs → take (length (map f xs)) (map f ys) ≡ map f xs
 prefix_map f xs ys e =
     ap (λ zs. take (length (map f xs)) (map f zs)) (prefix_parts xs ys e)
@@ -53,9 +48,9 @@ extends_self s = record { names = take-length s.names.keys; texts = take-length 
 
 pub extends_on : (a b c : NodeStore) → Extends a b → Extends b c → Extends a c
 extends_on a b c e f = record {
-  names = prefix_trans a.names.keys b.names.keys c.names.keys e.names f.names;
-  texts = prefix_trans a.texts.items b.texts.items c.texts.items e.texts f.texts;
-  nodes = prefix_trans a.nodes.items b.nodes.items c.nodes.items e.nodes f.nodes;
+  names = kept_through a.names.keys b.names.keys c.names.keys e.names f.names;
+  texts = kept_through a.texts.items b.texts.items c.texts.items e.texts f.texts;
+  nodes = kept_through a.nodes.items b.nodes.items c.nodes.items e.nodes f.nodes;
 }
 
 -- names and texts that come after change no operand
@@ -74,18 +69,12 @@ module _ (names texts more_names more_texts : List (List ℕ)) (n : take (length
   expr_kept es k (Alone a) h = ap alone (operand_kept a h)
   expr_kept es k (Related op a b) h = ap (λ x. related op x (operand_of more_names more_texts b)) (operand_kept a h.0)
       ∙ ap (related op (operand_of names texts a)) (operand_kept b h.1)
-  expr_kept es k (Negated i) h = refl
-  expr_kept es k (Both i j) h = refl
-  expr_kept es k (Either i j) h = refl
-  expr_kept es k (Shown i) h = refl
+  expr_kept es k _ h = refl
 
   fits_kept : (k : ℕ) (m : Node) → NodeFits (length names) (length texts) k m → NodeFits (length more_names) (length more_texts) k m
   fits_kept k (Alone a) h = leaf_kept a h
   fits_kept k (Related op a b) h = (leaf_kept a h.0, leaf_kept b h.1)
-  fits_kept k (Negated i) h = h
-  fits_kept k (Both i j) h = h
-  fits_kept k (Either i j) h = h
-  fits_kept k (Shown i) h = h
+  fits_kept k _ h = h
 
   exprs_kept : (es : List Expr) (ns : List Node) → ((k m : ℕ) → m ≡ length es + k → k < length ns → NodeFits (length names) (length texts) m
       (get_or ns k some_node)) → exprs_after more_names more_texts es ns ≡ exprs_after names texts es ns
@@ -182,15 +171,6 @@ pub operand_on : (old new : NodeStore) (a : Leaf) → Extends old new → LeafFi
     → operand_of (stored_names new) new.texts.items a ≡ operand_of (stored_names old) old.texts.items a
 operand_on old new a e h = operand_kept (stored_names old) old.texts.items (stored_names new) new.texts.items
     (prefix_map string_bytes old.names.keys new.names.keys e.names) e.texts a h
-
-pub leaf_on : (old new : NodeStore) (a : Leaf) → Extends old new → LeafFits (length (stored_names old)) (length old.texts.items) a
-    → LeafFits (length (stored_names new)) (length new.texts.items) a
-leaf_on old new a e h = leaf_kept (stored_names old) old.texts.items (stored_names new) new.texts.items
-    (prefix_map string_bytes old.names.keys new.names.keys e.names) e.texts a h
-
--- the number of a node is that of a node in an extended store too
-pub node_on : (old new : NodeStore) (i : ℕ) → Extends old new → i < length old.nodes.items → i < length new.nodes.items
-node_on old new i e h = omega (arith, h, prefix_long old.nodes.items new.nodes.items e.nodes)
 
 pub represents_node : (s : NodeStore) (i : ℕ) (e : Expr) → Represents (exprs_in s) i e → i < length s.nodes.items
 represents_node s i e h = omega (arith, h.within, length-nodes s)

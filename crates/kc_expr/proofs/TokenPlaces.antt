@@ -5,7 +5,7 @@ use Rattle.kc_tokens.specs.declared.fault.ExprKind.{ExprKind}
 use Rattle.kc_tokens.specs.declared.token.Relop.{Relop}
 use Rattle.kc_tokens.specs.declared.token.Token.{Token as CodeToken}
 use Rattle.kc_tokens.specs.declared.token.TokenKind.{TokenKind}
-use Rattle.kc_tokens.specs.declared.token.TokenKind.TheVariants.{Word, Quoted, Relation, Not, And, Or, Open, Close}
+use Rattle.kc_tokens.specs.declared.token.TokenKind.TheVariants.{Word, Relation, Not, Open}
 use Rattle.kc_expr.specs.Grammar.{end_of, fault_of, extent, is_operand_kind, is_close}
 use Rattle.kc_expr.specs.checker.ParserResults.{first_kind, first_relation, relation_of}
 use Rattle.kc_tokens.specs.Token.{Lexeme, lexemes_of, lexeme_of}
@@ -23,9 +23,6 @@ module _ (ts : List CodeToken) (at : ℕ) where
 
   pub relation_at : (d : CodeToken) → at < length ts → first_relation (drop at (lexemes_of ts)) ≡ relation_of (get_or ts at d).kind
   relation_at d h = ap first_relation (lexeme_at ts at d h)
-
-  pub no_relation_at : length ts ≤ at → first_relation (drop at (lexemes_of ts)) ≡ None
-  no_relation_at h = ap first_relation (nothing_at ts at h)
 
   pub start_at : (kind : ExprKind) (d : CodeToken) → at < length ts → fault_of (lexemes_of ts) (kind, drop at (lexemes_of ts))
       ≡ record { offset = (get_or ts at d).start; kind = kind }
@@ -82,18 +79,9 @@ extent_last ts d h =
     ap (λ us. length (extent us)) (lexeme_at ts (length ts - 1) d (omega arith) ∙ ap (λ us. lexeme_of (get_or ts (length ts - 1) d) ∷ us)
     (nothing_at ts (suc (length ts - 1)) (omega arith)))
 
-relation_not : (k : TokenKind) → ((op : Relop) → k ≡ Relation op → ⊥) → relation_of k ≡ None
-relation_not (Relation op) n = absurd (n op refl)
-relation_not Word n = refl
-relation_not Quoted n = refl
-relation_not Not n = refl
-relation_not And n = refl
-relation_not Or n = refl
-relation_not Open n = refl
-relation_not Close n = refl
-
 pub no_relation : (k : TokenKind) → ((op : Relop) → k ≡ Relation op → ⊥) → relation_of k ≡ None
-no_relation k n = relation_not k n
+no_relation (Relation op) n = absurd (n op refl)
+no_relation _ n = refl
 
 pub some_token : CodeToken
 some_token = record { kind = Word; start = 0; end = 0; text = record { ref_ptr = (0, 0); now = [] } }

@@ -4,10 +4,9 @@ use Rattle.std.specs.Prelude.{All, slice_set, slice_index_or}
 use Rattle.std.specs.List.{list_any}
 use Rattle.std.proofs.Math.Bool.{or_assoc, or_comm}
 use Rattle.std.proofs.lemmas.List.{length-map, length-set, map-set, get_or-map, get_or-set_same, get_or-set_other, get_or_past}
-use Rattle.std.proofs.lemmas.Bool.{false≢true}
 use Rattle.std.proofs.lemmas.Bool.Decides.{nat_tests}
 use Rattle.std.proofs.lemmas.List.Folds.{list_any-append}
-use Rattle.std.proofs.lemmas.Bool.{cases_lt, cases_eq}
+use Rattle.std.proofs.lemmas.Bool.{cases_lt, cases_eq, or_left, or_right}
 use Rattle.kc_expr.specs.between.Arena.{Exprs, node_expr}
 use Rattle.kc_expr.specs.between.Visits.{mentions, passes_some_name, is_visited}
 use Rattle.kc_expr.specs.checker.ExpressionWalks.{stamped, HasFoundTo, HasVisited, IsWalking}
@@ -22,22 +21,6 @@ none_stamped turn stamps h node = none_by (cases_lt node (length stamps))
     none_by : (node < length stamps) ⊎ (length stamps ≤ node) → is_visited (stamped turn stamps) node ≡ false
     none_by (inl l) = get_or-map (λ s. s == turn) stamps node 0 false l ∙ later_stamp turn (get_or stamps node 0) (h node 0 l)
     none_by (inr l) = get_or_past (stamped turn stamps) node false (omega (arith, length-map stamps (λ s. s == turn)))
-
-pub or_same : (a b : Bool) → (b ≡ true → a ≡ true) → (a || b) ≡ a
-or_same true b f = refl
-or_same false true f = absurd (false≢true (f refl))
-or_same false false f = refl
-
-pub or_left : (a b : Bool) → a ≡ true → (a || b) ≡ true
-or_left a b h = ap (λ t. t || b) h
-
-pub or_right : (a b : Bool) → b ≡ true → (a || b) ≡ true
-or_right true b h = refl
-or_right false b h = h
-
-or_cases : (a b : Bool) → (a || b) ≡ true → (a ≡ true) ⊎ (b ≡ true)
-or_cases true b h = inl refl
-or_cases false b h = inr h
 
 eqb_same : (n : ℕ) → (n == n) ≡ true
 eqb_same n = grind (arith, nat_tests)
@@ -62,29 +45,10 @@ module _ (exprs : Exprs) (last : ℕ) (before : List Bool) (old : List ℕ) wher
     whole = λ node p l w m. or_left _ _ (h node p l w m);
   }
 
-  -- a walk down from a node ends where it comes to a node that was visited already
-  pub walk_ends : (at : ℕ) (walked : List Bool) (ids : List ℕ) → IsWalking exprs last before old at walked ids → is_visited walked at ≡ true
-      → HasVisited exprs last before walked old ids
-  walk_ends at walked ids h w =
-      let same : (p : List ℕ → Bool) → passes_some_name exprs p ids ≡ whole_of p =
-      λ p. sym (or_same (passes_some_name exprs p ids) (mentions p (node_expr exprs at)) (h.found at p (omega arith) w)) ∙ h.exact p in
-      record {
-        room = h.room;
-        walked = last_walked (cases_lt at last);
-        kept = h.kept;
-        above = h.above;
-        exact = same;
-        found = λ node p l v m. same p ∙ h.whole node p l v m;
-      }
-    where
-      last_walked : (at < last) ⊎ (last ≤ at) → is_visited walked last ≡ true
-      last_walked (inl l) = h.begun l
-      last_walked (inr l) = let e : at ≡ last = omega (arith, h.below) in rw (← e) w
-
   -- one node more is walked
-  module _ (at : ℕ) (walked : List Bool) (ids : List ℕ) (inside : at < length walked) (h : IsWalking exprs last before old at walked ids) where
+  module _ (at : ℕ) (walked : List Bool) (ids : List ℕ) (there : last < length before) (h : IsWalking exprs last before old at walked ids) where
     set_here : is_visited (slice_set walked at true) at ≡ true
-    set_here = get_or-set_same walked at true false inside
+    set_here = get_or-set_same walked at true false (omega (arith, h.below, h.room, there))
 
     set_there : (node : ℕ) → node ≢ at → is_visited (slice_set walked at true) node ≡ is_visited walked node
     set_there node n = get_or-set_other walked at node true false n

@@ -1,8 +1,8 @@
 -- Orders, cycles and the units that are left.
-use Rattle.std.proofs.Common.{◌≡◌, ℕ, zero, suc, ◌+◌, ◌-◌, ◌<◌, ◌≤◌, Bool, true, List, [], ◌∷◌, ◌++◌, length, sym, ◌∙◌, ap, arith, Some, slice_get}
+use Rattle.std.proofs.Common.{◌≡◌, ℕ, zero, suc, ◌+◌, ◌-◌, ◌<◌, ◌≤◌, List, [], ◌∷◌, ◌++◌, length, sym, ◌∙◌, ap, arith, Some, slice_get}
 use Rattle.std.proofs.lemmas.Option.{slice_get_within, none-some}
 use Rattle.std.specs.List.{Contains}
-use Rattle.kc_solver.specs.Dependencies.{IsOrder, IsCycle, IsStuck, IsLeft, IsNamedCycle}
+use Rattle.kc_solver.specs.Dependencies.{IsOrder, IsCycle, IsLeft, IsNamedCycle}
 use Rattle.kc_solver.proofs.Lists.{get-some}
 
 module _ (size : ℕ) (dependencies : ℕ → List ℕ) (order : List ℕ) (ordered : IsOrder size dependencies order) where
@@ -51,11 +51,6 @@ eliminated_not_left size dependencies eliminated after (suc n) k u h e left =
     let before = after k u depends.0 e depends.1 in
     eliminated_not_left size dependencies eliminated after n before.0 depends.0 (omega (arith, before.1)) before.2 (left.0, left.1, depends.2)
 
--- each unit of a set in which each has a dependency in the set is left
-pub stuck_left : (size : ℕ) (dependencies : ℕ → List ℕ) (among : ℕ → Bool) → IsStuck size dependencies among → (u : ℕ) → among u ≡ true
-    → IsLeft size dependencies u
-stuck_left size dependencies among stuck u t = (among, stuck, t)
-
 pub get-append_left : (xs ys : List ℕ) (k u : ℕ) → slice_get xs k ≡ Some u → slice_get (xs ++ ys) k ≡ Some u
 get-append_left [] ys k u e = absurd (none-some u e)
 get-append_left (x ∷ xs) ys zero u e = e
@@ -89,9 +84,3 @@ named_is_cycle size dependencies cycle n = record {
 
   is_left : (k u : ℕ) → slice_get cycle k ≡ Some u → IsLeft size dependencies u
   is_left k u e = left_at (length n.before + k) u (get-append_right n.before cycle k ∙ e)
-
--- no unit is left if there is an order of dependency
-pub none_left : (size : ℕ) (dependencies : ℕ → List ℕ) (order : List ℕ) → IsOrder size dependencies order → (u : ℕ) → IsLeft size dependencies u → ⊥
-none_left size dependencies order ordered u left =
-    let at = ordered.each u (left.1.units u left.2) in
-    eliminated_not_left size dependencies order ordered.after (suc at.0) at.0 u (omega arith) at.1 left

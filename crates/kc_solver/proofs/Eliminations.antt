@@ -22,6 +22,14 @@ push_cases [] u (suc k) w e = absurd (none-some w e)
 push_cases (x ∷ xs) u zero w e = inl e
 push_cases (x ∷ xs) u (suc k) w e = elim (push_cases xs u k w e) [ inl earlier ↦ inl earlier | inr last ↦ inr (ap suc last.0, last.1) ]
 
+-- a list that has each element once still does with a new one at its end
+pub once_push : (xs : List ℕ) (u : ℕ) → ((j k w : ℕ) → slice_get xs j ≡ Some w → slice_get xs k ≡ Some w → j ≡ k) → ((k : ℕ) → slice_get xs k ≡ Some u → ⊥)
+    → (j k w : ℕ) → slice_get (xs ++ u ∷ []) j ≡ Some w → slice_get (xs ++ u ∷ []) k ≡ Some w → j ≡ k
+once_push xs u once new j k w a b = elim (push_cases xs u j w a) [
+  | inl early_j ↦ elim (push_cases xs u k w b) [ inl early_k ↦ once j k w early_j early_k | inr last_k ↦ absurd (new j (early_j ∙ ap Some last_k.1)) ]
+  | inr last_j ↦ elim (push_cases xs u k w b) [ inl early_k ↦ absurd (new k (early_k ∙ ap Some last_j.1)) | inr last_k ↦ last_j.0 ∙ sym last_k.0 ]
+]
+
 -- an elimination goes on with a unit whose flag is unset and whose dependencies are all eliminated
 pub eliminates_more : (size : ℕ) (dependencies : ℕ → List ℕ) (eliminated new : List ℕ) (flags : List Bool) (u : ℕ) → u < size → new ≡ eliminated ++ u ∷ []
     → get_or flags u false ≡ false
@@ -36,10 +44,7 @@ eliminates_more size dependencies eliminated new flags u inside new_is fresh rea
     let not_yet : (k : ℕ) → slice_get eliminated k ≡ Some u → ⊥ = λ k e. false≢true (sym fresh ∙ (t.flagged u inside).1 (k, e)) in
     record {
       units = λ k w e. elim (at k w e) [ inl earlier ↦ t.units k w earlier | inr here ↦ omega (arith, here.1) ];
-      once = λ j k w a b. elim (at j w a) [
-        | inl earlier_j ↦ elim (at k w b) [ inl earlier_k ↦ t.once j k w earlier_j earlier_k | inr here_k ↦ absurd (not_yet j (earlier_j ∙ ap Some here_k.1)) ]
-        | inr here_j ↦ elim (at k w b) [ inl earlier_k ↦ absurd (not_yet k (earlier_k ∙ ap Some here_j.1)) | inr here_k ↦ here_j.0 ∙ sym here_k.0 ]
-      ];
+      once = rw new_is (once_push eliminated u t.once not_yet);
       after = λ k w d e has. elim (at k w e) [
         | inl earlier ↦ let r = t.after k w d earlier has in (r.0, r.1, keep r.0 d r.2)
         | inr here ↦

@@ -27,13 +27,12 @@ get-some (x ∷ xs) (suc i) h = get-some xs i (omega arith)
 
 pub same_by_get : {A : Type 0} (xs ys : List A) → length xs ≡ length ys → ((i : ℕ) → i < length xs → slice_get xs i ≡ slice_get ys i) → xs ≡ ys
 same_by_get [] [] e h = refl
-same_by_get [] (y ∷ ys) e h = absurd (omega arith)
-same_by_get (x ∷ xs) [] e h = absurd (omega arith)
 same_by_get (x ∷ xs) (y ∷ ys) e h =
     let first : Some x ≡ Some y = h 0 (omega arith) in
     let head : x ≡ y = cc in
     let rest : xs ≡ ys = same_by_get xs ys (omega arith) (λ i l. h (suc i) (omega arith)) in
     cc
+same_by_get _ _ e h = absurd (omega arith)
 
 pub get_at : (items xs : List ℕ) (i : ℕ) → items ≡ xs → i < length items → slice_get xs i ≡ Some (get_or items i 0)
 get_at items xs i e h = ap (λ ys. slice_get ys i) (sym e) ∙ slice_get-get_or items i 0 h
@@ -46,9 +45,8 @@ get-push_before (x ∷ xs) a (suc i) h = get-push_before xs a i (omega arith)
 
 pub get-push_last : {A : Type 0} (xs : List A) (a : A) (i : ℕ) → i ≡ length xs → slice_get (xs ++ a ∷ []) i ≡ Some a
 get-push_last [] a zero h = refl
-get-push_last [] a (suc i) h = absurd (omega arith)
-get-push_last (x ∷ xs) a zero h = absurd (omega arith)
 get-push_last (x ∷ xs) a (suc i) h = get-push_last xs a i (omega arith)
+get-push_last _ a _ h = absurd (omega arith)
 
 -- if P holds of each element of a list and of one that is pushed, it holds of each element of the longer list
 pub each_push : {A : Type 0} (P : ℕ → A → Type 0) (xs next : List A) (n : ℕ) (a : A) → next ≡ xs ++ a ∷ [] → length xs ≡ n → P n a

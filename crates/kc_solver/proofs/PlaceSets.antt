@@ -1,5 +1,5 @@
 -- Sets of places as trees of words.
-use Rattle.std.proofs.Common.{◌≡◌, ◌≢◌, ◌↔◌, inl, inr, ℕ, zero, suc, ◌+◌, ◌-◌, ◌*◌, ◌/◌, ◌%◌, ◌^◌, ◌<◌, ◌≤◌, Bool, true, false, eqb, List, length, get_or, set, replicate, take, ◌++◌, refl, sym, ◌∙◌, ap, arith}
+use Rattle.std.proofs.Common.{◌≡◌, ◌≢◌, ◌↔◌, inl, inr, ℕ, zero, suc, ◌+◌, ◌-◌, ◌*◌, ◌/◌, ◌%◌, ◌^◌, ◌<◌, ◌≤◌, Bool, true, false, eqb, List, length, get_or, set, replicate, take, drop, ◌++◌, refl, sym, ◌∙◌, ap, arith}
 use Rattle.std.specs.Int.{bit_at, trailing_zeros, bit_not, w64}
 use Rattle.std.specs.Int.RustNames.{bit_or}
 use lib.Bits.{bit_and}
@@ -181,16 +181,6 @@ climb_ended first old now at bit on follows c top = record {
   others = c.others;
 }
 
-pub tree_written : (levels first size : ℕ) (old new : List ℕ) (at : ℕ) (on : Bool) → IsTree levels first size old → WritesPlace first old new at on
-    → IsTree levels first size new
-tree_written levels first size old new at on t p = record {
-  starts = t.starts;
-  room = omega (arith, t.room, p.one_each);
-  narrow = omega (arith, t.narrow, p.one_each);
-  short = omega (arith, t.short, p.one_each);
-  levels_are = p.levels;
-}
-
 -- ---- no place
 
 pub none_set : (words : List ℕ) (k : ℕ) → get_or words (k / 64) 0 ≡ 0 → has words k ≡ false
@@ -361,21 +351,39 @@ descend_ended levels words word was small =
 
 -- ---- the calls
 
-pub written_back : (new rest : List ℕ) (n : ℕ) → length new ≡ n → take n (new ++ rest) ≡ new
-written_back new rest n e = ap (λ k. take k (new ++ rest)) (sym e) ∙ take-append_seam new rest
+-- a set after one bit of its last level is written in a copy of its words, which is put back in front of what stood behind them
+pub record HasWritten (levels first size : ℕ) (old new : List ℕ) (bit : ℕ) (on : Bool) : Type 0 where
+  pub tree : IsTree levels first size new
+  pub here : has new bit ≡ on
+  pub others : (k : ℕ) → 64 * first + k ≢ bit → is_place first new k ≡ is_place first old k
 
-pub only_place : (first : ℕ) (old new : List ℕ) (place : ℕ) (on : Bool) → WritesPlace first old new (64 * first + place) on → (k : ℕ) → k ≢ place
-    → is_place first new k ≡ is_place first old k
-only_place first old new place on p k ne = p.others (64 * first + k) (omega arith) (λ e. ne (omega (arith, e)))
+pub has_written : (levels first size n : ℕ) (old new : List ℕ) (bit : ℕ) (on : Bool) → IsTree levels first size old → length old ≡ n → 64 * first ≤ bit
+    → (AreLevels first old → 64 * first ≤ bit → WritesPlace first old new bit on)
+    → HasWritten levels first size old (take n (new ++ drop (length new) old)) bit on
+has_written levels first size n old new bit on t long from writes =
+    let p = writes t.levels_are from in
+    let back : take n (new ++ drop (length new) old) ≡ new = ap (λ k. take k (new ++ drop (length new) old)) (sym long ∙ sym p.one_each)
+    ∙ take-append_seam new (drop (length new) old) in
+    rw back (record {
+      tree = record {
+        starts = t.starts;
+        room = omega (arith, t.room, p.one_each);
+        narrow = omega (arith, t.narrow, p.one_each);
+        short = omega (arith, t.short, p.one_each);
+        levels_are = p.levels;
+      };
+      here = p.here;
+      others = λ k ne. p.others (64 * first + k) (omega arith) ne;
+    })
 
-pub takes_least : (first : ℕ) (old new : List ℕ) (bit : ℕ) → 64 * first ≤ bit → has old bit ≡ true → ((k : ℕ) → 64 * first ≤ k → has old k ≡ true → bit ≤ k)
-    → WritesPlace first old new bit false
+pub takes_least : (levels first size : ℕ) (old new : List ℕ) (bit : ℕ) → 64 * first ≤ bit → has old bit ≡ true
+    → ((k : ℕ) → 64 * first ≤ k → has old k ≡ true → bit ≤ k) → HasWritten levels first size old new bit false
     → TakesLeast (is_place first old) (is_place first new) (bit - 64 * first)
-takes_least first old new bit from here least p =
+takes_least levels first size old new bit from here least w =
     let at : 64 * first + (bit - 64 * first) ≡ bit = omega (arith, from) in
     record {
       member = ap (has old) at ∙ here;
       least = λ k h. omega (arith, least (64 * first + k) (omega arith) h);
-      gone = ap (has new) at ∙ p.here;
-      others = λ k ne. p.others (64 * first + k) (omega arith) (λ e. ne (omega (arith, e)));
+      gone = ap (has new) at ∙ w.here;
+      others = λ k ne. w.others k (λ e. ne (omega (arith, e)));
     }

@@ -1,5 +1,5 @@
 -- One step of a revision, its begin and its end.
-use Rattle.std.proofs.Common.{◌≡◌, ◌≢◌, ◌⊎◌, inl, inr, ℕ, zero, suc, ◌+◌, ◌<◌, ◌≤◌, Bool, true, false, List, [], ◌∷◌, ◌++◌, length, set, length-set, refl, sym, ◌∙◌, ap, subst, arith, Option, None, Some, slice_get, IfSome}
+use Rattle.std.proofs.Common.{◌≡◌, ◌≢◌, ◌⊎◌, inl, inr, ℕ, zero, suc, ◌+◌, ◌<◌, ◌≤◌, Bool, true, false, List, [], ◌∷◌, ◌++◌, length, get_or, set, length-set, refl, sym, ◌∙◌, ap, subst, arith, Option, None, Some, slice_get, IfSome}
 use Rattle.std.proofs.lemmas.Bool.{cases_eq, cases_Bool, false≢true}
 use Rattle.std.proofs.lemmas.Option.{slice_get_within, none-some, get_or_from_slice_get, slice_get-get_or}
 use Rattle.std.specs.List.{Contains}
@@ -9,10 +9,10 @@ use Rattle.kc_solver.specs.Changes.{IsCountOf}
 use Rattle.kc_solver.specs.checker.Logs.{logged_units}
 use Rattle.kc_solver.specs.checker.PendingPlaces.{ArePlaces, MarksPlaces, IsPendingUnit, IsDue}
 use Rattle.kc_solver.specs.checker.Rows.{AreDependents}
-use Rattle.kc_solver.specs.checker.Revision.{MarksDependents, RevisesUnit, Revising}
+use Rattle.kc_solver.specs.checker.Revision.{LogsChanged, MarksDependents, RevisesUnit, Revising}
 use Rattle.kc_solver.specs.checker.Elimination.{IsEliminated}
 use Rattle.kc_solver.proofs.Lists.{get-set_same, get-set_other}
-use Rattle.kc_solver.proofs.Eliminations.{push_at, push_cases, length-once}
+use Rattle.kc_solver.proofs.Eliminations.{push_at, push_cases, once_push, length-once}
 use Rattle.kc_solver.proofs.Cycles.{get-append_left}
 
 -- two options are equal or not, if that is so for their elements
@@ -102,90 +102,73 @@ module _ {A X : Type 0} (size : ℕ) (dependencies : ℕ → List ℕ) (rule : �
       let same : there.0 ≡ k = cc in
       ap (slice_get order) (sym same) ∙ there.1
 
-  -- a revision goes on if the least pending unit already has the value of its rule and is taken off the pending ones
-  pub kept : (values : List A) (pending popped : ℕ → Bool) (logged : List ℕ) (evaluated place u : ℕ) → pending place ≡ true
-      → ((k : ℕ) → pending k ≡ true → place ≤ k)
-      → popped place ≡ false → ((k : ℕ) → k ≢ place → popped k ≡ pending k) → slice_get order place ≡ Some u
-      → slice_get values u ≡ Some (rule u (user_of users u) values) → (r : At values pending logged evaluated)
-      → (new : At values popped logged (evaluated + 1)) × (new.done ≡ u ∷ r.done)
-  kept values pending popped logged evaluated place u due least gone others at value r =
-      let new = not_done values pending logged evaluated place u r due at in
-      let was : (k : ℕ) → popped k ≡ true → (k ≢ place) × (pending k ≡ true) = λ k t.
-      let other : k ≢ place = λ same. false≢true (sym gone ∙ ap popped (sym same) ∙ t) in
-      (other, sym (others k other) ∙ t) in (
-        record {
-          done = u ∷ r.done;
-          start = place + 1;
-          count = omega (arith, r.count);
-          one_each = r.one_each;
-          once = once_cons u r.done r.once new;
-          passed = each_cons (λ w. (k : ℕ) × (k < place + 1) × (slice_get order k ≡ Some w)) u r.done (place, omega arith, at)
-              (λ j w e. let p = r.passed j w e in (p.0, omega (arith, p.1, (r.ahead place due).0), p.2));
-          ahead = λ k t. let before = was k t in (omega (arith, least k before.1, before.0), (r.ahead k before.1).1);
-          rest = λ w. elim (r.rest w) [ inl same ↦ inl same | inr there ↦ inr (eliminated_cons u r.done w there) ];
-          holds = each_cons (λ w. slice_get values w ≡ Some (rule w (user_of users w) values)) u r.done value r.holds;
-          due = λ w h t. elim (r.due w h t) [
-            | inl there ↦ inl (eliminated_cons u r.done w there)
-            | inr waits ↦ elim (cases_eq waits.0 place) [
-              | inl same ↦ let both : Some u ≡ Some w = sym at ∙ ap (slice_get order) (sym same) ∙ waits.1 in let is_u : u ≡ w = cc in inl (0, ap Some is_u)
-              | inr other ↦ inr (waits.0, waits.1, others waits.0 other ∙ waits.2)
-            ]
-          ];
-          done_due = each_cons (λ w. IsDue dependencies order begun old values w) u r.done (r.pending_due place u at due) r.done_due;
-          pending_due = λ k w e t. r.pending_due k w e (was k t).1;
-          logs = r.logs;
-        },
-        refl,
-      )
+  -- the units whose values differ from the old ones are logged, and one that hadn't is written and logged
+  logs_more : (values next : List A) (logged longer : List ℕ) (u : ℕ) → slice_get values u ≡ slice_get old u → slice_get values u ≢ slice_get next u
+      → ((w : ℕ) → w ≢ u → slice_get next w ≡ slice_get values w) → longer ≡ logged ++ u ∷ [] → LogsChanged old values logged → LogsChanged old next longer
+  logs_more values next logged longer u was_old differs apart is logs =
+      let unlogged : (k : ℕ) → slice_get logged k ≡ Some u → ⊥ = λ k e. logs.only k u e (sym was_old) in
+      rw is (record {
+        each = λ w ne. elim (cases_eq w u) [
+          | inl same ↦ (length logged, push_at logged u ∙ ap Some (sym same))
+          | inr other ↦
+              let there = logs.each w (λ e. ne (e ∙ sym (apart w other))) in
+              (there.0, get-append_left logged (u ∷ []) there.0 w there.1)
+        ];
+        only = λ k w e. elim (push_cases logged u k w e) [
+          | inl earlier ↦ (λ h. logs.only k w earlier (h ∙ apart w (λ same. unlogged k (earlier ∙ ap Some same))))
+          | inr now ↦ (λ h. differs (was_old ∙ ap (slice_get old) (sym now.1) ∙ h ∙ ap (slice_get next) now.1))
+        ];
+        once = once_push logged u logs.once unlogged;
+      })
 
-  -- a revision goes on if the least pending unit has another value than its rule gives: the new value is written, the unit
-  -- logged, and the units that depend on it are marked
-  pub changed : (values : List A) (pending popped more : ℕ → Bool) (logged longer : List ℕ) (evaluated place u : ℕ) → pending place ≡ true
+  -- A revision goes on with the evaluation of the least pending unit: that unit has the value of its rule then, and each other unit
+  -- its value. The pending places are the others that were pending and, if the unit's value changes, those of the units that depend
+  -- on it.
+  stepped : (values next : List A) (pending popped more : ℕ → Bool) (logged longer : List ℕ) (evaluated place u : ℕ) → pending place ≡ true
       → ((k : ℕ) → pending k ≡ true → place ≤ k)
       → popped place ≡ false → ((k : ℕ) → k ≢ place → popped k ≡ pending k) → slice_get order place ≡ Some u
-      → slice_get values u ≢ Some (rule u (user_of users u) values) → longer ≡ logged ++ u ∷ [] → MarksDependents size dependencies places popped more u
-      → (r : At values pending logged evaluated)
-      → (new : At (set values u (rule u (user_of users u) values)) more longer (evaluated + 1)) × (new.done ≡ u ∷ r.done)
-  changed values pending popped more logged longer evaluated place u due least gone others at differs is marks r =
-      let inside = ordered.units place u at in
-      let value = rule u (user_of users u) values in
-      let next = set values u value in
-      let here : slice_get next u ≡ Some value = get-set_same values u value (omega (arith, r.one_each, inside)) in
+      → length next ≡ size → slice_get next u ≡ Some (rule u (user_of users u) values) → ((w : ℕ) → w ≢ u → slice_get next w ≡ slice_get values w)
+      → ((k : ℕ) → popped k ≡ true → more k ≡ true)
+      → (slice_get values u ≢ slice_get next u → (w k : ℕ) → w < size → Contains (dependencies w) u → slice_get places w ≡ Some k → more k ≡ true)
+      → ((k : ℕ) → more k ≡ true
+      → (popped k ≡ true) ⊎ ((w : ℕ) × (w < size) × Contains (dependencies w) u × (slice_get places w ≡ Some k) × (slice_get values u ≢ slice_get next u)))
+      → LogsChanged old next longer → (r : At values pending logged evaluated)
+      → (new : At next more longer (evaluated + 1)) × (new.done ≡ u ∷ r.done)
+  stepped values next pending popped more logged longer evaluated place u due least gone others at one_each here apart stays added only logs r =
       let was_old = still_old values pending logged evaluated place u r due at in
       let new = not_done values pending logged evaluated place u r due at in
       let was : (k : ℕ) → popped k ≡ true → (k ≢ place) × (pending k ≡ true) = λ k t.
       let other : k ≢ place = λ same. false≢true (sym gone ∙ ap popped (sym same) ∙ t) in
       (other, sym (others k other) ∙ t) in
       let moved : (k w : ℕ) → k ≤ place → slice_get order k ≡ Some w → rule w (user_of users w) values ≡ rule w (user_of users w) next = λ k w low e.
-      frame.same w (user_of users w) values next (ordered.units k w e) r.one_each (length-set values u value ∙ r.one_each) (fitting w (ordered.units k w e))
+      frame.same w (user_of users w) values next (ordered.units k w e) r.one_each one_each (fitting w (ordered.units k w e))
       (λ d has.
       let before = ordered.after k w d e has in
       let other : d ≢ u = λ same. let twice = ordered.once before.0 place d before.2 (at ∙ ap Some (sym same)) in absurd (omega (arith, twice, before.1)) in
-      sym (get-set_other values u d value other)) in
+      sym (apart d other)) in
       let lift : (w : ℕ) → IsDue dependencies order begun old values w → IsDue dependencies order begun old next w = λ w t. elim t [
         | inl first ↦ inl first
         | inr dependency ↦
             let d = dependency.0 in
             let other : d ≢ u = λ same. dependency.2 (ap (slice_get old) same ∙ sym was_old ∙ ap (slice_get values) (sym same)) in
-            inr (d, dependency.1, λ e. dependency.2 (e ∙ get-set_other values u d value other))
+            inr (d, dependency.1, λ e. dependency.2 (e ∙ apart d other))
       ] in
-      let unlogged : (k : ℕ) → slice_get logged k ≡ Some u → ⊥ = λ k e. r.logs.only k u e (sym was_old) in
       let on : (w : ℕ) → IsEliminated r.done w ⊎ IsPendingUnit order pending w → IsEliminated (u ∷ r.done) w ⊎ IsPendingUnit order more w = λ w t. elim t [
         | inl there ↦ inl (eliminated_cons u r.done w there)
         | inr waits ↦ elim (cases_eq waits.0 place) [
           | inl same ↦ let both : Some u ≡ Some w = sym at ∙ ap (slice_get order) (sym same) ∙ waits.1 in let is_u : u ≡ w = cc in inl (0, ap Some is_u)
-          | inr other ↦ inr (waits.0, waits.1, marks.kept waits.0 (others waits.0 other ∙ waits.2))
+          | inr other ↦ inr (waits.0, waits.1, stays waits.0 (others waits.0 other ∙ waits.2))
         ]
       ] in (
         record {
           done = u ∷ r.done;
           start = place + 1;
           count = omega (arith, r.count);
-          one_each = length-set values u value ∙ r.one_each;
+          one_each = one_each;
           once = once_cons u r.done r.once new;
           passed = each_cons (λ w. (k : ℕ) × (k < place + 1) × (slice_get order k ≡ Some w)) u r.done (place, omega arith, at)
               (λ j w e. let p = r.passed j w e in (p.0, omega (arith, p.1, (r.ahead place due).0), p.2));
-          ahead = λ k t. elim (marks.only k t) [
+          ahead = λ k t. elim (only k t) [
             | inl earlier ↦ let before = was k earlier in (omega (arith, least k before.1, before.0), (r.ahead k before.1).1)
             | inr depends ↦
                 let there = unit_at depends.0 k depends.1 depends.3 in
@@ -195,55 +178,34 @@ module _ {A X : Type 0} (size : ℕ) (dependencies : ℕ → List ℕ) (rule : �
           ];
           rest = λ w. elim (cases_eq w u) [
             | inl same ↦ inr (0, ap Some (sym same))
-            | inr other ↦ elim (r.rest w) [ inl stays ↦ inl (get-set_other values u w value other ∙ stays) | inr there ↦ inr (eliminated_cons u r.done w there) ]
+            | inr other ↦ elim (r.rest w) [ inl same ↦ inl (apart w other ∙ same) | inr there ↦ inr (eliminated_cons u r.done w there) ]
           ];
           holds = each_cons (λ w. slice_get next w ≡ Some (rule w (user_of users w) next)) u r.done (here ∙ ap Some (moved place u (omega arith) at))
               (λ j w e.
               let p = r.passed j w e in
               let other : w ≢ u = λ same. new j (e ∙ ap Some same) in
-              get-set_other values u w value other ∙ r.holds j w e ∙ ap Some (moved p.0 w (omega (arith, p.1, (r.ahead place due).0)) p.2));
+              apart w other ∙ r.holds j w e ∙ ap Some (moved p.0 w (omega (arith, p.1, (r.ahead place due).0)) p.2));
           due = λ w h t. elim t [
             | inl first ↦ on w (r.due w h (inl first))
             | inr dependency ↦ elim (cases_eq dependency.0 u) [
               | inl same ↦
                   let there = ordered.each w h in
-                  inr (there.0, there.1, marks.added w there.0 h (subst (Contains (dependencies w)) same dependency.1) (placed.at there.0 w there.1))
-              | inr other ↦ on w (r.due w h (inr (dependency.0, dependency.1, λ e. dependency.2 (e ∙ sym (get-set_other values u dependency.0 value other)))))
+                  let differs : slice_get values u ≢ slice_get next u = λ e.
+                  dependency.2 (ap (slice_get old) same ∙ sym was_old ∙ e ∙ ap (slice_get next) (sym same)) in
+                  inr (there.0, there.1, added differs w there.0 h (subst (Contains (dependencies w)) same dependency.1) (placed.at there.0 w there.1))
+              | inr other ↦ on w (r.due w h (inr (dependency.0, dependency.1, λ e. dependency.2 (e ∙ sym (apart dependency.0 other)))))
             ]
           ];
           done_due = each_cons (λ w. IsDue dependencies order begun old next w) u r.done (lift u (r.pending_due place u at due))
               (λ j w e. lift w (r.done_due j w e));
-          pending_due = λ k w e t. elim (marks.only k t) [
+          pending_due = λ k w e t. elim (only k t) [
             | inl earlier ↦ lift w (r.pending_due k w e (was k earlier).1)
             | inr depends ↦
                 let both : Some depends.0 ≡ Some w = sym (unit_at depends.0 k depends.1 depends.3) ∙ e in
                 let same : depends.0 ≡ w = cc in
-                inr (u, subst (λ n. Contains (dependencies n) u) same depends.2, λ e. differs (was_old ∙ e ∙ here))
+                inr (u, subst (λ n. Contains (dependencies n) u) same depends.2, λ e. depends.4 (was_old ∙ e))
           ];
-          logs = record {
-            each = λ w ne. elim (cases_eq w u) [
-              | inl same ↦ (length logged, ap (λ xs. slice_get xs (length logged)) is ∙ push_at logged u ∙ ap Some (sym same))
-              | inr other ↦
-                  let there = r.logs.each w (λ e. ne (e ∙ sym (get-set_other values u w value other))) in
-                  (there.0, ap (λ xs. slice_get xs there.0) is ∙ get-append_left logged (u ∷ []) there.0 w there.1)
-            ];
-            only = λ k w e. elim (push_cases logged u k w (ap (λ xs. slice_get xs k) (sym is) ∙ e)) [
-              | inl earlier ↦
-                  let other : w ≢ u = λ same. unlogged k (earlier ∙ ap Some same) in
-                  (λ h. r.logs.only k w earlier (h ∙ get-set_other values u w value other))
-              | inr now ↦ (λ h. differs (was_old ∙ ap (slice_get old) (sym now.1) ∙ h ∙ ap (slice_get next) now.1 ∙ here))
-            ];
-            once = λ j k w a b. elim (push_cases logged u j w (ap (λ xs. slice_get xs j) (sym is) ∙ a)) [
-              | inl early_j ↦ elim (push_cases logged u k w (ap (λ xs. slice_get xs k) (sym is) ∙ b)) [
-                | inl early_k ↦ r.logs.once j k w early_j early_k
-                | inr now_k ↦ absurd (unlogged j (early_j ∙ ap Some now_k.1))
-              ]
-              | inr now_j ↦ elim (push_cases logged u k w (ap (λ xs. slice_get xs k) (sym is) ∙ b)) [
-                | inl early_k ↦ absurd (unlogged k (early_k ∙ ap Some now_j.1))
-                | inr now_k ↦ now_j.0 ∙ sym now_k.0
-              ]
-            ];
-          };
+          logs = logs;
         },
         refl,
       )
@@ -256,17 +218,29 @@ module _ {A X : Type 0} (size : ℕ) (dependencies : ℕ → List ℕ) (rule : �
       → (r : At values pending (logged_units log) evaluated)
       → (new : At next more (logged_units longer) (evaluated + 1)) × (new.done ≡ u ∷ r.done)
   revised_one values next pending popped more log longer evaluated place u due least gone others at step r = elim step [
-    | inl stays ↦ rw (stays.1, stays.2, stays.3) (kept values pending popped (logged_units log) evaluated place u due least gone others at stays.0 r)
+    | inl stays ↦ rw (stays.1, stays.2, stays.3) (stepped values values pending popped popped (logged_units log) (logged_units log) evaluated place u due least
+        gone others at r.one_each stays.0 (λ w _. refl) (λ k t. t) (λ ne. absurd (ne refl)) (λ k t. inl t) r.logs r)
     | inr differs ↦
+        let value = rule u (user_of users u) values in
+        let next = set values u value in
+        let here : slice_get next u ≡ Some value = get-set_same values u value (omega (arith, r.one_each, ordered.units place u at)) in
+        let apart : (w : ℕ) → w ≢ u → slice_get next w ≡ slice_get values w = λ w other. get-set_other values u w value other in
+        let turns : slice_get values u ≢ slice_get next u = λ e. differs.0 (e ∙ here) in
         let logs = differs.2 in
-        rw differs.1 (changed values pending popped more (logged_units log) (logged_units longer) evaluated place u due least gone others at differs.0
-        (ap logged_units logs.1 ∙ logged_more log u logs.0) differs.3 r)
+        let marks = differs.3 in
+        rw differs.1 (stepped values next pending popped more (logged_units log) (logged_units longer) evaluated place u due least gone others at
+        (length-set values u value ∙ r.one_each) here apart marks.kept (λ _. marks.added)
+        (λ k t. elim (marks.only k t) [ inl earlier ↦ inl earlier | inr there ↦ inr (there.0, there.1, there.2, there.3, turns) ])
+        (logs_more values next (logged_units log) (logged_units longer) u (still_old values pending (logged_units log) evaluated place u r due at) turns apart
+        (ap logged_units logs.1 ∙ logged_more log u logs.0) r.logs) r)
   ]
 
   -- while a unit is pending, fewer units are evaluated than there are
-  pub room : (values : List A) (pending : ℕ → Bool) (logged : List ℕ) (evaluated place u : ℕ) → pending place ≡ true → slice_get order place ≡ Some u
-      → At values pending logged evaluated → evaluated + 1 ≤ size
-  room values pending logged evaluated place u due at r =
+  pub room : (values : List A) (pending : ℕ → Bool) (logged : List ℕ) (evaluated place : ℕ) → pending place ≡ true → At values pending logged evaluated
+      → evaluated + 1 ≤ size
+  room values pending logged evaluated place due r =
+      let u = get_or order place 0 in
+      let at = slice_get-get_or order place 0 (r.ahead place due).1 in
       let new = not_done values pending logged evaluated place u r due at in
       let few = length-once size (u ∷ r.done)
       (each_cons (λ w. w < size) u r.done (ordered.units place u at) (λ j w e. let p = r.passed j w e in ordered.units p.0 w p.2))

@@ -1,5 +1,5 @@
 -- Sets of pending places, as tests of a place.
-use Rattle.std.proofs.Common.{◌≡◌, ◌≢◌, inl, inr, ℕ, Bool, true, false, List, [], ◌∷◌, ◌++◌, get_or, sym, ◌∙◌, ap, subst, arith}
+use Rattle.std.proofs.Common.{◌≡◌, ◌≢◌, inl, inr, ℕ, Bool, true, false, List, [], ◌∷◌, ◌++◌, get_or, sym, ◌∙◌, ap, subst}
 use Rattle.std.specs.List.{Contains}
 use Rattle.std.proofs.lemmas.Bool.{cases_eq, false≢true}
 use Rattle.std.proofs.lemmas.List.Elements.{Contains-push, Contains-push_cases, Contains-append_left}
@@ -26,10 +26,6 @@ marks_more old now next done more places u is here others m =
         ]
       ];
     }
-
--- a set is unchanged by marking the places of no units
-pub marks_none : (old : ℕ → Bool) (places : List ℕ) → MarksPlaces old old [] places
-marks_none old places = record { kept = λ k t. t; added = λ u has. absurd (omega (arith, has.1)); only = λ k t. inl t }
 
 -- a set that has no place has none to be removed
 pub emptied : (pending : ℕ → Bool) → ((k : ℕ) → pending k ≡ false) → (k : ℕ) → pending k ≡ true → ⊥

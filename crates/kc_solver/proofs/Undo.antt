@@ -1,11 +1,7 @@
 -- The restoring of logged values.
-use Rattle.std.proofs.Common.{◌≡◌, ◌⊎◌, inl, inr, ℕ, zero, suc, List, [], ◌∷◌, ◌++◌, length, set, length-set, refl, sym, ◌∙◌, ap, arith, Some, slice_get}
+use Rattle.std.proofs.Common.{◌≡◌, ◌⊎◌, inl, inr, ℕ, zero, suc, List, [], ◌∷◌, ◌++◌, set, length-set, refl, sym, ◌∙◌, ap, arith, Some, slice_get}
 use Rattle.std.proofs.lemmas.Option.{slice_get_within, none-some}
 use Rattle.kc_solver.specs.checker.Logs.{Undoes, undone}
-
-pub last_at : {B : Type 0} (xs : List B) (b : B) → slice_get (xs ++ b ∷ []) (length xs) ≡ Some b
-last_at [] b = refl
-last_at (x ∷ xs) b = last_at xs b
 
 pub last_cases : {B : Type 0} (xs : List B) (b : B) (k : ℕ) (c : B) → slice_get (xs ++ b ∷ []) k ≡ Some c → (slice_get xs k ≡ Some c) ⊎ (b ≡ c)
 last_cases [] b zero c e = inr (let same : b ≡ c = cc in same)

@@ -10,7 +10,7 @@ use Rattle.kc_solver.specs.Dependencies.{IsGraph, IsLeft, IsLeast, FollowsLeft, 
 use Rattle.kc_solver.specs.checker.Elimination.{FlagsLeft}
 use Rattle.kc_solver.proofs.Lists.{get_from_Contains, Contains_from_get}
 use Rattle.kc_solver.proofs.Cycles.{get-append_left, get-append_right}
-use Rattle.kc_solver.proofs.Eliminations.{push_at, push_cases, length-once}
+use Rattle.kc_solver.proofs.Eliminations.{push_at, push_cases, once_push, length-once}
 
 module _ (size : ℕ) (dependencies : ℕ → List ℕ) where
   left_inside : (u : ℕ) → IsLeft size dependencies u → u < size
@@ -104,10 +104,7 @@ module _ (size : ℕ) (dependencies : ℕ → List ℕ) where
       let long : length longer ≡ length walk + 1 = ap length is ∙ length-append walk (u ∷ []) in
       record {
         units = λ k x e. elim (at k x e) [ inl earlier ↦ w.units k x earlier | inr now ↦ subst (IsLeft size dependencies) (sym now.1) w.here ];
-        once = λ j k x a b. elim (at j x a) [
-          | inl early_j ↦ elim (at k x b) [ inl early_k ↦ w.once j k x early_j early_k | inr now_k ↦ absurd (new j (early_j ∙ ap Some now_k.1)) ]
-          | inr now_j ↦ elim (at k x b) [ inl early_k ↦ absurd (new k (early_k ∙ ap Some now_j.1)) | inr now_k ↦ now_j.0 ∙ sym now_k.0 ]
-        ];
+        once = rw is (once_push walk u w.once new);
         begins = λ x e. elim (at 0 x e) [ inl earlier ↦ w.begins x earlier | inr now ↦ now.1 ∙ w.starts (sym now.0) ];
         follows = λ k x y a b. elim (at (k + 1) y b) [
           | inl earlier ↦ elim (at k x a) [
@@ -150,10 +147,7 @@ module _ (size : ℕ) (dependencies : ℕ → List ℕ) where
       let new = fresh first walk places u w none in
       let few = length-once size longer
       (λ k x e. elim (push_cases walk u k x e) [ inl earlier ↦ left_inside x (w.units k x earlier) | inr now ↦ omega (arith, left_inside u w.here, now.1) ])
-      (λ j k x a b. elim (push_cases walk u j x a) [
-        | inl early_j ↦ elim (push_cases walk u k x b) [ inl early_k ↦ w.once j k x early_j early_k | inr now_k ↦ absurd (new j (early_j ∙ ap Some now_k.1)) ]
-        | inr now_j ↦ elim (push_cases walk u k x b) [ inl early_k ↦ absurd (new k (early_k ∙ ap Some now_j.1)) | inr now_k ↦ now_j.0 ∙ sym now_k.0 ]
-      ]) in
+      (once_push walk u w.once new) in
       omega (arith, few, length-append walk (u ∷ []))
 
   -- a walk that is about to visit a unit again closes: from the place of that unit on it is the cycle to report

@@ -72,20 +72,11 @@ ors-preserved g t c =
 pub overflow_cast-next-in-Either-node : goal.overflow_cast-next-in-Either-node
 overflow_cast-next-in-Either-node g t c = omega arith
 
-pub overflow_cast-right-in-Either-node : goal.overflow_cast-right-in-Either-node
-overflow_cast-right-in-Either-node g t c = omega arith
-
-pub overflow_cast-right-in-Both-node : goal.overflow_cast-right-in-Both-node
-overflow_cast-right-in-Both-node g t c = omega arith
-
 pub value_at-least-requires : goal.value_at-least-requires
 value_at-least-requires g t c = grind (arith, common_steps)
 
 pub leaf_value-requires-clause-fits : goal.leaf_value-requires-clause-fits
 leaf_value-requires-clause-fits g t c = grind (arith, common_steps)
-
-pub returns-in_default-node : goal.returns-in_default-node
-returns-in_default-node g t c = grind (arith, common_steps)
 
 pub value_at-requires : goal.value_at-requires
 value_at-requires g t c = grind (arith, common_steps)
@@ -93,17 +84,11 @@ value_at-requires g t c = grind (arith, common_steps)
 pub ors-smaller : goal.ors-smaller
 ors-smaller g t c = grind (arith, common_steps)
 
-pub leaf_value-requires-clause-distinct : goal.leaf_value-requires-clause-distinct
-leaf_value-requires-clause-distinct g t c = grind (arith, common_steps)
-
 pub overflow_cast-at-in-Both-node : goal.overflow_cast-at-in-Both-node
 overflow_cast-at-in-Both-node g t c = omega arith
 
 pub value_at-requires-in-Shown : goal.value_at-requires-in-Shown
 value_at-requires-in-Shown g t c = grind (arith, common_steps)
-
-pub returns-in_default : goal.returns-in_default
-returns-in_default g t c = grind (arith, common_steps)
 
 pub value_at-greatest-requires : goal.value_at-greatest-requires
 value_at-greatest-requires g t c = grind (arith, common_steps)

@@ -1,5 +1,3 @@
-use Rattle.std.proofs.Common.{arith}
-use Rattle.std.proofs.lemmas.Grind.{common_steps}
 use Rattle.kc_expr.proofs.StoreLemmas.{node_of}
 use Rattle.kc_expr.proofs.evaluate.value_of.Goals as goal
 
@@ -8,9 +6,3 @@ returns-in-Alone g c = record {
   value = rw (node_of c.args.store.now c.args.index _ _ c.requires.sound c.requires.there c.node.ensures.value c.in-Alone.is)
       c.leaf_value.ensures.value;
 }
-
-pub leaf_value-requires-clause-distinct : goal.leaf_value-requires-clause-distinct
-leaf_value-requires-clause-distinct g c = grind (arith, common_steps)
-
-pub leaf_value-requires-clause-fits : goal.leaf_value-requires-clause-fits
-leaf_value-requires-clause-fits g c = grind (arith, common_steps)

@@ -93,9 +93,6 @@ returns-in-Related-clause-kept t c =
 pub returns-in_err-push_name-in-Related-clause-kept : goal.returns-in_err-push_name-in-Related-clause-kept
 returns-in_err-push_name-in-Related-clause-kept t c = grind (arith, common_steps)
 
-pub overflow_cast-at-in-Both : goal.overflow_cast-at-in-Both
-overflow_cast-at-in-Both t c = omega arith
-
 pub push_names-requires : goal.push_names-requires
 push_names-requires t c = grind (arith, common_steps)
 
@@ -114,23 +111,11 @@ push_name-requires-in-Related-2 t c = grind (arith, common_steps)
 pub down-init : goal.down-init
 down-init t c = grind (arith, common_steps)
 
-pub down-smaller-in-Shown : goal.down-smaller-in-Shown
-down-smaller-in-Shown t c = grind (arith, common_steps)
-
 pub down-smaller : goal.down-smaller
 down-smaller t c = grind (arith, common_steps)
-
-pub push_name-requires : goal.push_name-requires
-push_name-requires t c = grind (arith, common_steps)
 
 pub push_names-requires-in-Either : goal.push_names-requires-in-Either
 push_names-requires-in-Either t c = grind (arith, common_steps)
 
 pub down-smaller-in-Both : goal.down-smaller-in-Both
 down-smaller-in-Both t c = grind (arith, common_steps)
-
-pub down-smaller-in-Negated : goal.down-smaller-in-Negated
-down-smaller-in-Negated t c = grind (arith, common_steps)
-
-pub overflow_cast-at-in-Either : goal.overflow_cast-at-in-Either
-overflow_cast-at-in-Either t c = omega arith

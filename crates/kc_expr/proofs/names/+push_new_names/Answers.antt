@@ -12,33 +12,21 @@ use Rattle.kc_expr.proofs.names.+push_new_names.Goals as goal
 pub returns-in-Alone-clause-walked : goal.returns-in-Alone-clause-walked
 returns-in-Alone-clause-walked t c =
     let exprs = exprs_in c.args.store.now in
-    let inside : c.down.at < length c.down.walk = omega (
-      arith,
-      c.down.invariant.walking.below,
-      c.down.invariant.walking.room,
-      c.requires.room,
-      c.requires.there,
-    ) in
+    let there : c.args.index < length c.args.walk.now = omega (arith, c.requires.room, c.requires.there) in
     let e = node_of c.args.store.now c.down.at _ _ c.requires.sound (omega arith) c.node.ensures.value c.in-Alone.is in
     rw c.mark.ensures.marked (on_ok_weaker c.push_name.result (λ w. walk_visited exprs c.args.index c.args.walk.now c.args.found.now.items c.down.at c.down.walk
-    c.down.found.items inside c.down.invariant.walking c.push_name.new.found.items
+    c.down.found.items there c.down.invariant.walking c.push_name.new.found.items
     (λ p. some_pushed exprs p c.down.found.items c.push_name.new.found.items _ w ∙ ap (λ x. passes_some_name exprs p c.down.found.items || mentions p x)
     (sym e))) c.push_name.ensures.words)
 
 pub returns-in-Related-clause-walked : goal.returns-in-Related-clause-walked
 returns-in-Related-clause-walked t c =
     let exprs = exprs_in c.args.store.now in
-    let inside : c.down.at < length c.down.walk = omega (
-      arith,
-      c.down.invariant.walking.below,
-      c.down.invariant.walking.room,
-      c.requires.room,
-      c.requires.there,
-    ) in
+    let there : c.args.index < length c.args.walk.now = omega (arith, c.requires.room, c.requires.there) in
     let e = node_of c.args.store.now c.down.at _ _ c.requires.sound (omega arith) c.node.ensures.value c.in-Related.is in
     let more = c.push_name-in-Related-2.new.found.items in
     rw c.mark.ensures.marked (on_ok_weaker c.push_name-in-Related-2.result
-    (λ w. walk_visited exprs c.args.index c.args.walk.now c.args.found.now.items c.down.at c.down.walk c.down.found.items inside c.down.invariant.walking more
+    (λ w. walk_visited exprs c.args.index c.args.walk.now c.args.found.now.items c.down.at c.down.walk c.down.found.items there c.down.invariant.walking more
     (λ p. both_pushed exprs p c.down.found.items c.push_name-in-Related.new.found.items more _ _ c.in_ok-push_name-in-Related.ensures.words w
     ∙ ap (λ x. passes_some_name exprs p c.down.found.items || mentions p x) (sym e))) c.push_name-in-Related-2.ensures.words)
 
@@ -51,53 +39,35 @@ returns-in-Related-clause-held t c = on_ok_weaker c.push_name-in-Related-2.resul
 
 pub down-preserved-in-Negated : goal.down-preserved-in-Negated
 down-preserved-in-Negated t c =
-    let inside : c.down.at < length c.down.walk = omega (
-      arith,
-      c.down.invariant.walking.below,
-      c.down.invariant.walking.room,
-      c.requires.room,
-      c.requires.there,
-    ) in
+    let there : c.args.index < length c.args.walk.now = omega (arith, c.requires.room, c.requires.there) in
     let e = node_of c.args.store.now c.down.at _ _ c.requires.sound (omega arith) c.node.ensures.value c.in-Negated.is in
     let f = fits_at c.args.store.now c.down.at _ _ c.requires.sound (omega arith) c.node.ensures.value c.in-Negated.is in
     record {
       walking = rw c.mark.ensures.marked (walk_one (exprs_in c.args.store.now) c.args.index c.args.walk.now c.args.found.now.items c.down.at c.down.walk
-          c.down.found.items inside c.down.invariant.walking c.in-Negated.part f (λ p. ap (mentions p) e));
+          c.down.found.items there c.down.invariant.walking c.in-Negated.part f (λ p. ap (mentions p) e));
       held = c.down.invariant.held;
       kept = c.down.invariant.kept;
     }
 
 pub down-preserved-in-Shown : goal.down-preserved-in-Shown
 down-preserved-in-Shown t c =
-    let inside : c.down.at < length c.down.walk = omega (
-      arith,
-      c.down.invariant.walking.below,
-      c.down.invariant.walking.room,
-      c.requires.room,
-      c.requires.there,
-    ) in
+    let there : c.args.index < length c.args.walk.now = omega (arith, c.requires.room, c.requires.there) in
     let e = node_of c.args.store.now c.down.at _ _ c.requires.sound (omega arith) c.node.ensures.value c.in-Shown.is in
     let f = fits_at c.args.store.now c.down.at _ _ c.requires.sound (omega arith) c.node.ensures.value c.in-Shown.is in
     record {
       walking = rw c.mark.ensures.marked (walk_one (exprs_in c.args.store.now) c.args.index c.args.walk.now c.args.found.now.items c.down.at c.down.walk
-          c.down.found.items inside c.down.invariant.walking c.in-Shown.part f (λ p. ap (mentions p) e));
+          c.down.found.items there c.down.invariant.walking c.in-Shown.part f (λ p. ap (mentions p) e));
       held = c.down.invariant.held;
       kept = c.down.invariant.kept;
     }
 
 pub down-preserved-in-Both : goal.down-preserved-in-Both
 down-preserved-in-Both t c =
-    let inside : c.down.at < length c.down.walk = omega (
-      arith,
-      c.down.invariant.walking.below,
-      c.down.invariant.walking.room,
-      c.requires.room,
-      c.requires.there,
-    ) in
+    let there : c.args.index < length c.args.walk.now = omega (arith, c.requires.room, c.requires.there) in
     let e = node_of c.args.store.now c.down.at _ _ c.requires.sound (omega arith) c.node.ensures.value c.in-Both.is in
     let f = fits_at c.args.store.now c.down.at _ _ c.requires.sound (omega arith) c.node.ensures.value c.in-Both.is in
     record {
-      walking = walk_two (exprs_in c.args.store.now) c.args.index c.args.walk.now c.args.found.now.items c.down.at c.down.walk c.down.found.items inside
+      walking = walk_two (exprs_in c.args.store.now) c.args.index c.args.walk.now c.args.found.now.items c.down.at c.down.walk c.down.found.items there
           c.down.invariant.walking c.in-Both.left c.in-Both.right c.push_new_names.new.walk c.push_new_names.new.found.items f.0 f.1
           (λ p. ap (mentions p) e ∙ list_any-append p _ _) (rw c.mark.ensures.marked at c.in_ok-push_new_names-in-Both.ensures.walked);
       held = λ all. c.in_ok-push_new_names-in-Both.ensures.held (c.down.invariant.held all);
@@ -106,17 +76,11 @@ down-preserved-in-Both t c =
 
 pub down-preserved : goal.down-preserved
 down-preserved t c =
-    let inside : c.down.at < length c.down.walk = omega (
-      arith,
-      c.down.invariant.walking.below,
-      c.down.invariant.walking.room,
-      c.requires.room,
-      c.requires.there,
-    ) in
+    let there : c.args.index < length c.args.walk.now = omega (arith, c.requires.room, c.requires.there) in
     let e = node_of c.args.store.now c.down.at _ _ c.requires.sound (omega arith) c.node.ensures.value c.in-Either.is in
     let f = fits_at c.args.store.now c.down.at _ _ c.requires.sound (omega arith) c.node.ensures.value c.in-Either.is in
     record {
-      walking = walk_two (exprs_in c.args.store.now) c.args.index c.args.walk.now c.args.found.now.items c.down.at c.down.walk c.down.found.items inside
+      walking = walk_two (exprs_in c.args.store.now) c.args.index c.args.walk.now c.args.found.now.items c.down.at c.down.walk c.down.found.items there
           c.down.invariant.walking c.in-Either.left c.in-Either.right c.push_new_names-in-Either.new.walk c.push_new_names-in-Either.new.found.items f.0 f.1
           (λ p. ap (mentions p) e ∙ list_any-append p _ _) (rw c.mark.ensures.marked at c.in_ok-push_new_names-in-Either.ensures.walked);
       held = λ all. c.in_ok-push_new_names-in-Either.ensures.held (c.down.invariant.held all);
@@ -135,20 +99,11 @@ node-requires t c = omega arith
 pub returns-in-Alone-clause-kept : goal.returns-in-Alone-clause-kept
 returns-in-Alone-clause-kept t c = grind (arith, common_steps)
 
-pub overflow_cast-right : goal.overflow_cast-right
-overflow_cast-right t c = omega arith
-
 pub push_name-requires-in-Related-2 : goal.push_name-requires-in-Related-2
 push_name-requires-in-Related-2 t c = grind (arith, common_steps)
 
 pub down-smaller-in-Shown : goal.down-smaller-in-Shown
 down-smaller-in-Shown t c = grind (arith, common_steps)
-
-pub overflow_cast-right-in-Either : goal.overflow_cast-right-in-Either
-overflow_cast-right-in-Either t c = omega arith
-
-pub overflow_cast-at : goal.overflow_cast-at
-overflow_cast-at t c = omega arith
 
 pub returns-then-contains-clause-held : goal.returns-then-contains-clause-held
 returns-then-contains-clause-held t c = grind (arith, common_steps)
@@ -170,9 +125,6 @@ down-smaller-in-Negated t c = grind (arith, common_steps)
 
 pub overflow_cast-at-in-Either : goal.overflow_cast-at-in-Either
 overflow_cast-at-in-Either t c = omega arith
-
-pub overflow_cast-at-in-Shown : goal.overflow_cast-at-in-Shown
-overflow_cast-at-in-Shown t c = omega arith
 
 pub push_new_names-requires-in-Either : goal.push_new_names-requires-in-Either
 push_new_names-requires-in-Either t c = grind (arith, common_steps)

@@ -21,14 +21,11 @@ returns-in-Alone-clause-walked c =
 pub node-requires : goal.node-requires
 node-requires c = record { there = omega arith }
 
-pub returns : goal.returns
-returns c = grind (arith, common_steps)
+pub mark-requires : goal.mark-requires
+mark-requires c = record { there = omega arith }
 
 pub returns-then-contains-clause-kept : goal.returns-then-contains-clause-kept
 returns-then-contains-clause-kept c = grind (arith, common_steps)
 
 pub push_name-requires : goal.push_name-requires
 push_name-requires c = grind (arith, common_steps)
-
-pub mark-requires : goal.mark-requires
-mark-requires c = record { there = omega arith }

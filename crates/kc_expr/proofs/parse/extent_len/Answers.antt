@@ -25,6 +25,3 @@ returns-clause-count c = by_size (cases_lt 0 (length c.args.tokens.now))
         let same = ap (λ n. length (extent (drop (n - 1) (lexemes_of c.args.tokens.now)))) i in
         omega (arith, i, same, extent_last c.args.tokens.now some_token h, c.loop-i.invariant)
     by_size (inr h) = omega (arith, extent_none c.args.tokens.now (omega arith))
-
-pub returns-then-ends_between-clause-within : goal.returns-then-ends_between-clause-within
-returns-then-ends_between-clause-within c = omega arith

@@ -1,5 +1,4 @@
-use Rattle.std.proofs.Common.{ap, sym, ◌∙◌, ℕ, arith}
-use Rattle.std.proofs.lemmas.Grind.{common_steps}
+use Rattle.std.proofs.Common.{ap, sym, ◌∙◌, ℕ}
 use Rattle.std.proofs.lemmas.Bool.{eqb-true}
 use Rattle.kc_tokens.specs.declared.fault.ExprFault.{ExprFault}
 use Rattle.kc_expr.proofs.TokenPlaces.{start_at, after_all, end_last, end_none, some_left}
@@ -19,9 +18,3 @@ returns-then-is_empty c =
     let none = eqb-true _ 0 (sym c.is_empty.ensures ∙ c.if-is_empty.true) in
     let at_end : (o : ℕ) → ExprFault = λ o. record { offset = o; kind = c.args.kind } in
     sym (after_all c.args.tokens.now c.args.at c.args.kind c.if-at-tokens.false ∙ ap at_end (end_none c.args.tokens.now none))
-
-pub bounds-tokens-tokens : goal.bounds-tokens-tokens
-bounds-tokens-tokens c = grind (arith, common_steps)
-
-pub overflow_sub-offset : goal.overflow_sub-offset
-overflow_sub-offset c = grind (arith, common_steps)

@@ -1,5 +1,4 @@
 use Rattle.std.proofs.Common.{arith}
-use Rattle.std.proofs.lemmas.Grind.{common_steps}
 use Rattle.kc_solver.proofs.Lists.{copied_more, copied_all}
 use Rattle.kc_solver.proofs.copies.copy_users.Goals as goal
 
@@ -12,12 +11,3 @@ loop-user-preserved g c = record {
 
 pub returns : goal.returns
 returns g c = copied_all c.args.users.now c.loop-user.copy.items c.loop-user.user-index c.loop-user-test.false c.loop-user.invariant.same
-
-pub offset_bounds-users-user-index : goal.offset_bounds-users-user-index
-offset_bounds-users-user-index g c = omega arith
-
-pub bounds-users-user-index : goal.bounds-users-user-index
-bounds-users-user-index g c = grind (arith, common_steps)
-
-pub loop-user-init : goal.loop-user-init
-loop-user-init g c = grind (arith, common_steps)

@@ -1,5 +1,4 @@
 use Rattle.std.proofs.Common.{arith}
-use Rattle.std.proofs.lemmas.Grind.{common_steps}
 use Rattle.kc_solver.proofs.Lists.{copied_more, copied_all}
 use Rattle.kc_solver.proofs.copies.copy_values.Goals as goal
 
@@ -12,12 +11,3 @@ loop-value-preserved g c = record {
 
 pub returns : goal.returns
 returns g c = copied_all c.args.values.now c.loop-value.copy.items c.loop-value.value-index c.loop-value-test.false c.loop-value.invariant.same
-
-pub bounds-values-value-index : goal.bounds-values-value-index
-bounds-values-value-index g c = grind (arith, common_steps)
-
-pub offset_bounds-values-value-index : goal.offset_bounds-values-value-index
-offset_bounds-values-value-index g c = omega arith
-
-pub loop-value-init : goal.loop-value-init
-loop-value-init g c = grind (arith, common_steps)

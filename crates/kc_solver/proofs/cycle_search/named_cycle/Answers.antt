@@ -1,5 +1,5 @@
 use Rattle.std.proofs.Common.{◌≡◌, ◌+◌, ◌∷◌, [], ◌∙◌, sym, ap, arith, rules, get_or, length, drop, length-append, replicate}
-use Rattle.std.proofs.lemmas.Grind.{common_steps, elements}
+use Rattle.std.proofs.lemmas.Grind.{elements}
 use Rattle.std.proofs.lemmas.List.{get_or_default}
 use Rattle.kc_solver.specs.Dependencies.{IsNamedCycle}
 use Rattle.kc_solver.proofs.Walks.{walked, room, closed, begun}
@@ -71,20 +71,11 @@ loop-walk-init g c =
     begun (g.G.Graph.size c.args.graph.now) (g.G.Graph.dependencies c.args.graph.now) c.args.first c.new-walk.result.items c.in_ok-places.places.items
     c.requires.first.holds c.new-walk.ensures.items (c.in_ok-places.ensures.items_if_clones_equal (λ y e. e) ∙ ap (λ n. replicate n n) c.requires.flags)
 
-pub overflow_cast-u-2 : goal.overflow_cast-u-2
-overflow_cast-u-2 g c = grind (arith, common_steps)
-
 pub least_remaining_dependency-u-requires-clause-flags : goal.least_remaining_dependency-u-requires-clause-flags
 least_remaining_dependency-u-requires-clause-flags g c = omega arith
-
-pub overflow_cast-u-in-loop-walk : goal.overflow_cast-u-in-loop-walk
-overflow_cast-u-in-loop-walk g c = omega arith
 
 pub index-requires : goal.index-requires
 index-requires g c = grind (arith, elements)
 
 pub index-requires-2 : goal.index-requires-2
 index-requires-2 g c = grind (arith, elements)
-
-pub least_remaining_dependency-u-requires-clause-unit : goal.least_remaining_dependency-u-requires-clause-unit
-least_remaining_dependency-u-requires-clause-unit g c = grind (arith, common_steps)

@@ -1,5 +1,4 @@
 use Rattle.std.proofs.Common.{arith, ap, length}
-use Rattle.std.proofs.lemmas.Grind.{common_steps}
 use Rattle.std.proofs.lemmas.List.{with_items_is}
 use Rattle.kc_solver.proofs.dependency_order.order.Goals as goal
 
@@ -14,15 +13,3 @@ order_or_cycle-requires-clause-left g c =
     let flags = with_items_is c.in_ok-flags.flags c.eliminate_all.new.flags
     (omega (arith, c.eliminate_all.auto.flags, ap length c.deref_mut.ensures.value, c.in_ok-flags.flags.ok.0)) in
     rw (c.deref.ensures.value, flags) c.in_ok-eliminate_all.ensures.left
-
-pub order_or_cycle-requires-clause-few : goal.order_or_cycle-requires-clause-few
-order_or_cycle-requires-clause-few g c = omega arith
-
-pub returns-clause-acyclic : goal.returns-clause-acyclic
-returns-clause-acyclic g c = grind (arith, common_steps)
-
-pub returns-clause-cycle : goal.returns-clause-cycle
-returns-clause-cycle g c = grind (arith, common_steps)
-
-pub returns-clause-order : goal.returns-clause-order
-returns-clause-order g c = grind (arith, common_steps)

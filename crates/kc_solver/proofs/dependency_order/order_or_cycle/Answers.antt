@@ -1,5 +1,4 @@
 use Rattle.std.proofs.Common.{◌∙◌, sym, arith, inl, inr}
-use Rattle.std.proofs.lemmas.Grind.{common_steps}
 use Rattle.std.proofs.lemmas.Bool.{cases_lt, false≢true}
 use Rattle.kc_solver.proofs.Eliminations.{all_eliminated}
 use Rattle.kc_solver.proofs.Cycles.{no_cycle, named_is_cycle}
@@ -32,12 +31,3 @@ returns-in_ok-cycle-in-Some-clause-cycle g c = (
   named_is_cycle (g.G.Graph.size c.args.graph.now) (g.G.Graph.dependencies c.args.graph.now)
       c.in_ok-cycle-in-Some.cycle.items c.in_ok-cycle-in-Some.ensures.ok,
 )
-
-pub returns-in_ok-cycle-in-Some-clause-order : goal.returns-in_ok-cycle-in-Some-clause-order
-returns-in_ok-cycle-in-Some-clause-order g c = omega arith
-
-pub named_cycle-requires-clause-flags : goal.named_cycle-requires-clause-flags
-named_cycle-requires-clause-flags g c = grind (arith, common_steps)
-
-pub returns-in_ok-cycle-in-Some-clause-acyclic : goal.returns-in_ok-cycle-in-Some-clause-acyclic
-returns-in_ok-cycle-in-Some-clause-acyclic g c = omega arith

@@ -1,6 +1,5 @@
 use Rattle.kc_solver.proofs.Eliminations.{flags_left_at_end, nothing_eliminated, nothing_passed}
 use Rattle.std.proofs.Common.{ap, ◌∙◌, replicate, arith, length}
-use Rattle.std.proofs.lemmas.Grind.{common_steps}
 use Rattle.std.proofs.lemmas.List.{with_items_is}
 use Rattle.kc_solver.proofs.elimination.eliminate_all.Goals as goal
 
@@ -25,6 +24,3 @@ eliminate_reachable-requires-clause-passed g c =
     let next = with_items_is c.in_ok-next.next c.eliminate_each_once.new.next
     (omega (arith, c.eliminate_each_once.auto.next, ap length c.deref_mut.ensures.value, c.in_ok-next.next.ok.0)) in
     rw (c.deref_mut-2.ensures.value, next) c.in_ok-eliminate_each_once.ensures.passed
-
-pub returns-clause-eliminating : goal.returns-clause-eliminating
-returns-clause-eliminating g c = grind (arith, common_steps)

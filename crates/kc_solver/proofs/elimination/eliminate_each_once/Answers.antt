@@ -25,14 +25,5 @@ loop-u-preserved g c =
 pub returns-clause-beyond : goal.returns-clause-beyond
 returns-clause-beyond g c = λ u h. c.loop-u.invariant.beyond u (omega (arith, c.len-u-end.ensures, c.loop-u-test.false))
 
-pub eliminate_if_ready-requires-clause-unit : goal.eliminate_if_ready-requires-clause-unit
-eliminate_if_ready-requires-clause-unit g c = omega arith
-
-pub returns-clause-passed : goal.returns-clause-passed
-returns-clause-passed g c = grind (arith, common_steps)
-
-pub returns-clause-eliminating : goal.returns-clause-eliminating
-returns-clause-eliminating g c = grind (arith, common_steps)
-
 pub loop-u-init : goal.loop-u-init
 loop-u-init g c = grind (arith, common_steps)

@@ -1,5 +1,4 @@
 use Rattle.std.proofs.Common.{◌≡◌, ℕ, ◌<◌, List, Some, length, get_or, slice_get, inl, inr, refl, sym, ap, ◌∙◌, arith}
-use Rattle.std.proofs.lemmas.Grind.{common_steps}
 use Rattle.std.specs.List.{Contains}
 use Rattle.std.proofs.lemmas.Option.{slice_get-get_or, slice_get_read}
 use Rattle.std.proofs.lemmas.List.Elements.{Contains-get_or}
@@ -59,9 +58,3 @@ returns-else-k-dependencies-clause-waits g c =
     let dependency = unit_at (g.G.Graph.size c.args.graph.now) (g.G.Graph.dependencies c.args.graph.now) c.args.u listed (g.met.G.Graph.graph c.args.graph.now)
     c.requires.unit c.deps-dependencies.ensures.value k before in
     inr (get_or listed k 0, dependency.0, c.first_remaining-k.ensures.found (get_or listed k 0) (slice_get-get_or listed k 0 before))
-
-pub bounds-flags-u-then-k-dependencies : goal.bounds-flags-u-then-k-dependencies
-bounds-flags-u-then-k-dependencies g c = grind (arith, common_steps)
-
-pub first_remaining-k-requires-clause-from : goal.first_remaining-k-requires-clause-from
-first_remaining-k-requires-clause-from g c = grind (arith, common_steps)

@@ -1,5 +1,4 @@
 use Rattle.std.proofs.Common.{◌≡◌, ◌<◌, Some, refl, length, get_or, slice_get, arith}
-use Rattle.std.proofs.lemmas.Grind.{elements}
 use Rattle.std.proofs.lemmas.Option.{slice_get_read}
 use Rattle.std.proofs.lemmas.List.Elements.{Contains-get_or}
 use Rattle.kc_solver.specs.checker.Rows.{AreDependents}
@@ -66,9 +65,3 @@ returns-clause-beyond g c = λ u h.
       c.loop-i.eliminated.ok.0,
     ) in
     rw (← done) (c.loop-i.invariant.beyond u h)
-
-pub overflow_add-i : goal.overflow_add-i
-overflow_add-i g c = omega arith
-
-pub returns-clause-eliminating : goal.returns-clause-eliminating
-returns-clause-eliminating g c = grind (arith, elements)

@@ -1,5 +1,5 @@
 use Rattle.std.proofs.Common.{◌≡◌, inl, inr, length, take, get_or, arith}
-use Rattle.std.proofs.lemmas.Grind.{common_steps, elements}
+use Rattle.std.proofs.lemmas.Grind.{common_steps}
 use Rattle.std.proofs.lemmas.List.{take_more, take_all}
 use Rattle.std.proofs.lemmas.List.Elements.{Contains-push_cases}
 use Rattle.kc_solver.proofs.Eliminations.{grows_length, still_beyond, waits_beyond}
@@ -33,17 +33,5 @@ returns-clause-beyond g c = λ u has.
     let all : take c.loop-u.u-index c.args.units.now ≡ c.args.units.now = take_all c.loop-u.u-index c.args.units.now (omega arith) in
     c.loop-u.invariant.beyond u (rw all has)
 
-pub eliminate_if_ready-requires-clause-unit : goal.eliminate_if_ready-requires-clause-unit
-eliminate_if_ready-requires-clause-unit g c = omega arith
-
-pub returns-clause-grows : goal.returns-clause-grows
-returns-clause-grows g c = grind (arith, common_steps)
-
 pub loop-u-init : goal.loop-u-init
 loop-u-init g c = grind (arith, common_steps)
-
-pub returns-clause-passed : goal.returns-clause-passed
-returns-clause-passed g c = grind (arith, elements)
-
-pub returns-clause-eliminating : goal.returns-clause-eliminating
-returns-clause-eliminating g c = grind (arith, common_steps)

@@ -18,8 +18,5 @@ loop-k-preserved c = λ j d above below e.
 pub returns-clause-found : goal.returns-clause-found
 returns-clause-found c = λ d e. absurd (omega (arith, slice_get_within c.args.dependencies.now (length c.args.dependencies.now) d e))
 
-pub bounds-flags-dependencies : goal.bounds-flags-dependencies
-bounds-flags-dependencies c = omega arith
-
 pub returns-then-not-flags-dependencies-clause-found : goal.returns-then-not-flags-dependencies-clause-found
 returns-then-not-flags-dependencies-clause-found c = grind (arith, elements)

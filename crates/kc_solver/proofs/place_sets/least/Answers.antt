@@ -32,29 +32,12 @@ overflow_add-result c =
           (get_or c.args.words.now c.loop-level.word 0),
     )
 
-pub returns-clause-place : goal.returns-clause-place
-returns-clause-place c =
+pub returns : goal.returns
+returns c =
     let small : get_or c.args.words.now c.loop-level.word 0 < 2 ^ 64 = omega (arith, c.type_inv.words c.loop-level.word) in
     let last : c.loop-level._level ≡ c.args.levels = omega (arith, c.loop-level-test.false) in
-    (descend_ended c.args.levels c.args.words.now c.loop-level.word (rw last at c.loop-level.invariant) small).0
-
-pub returns-clause-inside : goal.returns-clause-inside
-returns-clause-inside c =
-    let small : get_or c.args.words.now c.loop-level.word 0 < 2 ^ 64 = omega (arith, c.type_inv.words c.loop-level.word) in
-    let last : c.loop-level._level ≡ c.args.levels = omega (arith, c.loop-level-test.false) in
-    (descend_ended c.args.levels c.args.words.now c.loop-level.word (rw last at c.loop-level.invariant) small).1
-
-pub returns-clause-has : goal.returns-clause-has
-returns-clause-has c =
-    let small : get_or c.args.words.now c.loop-level.word 0 < 2 ^ 64 = omega (arith, c.type_inv.words c.loop-level.word) in
-    let last : c.loop-level._level ≡ c.args.levels = omega (arith, c.loop-level-test.false) in
-    (descend_ended c.args.levels c.args.words.now c.loop-level.word (rw last at c.loop-level.invariant) small).2
-
-pub returns-clause-least : goal.returns-clause-least
-returns-clause-least c =
-    let small : get_or c.args.words.now c.loop-level.word 0 < 2 ^ 64 = omega (arith, c.type_inv.words c.loop-level.word) in
-    let last : c.loop-level._level ≡ c.args.levels = omega (arith, c.loop-level-test.false) in
-    (descend_ended c.args.levels c.args.words.now c.loop-level.word (rw last at c.loop-level.invariant) small).3
+    let end = descend_ended c.args.levels c.args.words.now c.loop-level.word (rw last at c.loop-level.invariant) small in
+    record { place = end.0; inside = end.1; has = end.2; least = end.3 }
 
 pub overflow_mul-word : goal.overflow_mul-word
 overflow_mul-word c = omega (arith, in_list c.args.words.now c.loop-level.word c.loop-level.invariant.some, c.requires.few)

@@ -1,5 +1,4 @@
 use Rattle.std.proofs.Common.{◌-◌, ◌/◌, refl, sym, ◌∙◌, subst, arith}
-use Rattle.std.proofs.lemmas.Grind.{common_steps}
 use Rattle.std.proofs.lemmas.Bool.{false≢true}
 use Rattle.kc_solver.proofs.PlaceSets.{Climbs, climb_begun, climb_more, climb_ended}
 use Rattle.kc_solver.proofs.place_sets.write_place.Goals as goal
@@ -42,6 +41,3 @@ returns-after-loop-follows c = record {
       (c.loop-follows.invariant.climbs first levels from)
       (λ f. absurd (false≢true (sym c.loop-follows-test.false ∙ f)));
 }
-
-pub overflow_sub-bit : goal.overflow_sub-bit
-overflow_sub-bit c = grind (arith, common_steps)

@@ -39,6 +39,3 @@ index_mut-requires g c =
       c.loop-u.invariant.one_each,
       c.loop-u.places.ok.0,
     )
-
-pub offset_bounds-order-u-index : goal.offset_bounds-order-u-index
-offset_bounds-order-u-index g c = omega arith

@@ -28,9 +28,6 @@ loop-u-preserved c =
           u (take_more units i 0 c.loop-u-test.true) e.here e.others c.loop-u.invariant.marks;
     }
 
-pub bounds-places-u : goal.bounds-places-u
-bounds-places-u c = omega arith
-
 pub returns-clause-marks : goal.returns-clause-marks
 returns-clause-marks c = grind (arith, elements)
 

@@ -1,5 +1,5 @@
 use Rattle.std.proofs.Common.{refl, ◌∙◌, ap, arith}
-use Rattle.std.proofs.lemmas.Grind.{common_steps, elements}
+use Rattle.std.proofs.lemmas.Grind.{elements}
 use Rattle.std.proofs.lemmas.Option.{slice_get-get_or}
 use Rattle.kc_solver.specs.checker.Logs.{logged_units}
 use Rattle.kc_solver.specs.checker.PendingPlaces.{is_pending}
@@ -13,10 +13,8 @@ use Rattle.kc_solver.proofs.revision.revise.Goals as goal
 
 pub loop-place-init : goal.loop-place-init
 loop-place-init g c =
-    let begun = begun_with (g.S.Graph.size c.args.plan.now.system.now) (g.S.Graph.dependencies c.args.plan.now.system.now) (g.S.System.rule c.args.plan.now.system.now)
-    (g.S.System.fits_user c.args.plan.now.system.now) c.args.plan.now.order.now c.args.plan.now.places.items
-    c.requires.plan.ordered c.requires.plan.places_are (g.met.S.System.frame c.args.plan.now.system.now) (decided _ g.met.S.System.equal_values)
-    c.args.users.now c.requires.users.1 (is_pending c.args.pending.now) c.args.values.now
+    let begun = begun_with _ _ _ _ _ _ c.requires.plan.ordered c.requires.plan.places_are (g.met.S.System.frame c.args.plan.now.system.now)
+    (decided _ g.met.S.System.equal_values) _ c.requires.users.1 (is_pending c.args.pending.now) c.args.values.now
     (logged_units c.args.log.now.items) (ap logged_units c.requires.nothing) c.requires.fits.0 c.requires.places in
     record {
       fits = c.requires.fits;
@@ -27,37 +25,29 @@ loop-place-init g c =
       recorded = recorded_none (g.S.System.recorded c.args.meter.now) begun.0.done begun.1;
     }
 
-pub revise_unit-requires-clause-unit : goal.revise_unit-requires-clause-unit
-revise_unit-requires-clause-unit g c =
-    let place = c.in-Some.place in
-    let least = c.in-Some.ensures.takes in
-    c.requires.plan.ordered.units place _ (slice_get-get_or c.args.plan.now.order.now place 0 (c.loop-place.invariant.revising.ahead place least.member).1)
+pub revise_unit-requires : goal.revise_unit-requires
+revise_unit-requires g c = record {
+  unit =
+      let place = c.in-Some.place in
+      let least = c.in-Some.ensures.takes in
+      c.requires.plan.ordered.units place _ (slice_get-get_or c.args.plan.now.order.now place 0 (c.loop-place.invariant.revising.ahead place least.member).1);
+  plan = c.requires.plan;
+  users = c.requires.users;
+  values = c.loop-place.invariant.fits;
+  size = c.pop_first.ensures.size ∙ c.loop-place.invariant.size ∙ c.requires.size;
+}
 
 pub overflow_add-evaluated : goal.overflow_add-evaluated
 overflow_add-evaluated g c =
-    let place = c.in-Some.place in
-    let was = c.loop-place.invariant in
-    let least = c.in-Some.ensures.takes in
-    let at = slice_get-get_or c.args.plan.now.order.now place 0 (was.revising.ahead place least.member).1 in
-    let more = room (g.S.Graph.size c.args.plan.now.system.now) (g.S.Graph.dependencies c.args.plan.now.system.now) (g.S.System.rule c.args.plan.now.system.now)
-    (g.S.System.fits_user c.args.plan.now.system.now) c.args.plan.now.order.now c.args.plan.now.places.items
-    c.requires.plan.ordered c.requires.plan.places_are (g.met.S.System.frame c.args.plan.now.system.now) (decided _ g.met.S.System.equal_values)
-    c.args.users.now c.requires.users.1 (is_pending c.args.pending.now) c.args.values.now
-    c.loop-place.values (is_pending c.loop-place.pending) (logged_units c.loop-place.log.items) c.loop-place.evaluated place _ least.member at was.revising in
+    let more = room _ _ _ _ _ _ c.requires.plan.ordered c.requires.plan.places_are (g.met.S.System.frame c.args.plan.now.system.now)
+    (decided _ g.met.S.System.equal_values) _ c.requires.users.1 _ _ _ _ _ _ c.in-Some.place c.in-Some.ensures.takes.member c.loop-place.invariant.revising in
     let places = c.args.plan.now.places in
     omega (arith, more, places.ok.0, places.small, c.requires.plan.places_are.one_each)
 
 pub loop-place-smaller : goal.loop-place-smaller
 loop-place-smaller g c =
-    let place = c.in-Some.place in
-    let was = c.loop-place.invariant in
-    let least = c.in-Some.ensures.takes in
-    let at = slice_get-get_or c.args.plan.now.order.now place 0 (was.revising.ahead place least.member).1 in
-    let more = room (g.S.Graph.size c.args.plan.now.system.now) (g.S.Graph.dependencies c.args.plan.now.system.now) (g.S.System.rule c.args.plan.now.system.now)
-    (g.S.System.fits_user c.args.plan.now.system.now) c.args.plan.now.order.now c.args.plan.now.places.items
-    c.requires.plan.ordered c.requires.plan.places_are (g.met.S.System.frame c.args.plan.now.system.now) (decided _ g.met.S.System.equal_values)
-    c.args.users.now c.requires.users.1 (is_pending c.args.pending.now) c.args.values.now
-    c.loop-place.values (is_pending c.loop-place.pending) (logged_units c.loop-place.log.items) c.loop-place.evaluated place _ least.member at was.revising in
+    let more = room _ _ _ _ _ _ c.requires.plan.ordered c.requires.plan.places_are (g.met.S.System.frame c.args.plan.now.system.now)
+    (decided _ g.met.S.System.equal_values) _ c.requires.users.1 _ _ _ _ _ _ c.in-Some.place c.in-Some.ensures.takes.member c.loop-place.invariant.revising in
     omega (arith, more)
 
 pub loop-place-preserved : goal.loop-place-preserved
@@ -67,13 +57,8 @@ loop-place-preserved g c =
     let now = c.in_ok-revise_unit.ensures in
     let least = c.in-Some.ensures.takes in
     let at = slice_get-get_or c.args.plan.now.order.now place 0 (was.revising.ahead place least.member).1 in
-    let revised = revised_one (g.S.Graph.size c.args.plan.now.system.now) (g.S.Graph.dependencies c.args.plan.now.system.now)
-    (g.S.System.rule c.args.plan.now.system.now) (g.S.System.fits_user c.args.plan.now.system.now) c.args.plan.now.order.now
-    c.args.plan.now.places.items
-    c.requires.plan.ordered c.requires.plan.places_are (g.met.S.System.frame c.args.plan.now.system.now) (decided _ g.met.S.System.equal_values)
-    c.args.users.now c.requires.users.1 (is_pending c.args.pending.now) c.args.values.now
-    c.loop-place.values c.revise_unit.new.values (is_pending c.loop-place.pending) (is_pending c.pop_first.new.self)
-    (is_pending c.revise_unit.new.pending) c.loop-place.log.items c.revise_unit.new.log.items c.loop-place.evaluated place _
+    let revised = revised_one _ _ _ _ _ _ c.requires.plan.ordered c.requires.plan.places_are (g.met.S.System.frame c.args.plan.now.system.now)
+    (decided _ g.met.S.System.equal_values) _ c.requires.users.1 _ _ _ _ _ (is_pending c.pop_first.new.self) _ c.loop-place.log.items _ _ place _
     least.member least.least least.gone least.others at now.revises was.revising in
     record {
       fits = now.fits;
@@ -86,54 +71,24 @@ loop-place-preserved g c =
     }
 
 pub returns : goal.returns
-returns g c = record {
-  solves =
-      (let none = emptied (is_pending c.loop-place.pending) (λ k. (c.in_default.ensures.takes k).0) in
-      (ended (g.S.Graph.size c.args.plan.now.system.now) (g.S.Graph.dependencies c.args.plan.now.system.now) (g.S.System.rule c.args.plan.now.system.now)
-      (g.S.System.fits_user c.args.plan.now.system.now) c.args.plan.now.order.now c.args.plan.now.places.items
-      c.requires.plan.ordered c.requires.plan.places_are (g.met.S.System.frame c.args.plan.now.system.now) (decided _ g.met.S.System.equal_values)
-      c.args.users.now c.requires.users.1 (is_pending c.args.pending.now) c.args.values.now
-      c.loop-place.values (is_pending c.loop-place.pending) (logged_units c.loop-place.log.items) c.loop-place.evaluated c.requires.fits.0 none c.requires.holds
-      c.loop-place.invariant.revising).0);
-  evaluated =
-      (let none = emptied (is_pending c.loop-place.pending) (λ k. (c.in_default.ensures.takes k).0) in
-      (ended (g.S.Graph.size c.args.plan.now.system.now) (g.S.Graph.dependencies c.args.plan.now.system.now) (g.S.System.rule c.args.plan.now.system.now)
-      (g.S.System.fits_user c.args.plan.now.system.now) c.args.plan.now.order.now c.args.plan.now.places.items
-      c.requires.plan.ordered c.requires.plan.places_are (g.met.S.System.frame c.args.plan.now.system.now) (decided _ g.met.S.System.equal_values)
-      c.args.users.now c.requires.users.1 (is_pending c.args.pending.now) c.args.values.now
-      c.loop-place.values (is_pending c.loop-place.pending) (logged_units c.loop-place.log.items) c.loop-place.evaluated c.requires.fits.0 none c.requires.holds
-      c.loop-place.invariant.revising).1);
-  recorded =
-      (let none = emptied (is_pending c.loop-place.pending) (λ k. (c.in_default.ensures.takes k).0) in
-      let end = ended (g.S.Graph.size c.args.plan.now.system.now) (g.S.Graph.dependencies c.args.plan.now.system.now) (g.S.System.rule c.args.plan.now.system.now)
-      (g.S.System.fits_user c.args.plan.now.system.now) c.args.plan.now.order.now c.args.plan.now.places.items
-      c.requires.plan.ordered c.requires.plan.places_are (g.met.S.System.frame c.args.plan.now.system.now) (decided _ g.met.S.System.equal_values)
-      c.args.users.now c.requires.users.1 (is_pending c.args.pending.now) c.args.values.now
-      c.loop-place.values (is_pending c.loop-place.pending) (logged_units c.loop-place.log.items) c.loop-place.evaluated c.requires.fits.0 none c.requires.holds
-      c.loop-place.invariant.revising in
-      recorded_each _ _ _ _ _ _ end.1 end.2 c.loop-place.invariant.recorded);
-  size = c.pop_first.ensures.size ∙ c.loop-place.invariant.size;
-  done = λ k. (c.in_default.ensures.takes k).1;
-  fits = c.loop-place.invariant.fits;
-  undo = c.loop-place.invariant.undo;
-  steps = c.loop-place.invariant.steps;
-  logged = grind (arith, elements);
-}
+returns g c =
+    let end = ended _ _ _ _ _ _ c.requires.plan.ordered c.requires.plan.places_are (g.met.S.System.frame c.args.plan.now.system.now)
+    (decided _ g.met.S.System.equal_values) _ c.requires.users.1 _ _ _ _ _ _ c.requires.fits.0 (emptied _ (λ k. (c.in_default.ensures.takes k).0))
+    c.requires.holds c.loop-place.invariant.revising in
+    record {
+      solves = end.0;
+      evaluated = end.1;
+      recorded = recorded_each _ _ _ _ _ _ end.1 end.2 c.loop-place.invariant.recorded;
+      size = c.pop_first.ensures.size ∙ c.loop-place.invariant.size;
+      done = λ k. (c.in_default.ensures.takes k).1;
+      fits = c.loop-place.invariant.fits;
+      undo = c.loop-place.invariant.undo;
+      steps = c.loop-place.invariant.steps;
+      logged = grind (arith, elements);
+    }
 
 pub bounds-order-place : goal.bounds-order-place
 bounds-order-place g c = (c.loop-place.invariant.revising.ahead c.in-Some.place c.in-Some.ensures.takes.member).1
-
-pub revise_unit-requires-clause-plan : goal.revise_unit-requires-clause-plan
-revise_unit-requires-clause-plan g c = c.requires.plan
-
-pub revise_unit-requires-clause-users : goal.revise_unit-requires-clause-users
-revise_unit-requires-clause-users g c = c.requires.users
-
-pub revise_unit-requires-clause-values : goal.revise_unit-requires-clause-values
-revise_unit-requires-clause-values g c = c.loop-place.invariant.fits
-
-pub revise_unit-requires-clause-size : goal.revise_unit-requires-clause-size
-revise_unit-requires-clause-size g c = c.pop_first.ensures.size ∙ c.loop-place.invariant.size ∙ c.requires.size
 
 pub returns-in_err-revise_unit : goal.returns-in_err-revise_unit
 returns-in_err-revise_unit g c = record {
@@ -147,9 +102,3 @@ returns-in_err-revise_unit g c = record {
   steps = no_value c.from_residual.result _ _ c.from_residual.ensures.1;
   recorded = no_success c.from_residual.result _ _ c.from_residual.ensures.1;
 }
-
-pub offset_bounds-order-place : goal.offset_bounds-order-place
-offset_bounds-order-place g c = grind (arith, common_steps)
-
-pub overflow_cast-u : goal.overflow_cast-u
-overflow_cast-u g c = grind (arith, common_steps)

@@ -1,5 +1,5 @@
 use Rattle.std.proofs.Common.{◌≡◌, sym, ap, ◌∙◌, arith, get_or, length}
-use Rattle.std.proofs.lemmas.Grind.{common_steps, elements}
+use Rattle.std.proofs.lemmas.Grind.{common_steps}
 use Rattle.kc_solver.specs.Solutions.{user_of}
 use Rattle.kc_solver.proofs.Lists.{get_at, each_set}
 use Rattle.kc_solver.proofs.OrderPlaces.{order_length}
@@ -12,12 +12,27 @@ returns-in_err-values-clause-unique g c = unique _ _ _ _ _ c.requires.order (g.m
 pub returns-in_err-value-clause-unique : goal.returns-in_err-value-clause-unique
 returns-in_err-value-clause-unique g c = unique _ _ _ _ _ c.requires.order (g.met.S.System.frame c.args.system.now) _ c.requires.users.1
 
-pub returns-clause-unique : goal.returns-clause-unique
-returns-clause-unique g c = unique _ _ _ _ _ c.requires.order (g.met.S.System.frame c.args.system.now) _ c.requires.users.1
+pub returns : goal.returns
+returns g c = record {
+  unique = unique _ _ _ _ _ c.requires.order (g.met.S.System.frame c.args.system.now) _ c.requires.users.1;
+  solves =
+      let order = c.args.order.now in
+      let done : c.loop-u.u-index ≡ length order = omega (arith, ap length c.units-u-items.ensures) in
+      solved_all _ _ _ _ order c.requires.order (g.met.S.System.frame c.args.system.now) c.args.users.now c.requires.users.1 c.loop-u.values.items
+      c.loop-u.invariant.fits.0 (rw done at c.loop-u.invariant.solved);
+  fits = c.loop-u.invariant.fits;
+  steps =
+      let done : c.loop-u.u-index ≡ length c.args.order.now = omega (arith, ap length c.units-u-items.ensures) in
+      omega (arith, done, order_length _ _ c.args.order.now c.requires.order, c.loop-u.invariant.steps);
+}
 
-pub evaluate-requires-clause-unit : goal.evaluate-requires-clause-unit
-evaluate-requires-clause-unit g c =
-    c.requires.order.units _ _ (get_at c.units-u-items.result.now c.args.order.now c.loop-u.u-index c.units-u-items.ensures c.loop-u-test.true)
+pub evaluate-requires : goal.evaluate-requires
+evaluate-requires g c = record {
+  unit =
+      c.requires.order.units _ _ (get_at c.units-u-items.result.now c.args.order.now c.loop-u.u-index c.units-u-items.ensures c.loop-u-test.true);
+  users = c.requires.users;
+  values = rw c.as_slice.ensures.value c.loop-u.invariant.fits;
+}
 
 pub index_mut-requires : goal.index_mut-requires
 index_mut-requires g c =
@@ -46,35 +61,5 @@ loop-u-preserved g c =
       steps = omega (arith, c.in_ok-value.ensures.step, c.loop-u.invariant.steps);
     }
 
-pub returns-clause-solves : goal.returns-clause-solves
-returns-clause-solves g c =
-    let order = c.args.order.now in
-    let done : c.loop-u.u-index ≡ length order = omega (arith, ap length c.units-u-items.ensures) in
-    solved_all _ _ _ _ order c.requires.order (g.met.S.System.frame c.args.system.now) c.args.users.now c.requires.users.1 c.loop-u.values.items
-    c.loop-u.invariant.fits.0 (rw done at c.loop-u.invariant.solved)
-
-pub evaluate-requires-clause-users : goal.evaluate-requires-clause-users
-evaluate-requires-clause-users g c = c.requires.users
-
-pub evaluate-requires-clause-values : goal.evaluate-requires-clause-values
-evaluate-requires-clause-values g c = rw c.as_slice.ensures.value c.loop-u.invariant.fits
-
-pub returns-clause-fits : goal.returns-clause-fits
-returns-clause-fits g c = c.loop-u.invariant.fits
-
-pub offset_bounds-u-items-u-index : goal.offset_bounds-u-items-u-index
-offset_bounds-u-items-u-index g c = omega arith
-
-pub returns-in_err-values-clause-fits : goal.returns-in_err-values-clause-fits
-returns-in_err-values-clause-fits g c = grind (arith, elements)
-
-pub returns-in_err-values-clause-solves : goal.returns-in_err-values-clause-solves
-returns-in_err-values-clause-solves g c = grind (arith, elements)
-
 pub loop-u-init : goal.loop-u-init
 loop-u-init g c = let counts = g.met.S.System.counts c.args.meter.now in grind (arith, common_steps)
-
-pub returns-clause-steps : goal.returns-clause-steps
-returns-clause-steps g c =
-    let done : c.loop-u.u-index ≡ length c.args.order.now = omega (arith, ap length c.units-u-items.ensures) in
-    omega (arith, done, order_length _ _ c.args.order.now c.requires.order, c.loop-u.invariant.steps)

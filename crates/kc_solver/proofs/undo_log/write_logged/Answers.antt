@@ -1,5 +1,5 @@
 use Rattle.std.proofs.Common.{rules, arith}
-use Rattle.std.proofs.lemmas.Grind.{common_steps, elements}
+use Rattle.std.proofs.lemmas.Grind.{elements}
 use Rattle.kc_solver.specs.checker.Logs.{LogsOneMore}
 use Rattle.kc_solver.proofs.Undo.{undoes_more}
 use Rattle.kc_solver.proofs.undo_log.write_logged.Goals as goal
@@ -15,6 +15,3 @@ replace_value-requires g c = record { there = omega arith }
 
 pub returns-clause-logged : goal.returns-clause-logged
 returns-clause-logged g c = grind (arith, elements)
-
-pub returns-clause-written : goal.returns-clause-written
-returns-clause-written g c = grind (arith, common_steps)

@@ -1,5 +1,4 @@
 use Rattle.std.proofs.Common.{refl, ap, sym, ◌∙◌, length, arith, slice_get}
-use Rattle.std.proofs.lemmas.Grind.{elements}
 use Rattle.kc_solver.proofs.updates.write_changes.Goals as goal
 
 pub write_users-requires-clause-units : goal.write_users-requires-clause-units
@@ -8,17 +7,16 @@ write_users-requires-clause-units g c = c.requires.units
 pub returns-in_err-write_users-clause-undo : goal.returns-in_err-write_users-clause-undo
 returns-in_err-write_users-clause-undo g c = c.in_err-write_users.ensures.undo
 
-pub mark_changed-requires-clause-none : goal.mark_changed-requires-clause-none
-mark_changed-requires-clause-none g c = c.requires.none
-
-pub mark_changed-requires-clause-within : goal.mark_changed-requires-clause-within
-mark_changed-requires-clause-within g c = rw c.deref-2.ensures.value c.requires.within
-
-pub mark_changed-requires-clause-places : goal.mark_changed-requires-clause-places
-mark_changed-requires-clause-places g c = omega (arith, ap length c.deref-2.ensures.value, c.requires.places, c.write_users.auto.users)
-
-pub mark_changed-requires-clause-once : goal.mark_changed-requires-clause-once
-mark_changed-requires-clause-once g c = rw c.deref-2.ensures.value c.requires.once
+pub mark_changed-requires : goal.mark_changed-requires
+mark_changed-requires g c = record {
+  none = c.requires.none;
+  within = rw c.deref-2.ensures.value c.requires.within;
+  places = omega (arith, ap length c.deref-2.ensures.value, c.requires.places, c.write_users.auto.users);
+  once = rw c.deref-2.ensures.value c.requires.once;
+  units = λ k u x e.
+      let undo = c.in_ok-write_users.ensures.undo in
+      omega (arith, undo.units k u x (sym (ap (λ log. slice_get log k) c.deref.ensures.value) ∙ e), undo.one_each);
+}
 
 pub returns-clause-users : goal.returns-clause-users
 returns-clause-users g c = c.in_ok-write_users.ensures.users
@@ -32,11 +30,6 @@ write_users-requires-clause-nothing g c = c.requires.nothing
 pub returns-in_err-write_users-clause-size : goal.returns-in_err-write_users-clause-size
 returns-in_err-write_users-clause-size g c = refl
 
-pub mark_changed-requires-clause-units : goal.mark_changed-requires-clause-units
-mark_changed-requires-clause-units g c = λ k u x e.
-    let undo = c.in_ok-write_users.ensures.undo in
-    omega (arith, undo.units k u x (sym (ap (λ log. slice_get log k) c.deref.ensures.value) ∙ e), undo.one_each)
-
 pub returns-clause-lists : goal.returns-clause-lists
 returns-clause-lists g c =
     let lists = c.mark_changed.ensures.lists in
@@ -44,6 +37,3 @@ returns-clause-lists g c =
 
 pub returns-clause-err : goal.returns-clause-err
 returns-clause-err g c = tt
-
-pub returns-in_err-write_users-clause-err : goal.returns-in_err-write_users-clause-err
-returns-in_err-write_users-clause-err g c = grind (arith, elements)

@@ -1,5 +1,4 @@
 use Rattle.std.proofs.Common.{◌≡◌, ◌≢◌, ◌↔◌, ◌-◌, ◌<◌, ◌∷◌, true, Some, None, suc, length, get_or, slice_get, drop, refl, sym, ap, ◌∙◌, arith}
-use Rattle.std.proofs.lemmas.Grind.{common_steps}
 use Rattle.std.proofs.Math.Seq.{drop-cons, drop-length}
 use Rattle.std.proofs.lemmas.List.{get_or_read}
 use Rattle.std.proofs.lemmas.Option.{slice_get_read, slice_get-get_or}
@@ -84,9 +83,3 @@ pub returns-clause-lists : goal.returns-clause-lists
 returns-clause-lists g c =
     let done : c.loop-i.i ≡ 0 = omega arith in
     rw done at c.loop-i.invariant.lists
-
-pub returns-clause-size : goal.returns-clause-size
-returns-clause-size g c = grind (arith, common_steps)
-
-pub offset_bounds-places-u : goal.offset_bounds-places-u
-offset_bounds-places-u g c = grind (arith, common_steps)

@@ -49,9 +49,3 @@ returns-clause-users g c =
 
 pub loop-u-init : goal.loop-u-init
 loop-u-init g c = grind (arith, elements)
-
-pub returns-in_err-user-clause-undo : goal.returns-in_err-user-clause-undo
-returns-in_err-user-clause-undo g c = grind (arith, elements)
-
-pub returns-clause-undo : goal.returns-clause-undo
-returns-clause-undo g c = grind (arith, elements)

@@ -20,29 +20,8 @@ returns-clause-place c = rw c.at.ensures c.in_ok-index.ensures.place
 pub returns-clause-name : goal.returns-clause-name
 returns-clause-name c = rw c.at.ensures c.in_ok-index.ensures.name
 
-pub returns-clause-err : goal.returns-clause-err
-returns-clause-err c = omega arith
-
-pub returns-clause-memory : goal.returns-clause-memory
-returns-clause-memory c = omega arith
-
-pub returns-in_err-index-clause-err : goal.returns-in_err-index-clause-err
-returns-in_err-index-clause-err c = grind (arith, common_steps)
-
 pub invariant_of-self-2 : goal.invariant_of-self-2
 invariant_of-self-2 c = grind (arith, common_steps)
 
-pub invariant_of-self : goal.invariant_of-self
-invariant_of-self c = grind (arith, common_steps)
-
-pub returns-clause-within : goal.returns-clause-within
-returns-clause-within c = grind (arith, common_steps)
-
-pub returns-in_err-index-clause-nodes : goal.returns-in_err-index-clause-nodes
-returns-in_err-index-clause-nodes c = grind (arith, common_steps)
-
 pub returns-in_err-index-clause-grows : goal.returns-in_err-index-clause-grows
 returns-in_err-index-clause-grows c = grind (arith, common_steps)
-
-pub returns-in_err-index-clause-memory : goal.returns-in_err-index-clause-memory
-returns-in_err-index-clause-memory c = grind (arith, common_steps)

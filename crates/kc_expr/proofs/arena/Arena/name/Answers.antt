@@ -1,5 +1,4 @@
-use Rattle.std.proofs.Common.{[], get_or, ap, ◌∙◌, arith}
-use Rattle.std.proofs.lemmas.Grind.{common_steps}
+use Rattle.std.proofs.Common.{[], get_or, ap, ◌∙◌}
 use Rattle.kc_expr.specs.between.Arena.{Exprs}
 use Rattle.kc_expr.specs.checker.Store.{stored_names}
 use Rattle.kc_expr.proofs.arena.Arena.name.Goals as goal
@@ -10,6 +9,3 @@ returns c = record {
       ∙ ap (λ i. get_or (stored_names c.self.inside.store) i []) c.index.ensures
       ∙ ap (λ (x : Exprs). get_or x.names c.args.id []) c.self.view_is;
 }
-
-pub name-requires : goal.name-requires
-name-requires c = grind (arith, common_steps)

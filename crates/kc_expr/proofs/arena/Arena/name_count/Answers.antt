@@ -7,6 +7,3 @@ returns-clause-count c = rw (← c.self.view_is) (cc)
 
 pub returns-clause-most : goal.returns-clause-most
 returns-clause-most c = grind (arith, common_steps)
-
-pub returns-clause-distinct : goal.returns-clause-distinct
-returns-clause-distinct c = grind (arith, common_steps)

@@ -27,17 +27,8 @@ returns-in-Err-clause-fault c =
     line_refused c.args.tokens.now (take (c.args.at + c.extent_len.result) c.args.tokens.now) c.args.at
     (c.args.at + c.extent_len.result) refl end c.in-Err.fault c.in-Err.ensures.fault
 
-pub parse_to_end-requires-clause-sound : goal.parse_to_end-requires-clause-sound
-parse_to_end-requires-clause-sound c = grind (arith, common_steps)
-
 pub returns-in-Err-clause-grows : goal.returns-in-Err-clause-grows
 returns-in-Err-clause-grows c = grind (arith, common_steps)
-
-pub returns-in-Err-clause-err : goal.returns-in-Err-clause-err
-returns-in-Err-clause-err c = grind (arith, common_steps)
-
-pub returns-in-Ok-clause-names : goal.returns-in-Ok-clause-names
-returns-in-Ok-clause-names c = grind (arith, common_steps)
 
 pub invariant_of-self : goal.invariant_of-self
 invariant_of-self c = grind (arith, common_steps)

@@ -1,4 +1,4 @@
-use Rattle.std.proofs.Common.{ap, length, arith, rules}
+use Rattle.std.proofs.Common.{ap, length, arith}
 use Rattle.std.proofs.lemmas.Grind.{common_steps}
 use Rattle.kc_expr.specs.between.Arena.{Exprs}
 use Rattle.kc_expr.proofs.StoreLemmas.{within_nodes, length-nodes}
@@ -15,11 +15,5 @@ push_unvisited-requires-clause-room c = omega (
   ap (λ (x : Exprs). length x.nodes) c.self.view_is,
 )
 
-pub returns-in-Err-clause-err : goal.returns-in-Err-clause-err
-returns-in-Err-clause-err c = search rules
-
 pub returns-in-Ok-clause-held : goal.returns-in-Ok-clause-held
 returns-in-Ok-clause-held c = grind (arith, common_steps)
-
-pub push_unvisited-requires-clause-found : goal.push_unvisited-requires-clause-found
-push_unvisited-requires-clause-found c = grind (arith, common_steps)

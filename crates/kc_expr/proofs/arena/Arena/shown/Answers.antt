@@ -15,8 +15,5 @@ returns-clause-ok c = rw (← c.self.view_is, ← c.number.ensures, c.at.ensures
 pub invariant_of-self-2 : goal.invariant_of-self-2
 invariant_of-self-2 c = grind (arith, common_steps)
 
-pub invariant_of-self : goal.invariant_of-self
-invariant_of-self c = grind (arith, common_steps)
-
 pub returns-in_err-id-clause-grows : goal.returns-in_err-id-clause-grows
 returns-in_err-id-clause-grows c = grind (arith, common_steps)

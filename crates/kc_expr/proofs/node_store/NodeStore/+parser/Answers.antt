@@ -7,11 +7,11 @@ use Rattle.kc_tokens.specs.declared.token.Token.{Token}
 use Rattle.kc_tokens.specs.declared.token.TokenKind.{TokenKind}
 use Rattle.kc_tokens.specs.declared.token.TokenKind.TheVariants.{And, Or}
 use Rattle.kc_expr.specs.Expr.{both, either}
-use Rattle.kc_expr.specs.checker.ParserResults.{first_kind, factor_read, ands_read, ors_read}
+use Rattle.kc_expr.specs.checker.ParserResults.{first_kind}
 use Rattle.kc_tokens.specs.Token.{lexeme_of, lexemes_of}
 use Rattle.kc_expr.proofs.ParserNames.{read_negated, read_joined}
-use Rattle.kc_expr.proofs.ParseSteps.{as_both, as_either, factor_is_operand, factor_beyond, not_fails, not_parsed, open_fails, open_unclosed, open_parsed, parses_by, kind_within, chain_first_fails, chain_begins, chain_fails, chain_goes_on, chain_ends}
-use Rattle.kc_expr.proofs.ReaderSteps.{ands_on, ors_on, ands_first_fails, ands_first, ands_link_fails, ands_link, ands_end, ors_first_fails, ors_first, ors_link_fails, ors_link, ors_end}
+use Rattle.kc_expr.proofs.ParseSteps.{factor_is_operand, factor_beyond, not_fails, not_parsed, open_fails, open_unclosed, open_parsed, parses_by, kind_within, chain_first_fails, chain_begins, chain_fails, chain_goes_on, chain_ends}
+use Rattle.kc_expr.proofs.ReaderSteps.{ands_level, ors_level}
 use Rattle.kc_expr.proofs.StoreLemmas.{represents_later, represents_node, extends_on}
 use Rattle.kc_expr.proofs.node_store.NodeStore.+parser.Goals as goal
 use Rattle.kc_expr.proofs.node_store.NodeStore.+parser.Goals.{parse_factor-else-not-negated-via-then-not-negated+else-not-is_kind_at, parse_factor-else-not-negated-via-else-not-negated}
@@ -22,8 +22,7 @@ parse_ands-returns-in_err-left t c =
       sound = c.parse_factor.ensures.sound;
       extends = c.parse_factor.ensures.extends;
       names = rw p.1 tt;
-      parses = rw (p.1, p.2) (chain_first_fails factor_read ands_read ands_on And both ands_first_fails ands_first ands_link_fails ands_link ands_end as_both
-          (lexemes_of c.args.tokens.now) c.args.condition c.args.at c.args.depth _ c.in_err-left.ensures.parses);
+      parses = rw (p.1, p.2) (chain_first_fails ands_level (lexemes_of c.args.tokens.now) c.args.condition c.args.at c.args.depth _ c.in_err-left.ensures.parses);
     }
 
 pub parse_ands-ands-init : goal.parse_ands-ands-init
@@ -31,8 +30,7 @@ parse_ands-ands-init t c = record {
   sound = c.parse_factor.ensures.sound;
   extends = c.parse_factor.ensures.extends;
   names = c.in_ok-left.ensures.names;
-  chained = chain_begins factor_read ands_read ands_on And both ands_first_fails ands_first ands_link_fails ands_link ands_end as_both
-      (lexemes_of c.args.tokens.now) c.args.condition c.args.at c.args.depth c.parse_factor.new.self _ _ c.in_ok-left.ensures.parses;
+  chained = chain_begins ands_level (lexemes_of c.args.tokens.now) c.args.condition c.args.at c.args.depth c.parse_factor.new.self _ _ c.in_ok-left.ensures.parses;
 }
 
 pub parse_ands-returns-in_err-right : goal.parse_ands-returns-in_err-right
@@ -42,8 +40,7 @@ parse_ands-returns-in_err-right t c =
       extends = extends_on c.args.self.now c.ands.self c.parse_factor-in-ands.new.self c.ands.invariant.extends
           c.parse_factor-in-ands.ensures.extends;
       names = rw p.1 tt;
-      parses = rw (p.1, p.2) (chain_fails factor_read ands_read ands_on And both ands_first_fails ands_first ands_link_fails ands_link ands_end as_both
-          (lexemes_of c.args.tokens.now) c.args.condition c.args.at c.args.depth c.ands.self _ _ c.ands.invariant.chained
+      parses = rw (p.1, p.2) (chain_fails ands_level (lexemes_of c.args.tokens.now) c.args.condition c.args.at c.args.depth c.ands.self _ _ c.ands.invariant.chained
           (c.is_kind_at.ensures.0 c.ands-test.true) _ c.in_err-right.ensures.parses);
     }
 
@@ -66,8 +63,7 @@ parse_ands-ands-preserved t c = record {
   names = read_joined c.args.self.now c.push.new.self _ both (λ a b. refl) c.ands.self c.parse_factor-in-ands.new.self c.ands.left c.in_ok-right.right _
       c.ands.invariant.names c.ands.invariant.sound c.parse_factor-in-ands.ensures.extends c.ands.invariant.chained.represents c.in_ok-right.ensures.names
       c.push.ensures.names c.in_ok-left-2.ensures.represents;
-  chained = chain_goes_on factor_read ands_read ands_on And both ands_first_fails ands_first ands_link_fails ands_link ands_end as_both
-      (lexemes_of c.args.tokens.now) c.args.condition c.args.at c.args.depth c.ands.self c.parse_factor-in-ands.new.self c.push.new.self _ _ _ _ _
+  chained = chain_goes_on ands_level (lexemes_of c.args.tokens.now) c.args.condition c.args.at c.args.depth c.ands.self c.parse_factor-in-ands.new.self c.push.new.self _ _ _ _ _
       c.ands.invariant.chained (c.is_kind_at.ensures.0 c.ands-test.true) c.ands.invariant.sound c.parse_factor-in-ands.ensures.extends
       c.in_ok-right.ensures.parses c.in_ok-left-2.ensures.represents;
 }
@@ -77,8 +73,7 @@ parse_ands-returns t c = record {
   sound = c.ands.invariant.sound;
   extends = c.ands.invariant.extends;
   names = c.ands.invariant.names;
-  parses = chain_ends factor_read ands_read ands_on And both ands_first_fails ands_first ands_link_fails ands_link ands_end as_both
-      (lexemes_of c.args.tokens.now) c.args.condition c.args.at c.args.depth c.ands.self _ _ c.ands.invariant.chained
+  parses = chain_ends ands_level (lexemes_of c.args.tokens.now) c.args.condition c.args.at c.args.depth c.ands.self _ _ c.ands.invariant.chained
       (λ k. both_ways _ c.ands-test.false (c.is_kind_at.ensures.1 k));
 }
 
@@ -88,8 +83,7 @@ parse_ors-returns-in_err-left t c =
       sound = c.parse_ands.ensures.sound;
       extends = c.parse_ands.ensures.extends;
       names = rw p.1 tt;
-      parses = rw (p.1, p.2) (chain_first_fails ands_read ors_read ors_on Or either ors_first_fails ors_first ors_link_fails ors_link ors_end as_either
-          (lexemes_of c.args.tokens.now) c.args.condition c.args.at c.args.depth _ c.in_err-left.ensures.parses);
+      parses = rw (p.1, p.2) (chain_first_fails ors_level (lexemes_of c.args.tokens.now) c.args.condition c.args.at c.args.depth _ c.in_err-left.ensures.parses);
     }
 
 pub parse_ors-ors-init : goal.parse_ors-ors-init
@@ -97,8 +91,7 @@ parse_ors-ors-init t c = record {
   sound = c.parse_ands.ensures.sound;
   extends = c.parse_ands.ensures.extends;
   names = c.in_ok-left.ensures.names;
-  chained = chain_begins ands_read ors_read ors_on Or either ors_first_fails ors_first ors_link_fails ors_link ors_end as_either
-      (lexemes_of c.args.tokens.now) c.args.condition c.args.at c.args.depth c.parse_ands.new.self _ _ c.in_ok-left.ensures.parses;
+  chained = chain_begins ors_level (lexemes_of c.args.tokens.now) c.args.condition c.args.at c.args.depth c.parse_ands.new.self _ _ c.in_ok-left.ensures.parses;
 }
 
 pub parse_ors-returns-in_err-right : goal.parse_ors-returns-in_err-right
@@ -108,8 +101,7 @@ parse_ors-returns-in_err-right t c =
       extends = extends_on c.args.self.now c.ors.self c.parse_ands-in-ors.new.self c.ors.invariant.extends
           c.parse_ands-in-ors.ensures.extends;
       names = rw p.1 tt;
-      parses = rw (p.1, p.2) (chain_fails ands_read ors_read ors_on Or either ors_first_fails ors_first ors_link_fails ors_link ors_end as_either
-          (lexemes_of c.args.tokens.now) c.args.condition c.args.at c.args.depth c.ors.self _ _ c.ors.invariant.chained
+      parses = rw (p.1, p.2) (chain_fails ors_level (lexemes_of c.args.tokens.now) c.args.condition c.args.at c.args.depth c.ors.self _ _ c.ors.invariant.chained
           (c.is_kind_at.ensures.0 c.ors-test.true) _ c.in_err-right.ensures.parses);
     }
 
@@ -132,8 +124,7 @@ parse_ors-ors-preserved t c = record {
   names = read_joined c.args.self.now c.push.new.self _ either (λ a b. refl) c.ors.self c.parse_ands-in-ors.new.self c.ors.left c.in_ok-right.right _
       c.ors.invariant.names c.ors.invariant.sound c.parse_ands-in-ors.ensures.extends c.ors.invariant.chained.represents c.in_ok-right.ensures.names
       c.push.ensures.names c.in_ok-left-2.ensures.represents;
-  chained = chain_goes_on ands_read ors_read ors_on Or either ors_first_fails ors_first ors_link_fails ors_link ors_end as_either
-      (lexemes_of c.args.tokens.now) c.args.condition c.args.at c.args.depth c.ors.self c.parse_ands-in-ors.new.self c.push.new.self _ _ _ _ _
+  chained = chain_goes_on ors_level (lexemes_of c.args.tokens.now) c.args.condition c.args.at c.args.depth c.ors.self c.parse_ands-in-ors.new.self c.push.new.self _ _ _ _ _
       c.ors.invariant.chained (c.is_kind_at.ensures.0 c.ors-test.true) c.ors.invariant.sound c.parse_ands-in-ors.ensures.extends c.in_ok-right.ensures.parses
       c.in_ok-left-2.ensures.represents;
 }
@@ -143,8 +134,7 @@ parse_ors-returns t c = record {
   sound = c.ors.invariant.sound;
   extends = c.ors.invariant.extends;
   names = c.ors.invariant.names;
-  parses = chain_ends ands_read ors_read ors_on Or either ors_first_fails ors_first ors_link_fails ors_link ors_end as_either
-      (lexemes_of c.args.tokens.now) c.args.condition c.args.at c.args.depth c.ors.self _ _ c.ors.invariant.chained
+  parses = chain_ends ors_level (lexemes_of c.args.tokens.now) c.args.condition c.args.at c.args.depth c.ors.self _ _ c.ors.invariant.chained
       (λ k. both_ways _ c.ors-test.false (c.is_kind_at.ensures.1 k));
 }
 
@@ -299,23 +289,11 @@ parse_ands-overflow_add-next t c = grind (arith, common_steps)
 pub parse_ands-ands-smaller : goal.parse_ands-ands-smaller
 parse_ands-ands-smaller t c = grind (arith, common_steps)
 
-pub parse_factor-overflow_add-at : goal.parse_factor-overflow_add-at
-parse_factor-overflow_add-at t c = omega arith
-
 pub parse_ors-overflow_add-next : goal.parse_ors-overflow_add-next
 parse_ors-overflow_add-next t c = grind (arith, common_steps)
 
-pub parse_factor-overflow_add-at-2 : goal.parse_factor-overflow_add-at-2
-parse_factor-overflow_add-at-2 t c = omega arith
-
 pub parse_factor-overflow_add-result : goal.parse_factor-overflow_add-result
 parse_factor-overflow_add-result t c = grind (arith, common_steps)
-
-pub parse_factor-overflow_sub-depth : goal.parse_factor-overflow_sub-depth
-parse_factor-overflow_sub-depth t c = omega arith
-
-pub parse_factor-overflow_add-at-then-negated : goal.parse_factor-overflow_add-at-then-negated
-parse_factor-overflow_add-at-then-negated t c = omega arith
 
 pub parse_ors-ors-smaller : goal.parse_ors-ors-smaller
 parse_ors-ors-smaller t c = grind (arith, common_steps)
@@ -325,9 +303,6 @@ parse_ands-parse_factor-requires t c = grind (arith, common_steps)
 
 pub parse_ors-parse_ands-requires : goal.parse_ors-parse_ands-requires
 parse_ors-parse_ands-requires t c = grind (arith, common_steps)
-
-pub parse_factor-overflow_sub-depth-2 : goal.parse_factor-overflow_sub-depth-2
-parse_factor-overflow_sub-depth-2 t c = omega arith
 
 pub parse_factor-parse_ors-requires : goal.parse_factor-parse_ors-requires
 parse_factor-parse_ors-requires t c = grind (arith, common_steps)

@@ -26,14 +26,5 @@ returns-in_err-id-clause-sound c = c.requires.sound
 pub returns-in_err-id-clause-extends : goal.returns-in_err-id-clause-extends
 returns-in_err-id-clause-extends c = extends_self c.args.self.now
 
-pub returns-clause-within : goal.returns-clause-within
-returns-clause-within c = grind (arith, common_steps)
-
-pub returns-clause-text : goal.returns-clause-text
-returns-clause-text c = grind (arith, common_steps)
-
 pub returns-in_err-push-clause-extends : goal.returns-in_err-push-clause-extends
 returns-in_err-push-clause-extends c = grind (arith, common_steps)
-
-pub returns-clause-memory : goal.returns-clause-memory
-returns-clause-memory c = omega arith

@@ -113,6 +113,3 @@ returns-in_err-push c = record {
   parses = (let p = err_from_is_err_and c.from_residual-in_err-push.result c.from_residual-in_err-push.ensures.1 in
       rw (p.1, p.2) (inl c.in_err-push.ensures.memory));
 }
-
-pub overflow_add-result : goal.overflow_add-result
-overflow_add-result c = omega arith

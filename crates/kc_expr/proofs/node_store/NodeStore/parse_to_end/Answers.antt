@@ -54,6 +54,3 @@ returns-in-Some c = record {
       c.parse_word.ensures.represents);
   fault = grind (arith, common_steps);
 }
-
-pub parse_ors-requires-clause-sound : goal.parse_ors-requires-clause-sound
-parse_ors-requires-clause-sound c = grind (arith, common_steps)

@@ -79,8 +79,5 @@ returns-clause-extends c = extends_on c.args.self.now c.push-2.new.self c.push-3
     (extends_on c.args.self.now c.word_leaf.new.self c.push-2.new.self (extends_on c.args.self.now c.push.new.self c.word_leaf.new.self c.push.ensures.extends
     c.word_leaf.ensures.extends) c.push-2.ensures.extends) c.push-3.ensures.extends
 
-pub returns-clause-memory : goal.returns-clause-memory
-returns-clause-memory c = grind (arith, common_steps)
-
 pub returns-clause-names : goal.returns-clause-names
 returns-clause-names c = grind (arith, common_steps)

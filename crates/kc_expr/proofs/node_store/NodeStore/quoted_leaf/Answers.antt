@@ -12,9 +12,6 @@ returns-in_ok-index-in-None c = record {
   memory = omega arith;
 }
 
-pub keep-requires : goal.keep-requires
-keep-requires c = grind (arith, common_steps)
-
 pub returns-in_err-index-in-None : goal.returns-in_err-index-in-None
 returns-in_err-index-in-None c = record {
   sound = grind (arith, common_steps);
@@ -44,3 +41,6 @@ returns-in-Some c = record {
   operand = grind (arith, common_steps);
   memory = grind (arith, common_steps);
 }
+
+pub keep-requires : goal.keep-requires
+keep-requires c = grind (arith, common_steps)

@@ -59,11 +59,5 @@ returns-in_err-index c = record {
   memory = grind (arith, common_steps);
 }
 
-pub find_newest-requires : goal.find_newest-requires
-find_newest-requires c = grind (arith, common_steps)
-
-pub find-requires : goal.find-requires
-find-requires c = grind (arith, common_steps)
-
 pub insert_name-requires : goal.insert_name-requires
 insert_name-requires c = grind (arith, common_steps)

@@ -1,7 +1,6 @@
-use Rattle.std.proofs.Common.{◌≡◌, ◌+◌, ◌*◌, ◌≤◌, ℕ, true, false, length, drop, get_or, sym, arith}
-use Rattle.std.proofs.lemmas.Grind.{common_steps, elements}
-use Rattle.kc_solver.specs.checker.PlaceSets.{WritesPlace, has}
-use Rattle.kc_solver.proofs.PlaceSets.{tree_written, written_back, takes_least, none_below}
+use Rattle.std.proofs.Common.{◌≡◌, ◌+◌, ◌*◌, ◌++◌, false, length, take, drop, get_or, sym}
+use Rattle.kc_solver.proofs.PlaceSets.{HasWritten, has_written, takes_least, none_below}
+use Rattle.kc_solver.proofs.place_sets.PlaceSet.pop_first.Goals.{After-write_place}
 use Rattle.kc_solver.proofs.place_sets.PlaceSet.pop_first.Goals as goal
 
 pub returns-then-index-eq0-clause-takes : goal.returns-then-index-eq0-clause-takes
@@ -14,34 +13,17 @@ returns-then-index-eq0-clause-takes c =
           (64 * set.first + k),
     )
 
-pub invariant_of-self : goal.invariant_of-self
-invariant_of-self c =
+written : (c : After-write_place) → (let set = c.args.self.now in let new = c.write_place.new.words in
+    HasWritten set.levels set.first set.size set.words.items (take set.words.len (new ++ drop (length new) set.words.items)) c.least-bit.result false)
+written c =
     let set = c.args.self.now in
-    let bit = c.least-bit.result in
-    let place : 64 * set.first ≤ bit = rw (← set.tree.starts) at c.least-bit.ensures.place in
-    let written : WritesPlace set.first set.words.items c.write_place.new.words bit false = (rw c.deref_mut.ensures.value at c.write_place.ensures.written)
-    set.first set.tree.levels_are place in
-    record {
-      tree = rw (written_back c.write_place.new.words (drop (length c.write_place.new.words) set.words.items) set.words.len
-          (omega (arith, written.one_each, set.words.ok.0))) (tree_written set.levels set.first set.size set.words.items c.write_place.new.words bit false
-          set.tree written);
-    }
+    has_written _ _ _ _ _ _ _ _ set.tree (sym set.words.ok.0) (rw (← set.tree.starts) at c.least-bit.ensures.place)
+    ((rw c.deref_mut.ensures.value at c.write_place.ensures.written) set.first)
+
+pub invariant_of-self : goal.invariant_of-self
+invariant_of-self c = record { tree = (written (goal.at.invariant_of-self c).After-write_place).tree }
 
 pub returns-clause-takes : goal.returns-clause-takes
-returns-clause-takes c =
-    let set = c.args.self.now in
-    let bit = c.least-bit.result in
-    let place : 64 * set.first ≤ bit = rw (← set.tree.starts) at c.least-bit.ensures.place in
-    let written : WritesPlace set.first set.words.items c.write_place.new.words bit false = (rw c.deref_mut.ensures.value at c.write_place.ensures.written)
-    set.first set.tree.levels_are place in
-    let here : has set.words.items bit ≡ true = rw c.deref.ensures.value at c.least-bit.ensures.has in
-    let least : (k : ℕ) → 64 * set.first ≤ k → has set.words.items k ≡ true
-    → bit ≤ k = rw (c.deref.ensures.value, ← set.tree.starts) at c.least-bit.ensures.least in
-    rw (written_back c.write_place.new.words (drop (length c.write_place.new.words) set.words.items) set.words.len
-    (omega (arith, written.one_each, set.words.ok.0))) (takes_least set.first set.words.items c.write_place.new.words bit place here least written)
-
-pub overflow_sub-result : goal.overflow_sub-result
-overflow_sub-result c = grind (arith, common_steps)
-
-pub least-bit-requires-clause-some : goal.least-bit-requires-clause-some
-least-bit-requires-clause-some c = grind (arith, elements)
+returns-clause-takes c = takes_least _ _ _ _ _ _ (rw (← c.args.self.now.tree.starts) at c.least-bit.ensures.place)
+    (rw c.deref.ensures.value at c.least-bit.ensures.has) (rw (c.deref.ensures.value, ← c.args.self.now.tree.starts) at c.least-bit.ensures.least)
+    (written (goal.at.returns-clause-takes c).After-write_place)

@@ -1,31 +1,19 @@
-use Rattle.std.proofs.Common.{◌+◌, ◌*◌, false, length, drop, arith}
-use Rattle.kc_solver.specs.checker.PlaceSets.{WritesPlace}
-use Rattle.kc_solver.proofs.PlaceSets.{tree_written, written_back, only_place}
+use Rattle.std.proofs.Common.{◌+◌, ◌*◌, false, take, ◌++◌, length, drop, sym, arith}
+use Rattle.kc_solver.proofs.PlaceSets.{HasWritten, has_written}
+use Rattle.kc_solver.proofs.place_sets.PlaceSet.remove.Goals.{After-write_place}
 use Rattle.kc_solver.proofs.place_sets.PlaceSet.remove.Goals as goal
 
-pub invariant_of-self : goal.invariant_of-self
-invariant_of-self c =
+written : (c : After-write_place) → (let set = c.args.self.now in let new = c.write_place.new.words in
+    HasWritten set.levels set.first set.size set.words.items (take set.words.len (new ++ drop (length new) set.words.items)) (64 * set.first + c.args.place) false)
+written c =
     let set = c.args.self.now in
-    let written : WritesPlace set.first set.words.items c.write_place.new.words (64 * set.first + c.args.place) false =
-    (rw c.deref_mut.ensures.value at c.write_place.ensures.written) set.first set.tree.levels_are (omega arith) in
-    record {
-      tree = rw (written_back c.write_place.new.words (drop (length c.write_place.new.words) set.words.items) set.words.len
-          (omega (arith, written.one_each, set.words.ok.0))) (tree_written set.levels set.first set.size set.words.items c.write_place.new.words
-          (64 * set.first + c.args.place) false set.tree written);
-    }
+    has_written _ _ _ _ _ _ _ _ set.tree (sym set.words.ok.0) (omega arith) ((rw c.deref_mut.ensures.value at c.write_place.ensures.written) set.first)
+
+pub invariant_of-self : goal.invariant_of-self
+invariant_of-self c = record { tree = (written (goal.at.invariant_of-self c).After-write_place).tree }
 
 pub returns-clause-here : goal.returns-clause-here
-returns-clause-here c =
-    let set = c.args.self.now in
-    let written : WritesPlace set.first set.words.items c.write_place.new.words (64 * set.first + c.args.place) false =
-    (rw c.deref_mut.ensures.value at c.write_place.ensures.written) set.first set.tree.levels_are (omega arith) in
-    rw (written_back c.write_place.new.words (drop (length c.write_place.new.words) set.words.items) set.words.len
-    (omega (arith, written.one_each, set.words.ok.0))) written.here
+returns-clause-here c = (written (goal.at.returns-clause-here c).After-write_place).here
 
 pub returns-clause-others : goal.returns-clause-others
-returns-clause-others c =
-    let set = c.args.self.now in
-    let written : WritesPlace set.first set.words.items c.write_place.new.words (64 * set.first + c.args.place) false =
-    (rw c.deref_mut.ensures.value at c.write_place.ensures.written) set.first set.tree.levels_are (omega arith) in
-    rw (written_back c.write_place.new.words (drop (length c.write_place.new.words) set.words.items) set.words.len
-    (omega (arith, written.one_each, set.words.ok.0))) (only_place set.first set.words.items c.write_place.new.words c.args.place false written)
+returns-clause-others c = λ k ne. (written (goal.at.returns-clause-others c).After-write_place).others k (λ e. ne (omega (arith, e)))

@@ -1,5 +1,4 @@
 use Rattle.std.proofs.Common.{◌≡◌, arith, None, replicate, ap, ◌∙◌}
-use Rattle.std.proofs.lemmas.Grind.{common_steps, elements}
 use Rattle.std.proofs.lemmas.Result.{IfOk-weaker}
 use Rattle.kc_solver.proofs.Lists.{none_fits, replicate_more}
 use Rattle.kc_solver.proofs.sessions.Session.new.Goals as goal
@@ -28,12 +27,3 @@ returns-clause-users g c =
 
 pub returns-clause-gives : goal.returns-clause-gives
 returns-clause-gives g c = c.holding.ensures.gives
-
-pub returns-in_err-users-clause-users : goal.returns-in_err-users-clause-users
-returns-in_err-users-clause-users g c = grind (arith, elements)
-
-pub returns-in_err-users-clause-gives : goal.returns-in_err-users-clause-gives
-returns-in_err-users-clause-gives g c = grind (arith, common_steps)
-
-pub returns-in_err-users-clause-system : goal.returns-in_err-users-clause-system
-returns-in_err-users-clause-system g c = grind (arith, elements)
