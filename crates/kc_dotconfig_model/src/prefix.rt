@@ -8,6 +8,8 @@ use kc_value::MAX_PREFIX_BYTES;
 
 /// What comes before the names in configuration files: a prefix, of 1 to `MAX_PREFIX_BYTES` letters, digits and `_`, or nothing,
 /// where names stand there as in the tree.
+///
+/// It has no model, to which the bytes past its length would be lost, and `Copy` needs them: public clauses cite `prefix_bytes`.
 #[derive(Clone, Copy)]
 pub struct Prefix {
     bytes: [u8; MAX_PREFIX_BYTES],

@@ -20,7 +20,7 @@ pub enum FileRead {
 }
 
 /// All bytes of a reader, or the first `MAX_FILE_BYTES` of more; nothing where a read fails. Room is made for `room` bytes at
-/// once, and `block` is read into.
+/// once, and `block` is read into, one for all files of a tree, since to clear it anew takes an instruction for each of its bytes.
 fn read_front<S: Source>(
     alloc: Global,
     source: &mut S,

@@ -1,7 +1,8 @@
 //! The meter of evaluations.
 ghost use Rattle.std.specs.Prelude.{◌≡◌, ◌+◌, ◌<◌, ◌^◌, min};
 
-/// A meter that counts evaluations of rules, up to 2^64 - 1.
+/// A meter that counts evaluations of rules, up to 2^64 - 1. It has no model, which would let it be any number, so that the law of
+/// its greatest count would fail.
 #[derive(Drop)]
 pub struct Steps {
     count: u64,

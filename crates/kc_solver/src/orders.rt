@@ -28,7 +28,7 @@ impl Order {
     }
 }
 
-/// Why a graph got no order of dependency.
+/// Why a graph got no order of dependency. Not derived by `thiserror`, since the crate uses no other.
 #[derive(Debug, Drop)]
 pub enum OrderFault {
     /// The units of a cycle: each depends on the next, and the last on the first.

@@ -48,7 +48,7 @@ pub trait System: Graph {
     /// A value as a user value, where it can be one; for contracts.
     ghost as_user: { Self → Self.Value → Option Self.User };
 
-    /// Equality of values as a test, for contracts.
+    /// Equality of values as a test, for contracts; with a law on its result, since lemmas need to decide it.
     ghost same_value: { Self.Value → Self.Value → Bool };
 
     /// Equality of user values as a test, for contracts.
@@ -57,7 +57,7 @@ pub trait System: Graph {
     /// How many steps a meter has counted, for contracts.
     ghost count: { Self.Meter → ℕ };
 
-    /// The units that a meter has recorded as evaluated, in their order, or `None` if it records none; for contracts.
+    /// The units that a meter has recorded as evaluated, in their order, or `None` if it records none, as the program's; for contracts.
     ghost recorded: { Self.Meter → Option (List ℕ) };
 
     /// The unit's value by its rule, or out of memory. This is one step of the meter (to 2^64 - 1 at most), also

@@ -55,7 +55,8 @@ continuation_count [] = 0
 continuation_count (l ∷ []) = 0
 continuation_count (l ∷ m ∷ ls) = if is_continued l then suc (continuation_count (m ∷ ls)) else 0
 
--- the column after a byte of indentation at a column: a space adds one, a tab goes to the next multiple of 8, else None
+-- the column after a byte of indentation at a column: a space adds one, a tab goes to the next multiple of 8, else None;
+-- an Option, since a definition that calls itself twice under an `if` takes exponential time to compute
 abbrev pub column_after : ℕ → ℕ → Option ℕ
 column_after n b = if b == 32 then Some (n + 1) else if b == 9 then Some ((n / 8 + 1) * 8) else None
 

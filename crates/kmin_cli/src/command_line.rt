@@ -365,7 +365,8 @@ fn task_of<'a>(alloc: Global, name: &str, matches: &ArgMatches<'a>) -> Result<Ta
     }
 }
 
-/// The verb that the name of a command means, with `--exit-code` where it is given; `None` for `compare`.
+/// The verb that the name of a command means, with `--exit-code` where it is given; `None` for `compare`, and for `help`, which clap's
+/// contract doesn't exclude.
 fn verb_of(name: &str, matches: &ArgMatches<'_>) -> Option<Verb>
     ensures { result ≡ parsed.verb_of name.now (found_of matches.now) }
 {

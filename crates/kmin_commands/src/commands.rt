@@ -161,7 +161,8 @@ static PROFILES: [&str; 2] = ["present", "classic"];
 /// The values of `--language`, which has no default.
 static LANGUAGES: [&str; 4] = ["strict", "linux", "linux-6.1", "linux-6.12"];
 
-/// The words of the options that take one of a few.
+/// The words of the options that take one of a few. They are handed down from `program`, since clap's options keep a reference to
+/// them, of which a clause can say only that it is the same one.
 #[derive(Clone, Copy)]
 pub struct Choices<'a> {
     /// Those of `--language`.

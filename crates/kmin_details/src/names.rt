@@ -6,7 +6,8 @@ ghost use Rattle.kmin_details.specs.Texts.{name_word, unknown_text, value_text};
 use kc_tree_model::are_name_bytes;
 use std::alloc::{AllocError, Global};
 
-/// A name as a text shows it: in quotes where it has a byte that names of symbols don't have, as a space.
+/// A name as a text shows it: in quotes where it has a byte that names of symbols don't have, as the space of `CONFIG_A = y`, which
+/// can't be seen at the end of a line.
 fn name_word(alloc: Global, name: &str) -> Result<String, AllocError>
     ensures { IfOk result (λ text. string_bytes text ≡ name_word name.now) }
 {

@@ -1,4 +1,5 @@
-//! The name of a tree nearest to a word.
+//! The name of a tree nearest to a word. The tips of the command line count swapped neighbours as one step, and take the first name that
+//! is near enough.
 ghost use Rattle.std.specs.Prelude.{◌≡◌, ℕ, List, map, option_map, IfOk};
 ghost use Rattle.std.specs.Borrow.{Bor};
 ghost use Rattle.kc_tree_model.specs.Trees.{Symbol};

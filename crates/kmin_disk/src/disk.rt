@@ -27,7 +27,8 @@ pub trait ReadDisk {
     fn kind(&self, path: &str) -> FileKind
         ensures { IsOfKind (content_at (disk self.now).state path.now) result };
 
-    /// A reader of the bytes of the file at a path; `None` if it can't be opened, which counts as a failure. A link at the
+    /// A reader of the bytes of the file at a path; `None` if it can't be opened, which counts as a failure, so that opening changes
+    /// the disk. A link at the
     /// end of the path is followed.
     fn open(&mut self, path: &str) -> Option<Self::File>
         ensures opens { OpensAs (readable (content_at (disk self.old).state path.now)) (option_map Self.File.Source.left result) }

@@ -11,7 +11,8 @@ use std::alloc::{AllocError, Global};
 pub const MAX_SHOWN_BYTES: usize = 200;
 
 /// A text as a message shows it: in one line, up to the last whole character within `MAX_SHOWN_BYTES`. A newline is `\n`, a tab
-/// `\t`, a backslash `\\`, and another control character `\x` with the two hexadecimal digits of its code.
+/// `\t`, a backslash `\\`, and another control character `\x` with the two hexadecimal digits of its code, also
+/// U+0080 to U+009F, which some terminals obey. Of two short texts that differ what is shown differs, too.
 pub fn shown(alloc: Global, text: &str) -> Result<String, AllocError>
     ensures value { IfOk result (λ t. string_bytes t ≡ shown text.now) }
     ensures short { IfOk result (λ t. string_len t ≤ MAX_SHOWN_BYTES) }

@@ -20,7 +20,8 @@ pub enum Reread {
 
 /// Files that are read once more for the texts of messages.
 pub trait LineFiles {
-    /// What is known of the files, at any time.
+    /// What is known of the files, at any time: a constant of the type, since standard error is handed to functions that know of its
+    /// lines alone, so no state of it could be followed through them. A test about files with some bytes picks a type for them.
     ghost known: { KnownLines };
 
     /// The line with this number, counted from 1, of a file of a tree in the folder `root`. A message may show its words if the real
