@@ -1,5 +1,5 @@
 -- Items grouped by a number.
-use Rattle.std.proofs.Common.{◌≡◌, inl, inr, ℕ, ◌==◌, eq-eqb, cond, List, [], ◌∷◌, ◌++◌, Some, None, sym, ◌∙◌, ap}
+use Rattle.std.proofs.Common.{◌≡◌, inl, inr, ℕ, ◌==◌, eq-eqb, cond, List, [], ◌∷◌, Some, None, sym, ◌∙◌, ap}
 use Rattle.std.specs.Global.{Vec}
 use Rattle.std.specs.Option.{option_map}
 use Rattle.std.specs.Map.{lookup}

@@ -27,7 +27,6 @@ use Rattle.kc_dotconfig_model.specs.declared.notice.NoticeKind.TheVariants.{Esca
 use Rattle.kc_dotconfig.specs.declared.accumulator.Accumulator.{Accumulator}
 use Rattle.kc_dotconfig_model.specs.ConfigLines.{LineMeaning, assigns, assigns_escaped, unchosen, notice, silent}
 use Rattle.kc_dotconfig_model.specs.ConfigFiles.{over, assigned, assigned_over, empty_assignment, file_assignment, notices_from}
-use Rattle.kc_dotconfig_model.specs.declared.choice_line.ChoiceLine.{ChoiceLine}
 use Rattle.kc_dotconfig_model.specs.OtherChoices.{choice_line_of, choice_lines_from}
 use Rattle.std.proofs.lemmas.List.{append-nil, append_assoc}
 use Rattle.kc_dotconfig_model.proofs.Cuts.{split}
