@@ -1,5 +1,5 @@
 -- Questions and answers, through the map that holds them.
-use Rattle.std.proofs.Common.{◌≡◌, ℕ, zero, suc, Bool, true, false, cond, List, [], ◌∷◌, ◌++◌, length, take, map, Option, Some, None, refl, sym, ap, ◌∙◌}
+use Rattle.std.proofs.Common.{◌≡◌, ℕ, zero, suc, Bool, true, false, cond, List, [], ◌∷◌, ◌++◌, take, map, Option, Some, None, refl, sym, ap, ◌∙◌}
 use Rattle.std.specs.Prelude.{Vec, bytes_eq, filter, not, option_map, is_none, is_some, IfOk, Result, Ok, Err, ◌||◌}
 use Rattle.kc_tree_model.specs.Limits.{is_in_list}
 use Rattle.kc_macros_model.specs.AnswerFiles.{RecordedAnswers}
@@ -63,10 +63,6 @@ pub take_entries : (n : ℕ) (es : List Entry) → map answer_of_entry (take n e
 take_entries zero es = refl
 take_entries (suc n) [] = refl
 take_entries (suc n) (e ∷ es) = ap (λ xs. answer_of_entry e ∷ xs) (take_entries n es)
-
-pub length_entries : (es : List Entry) → length (map answer_of_entry es) ≡ length es
-length_entries [] = refl
-length_entries (e ∷ es) = ap suc (length_entries es)
 
 -- a question is among those of a table of answers if the table has an answer to it
 pub listed_is_found : (es : RecordedAnswers) (question : List ℕ) → is_in_list question (questions_of es) ≡ is_some (keyword_in_table es question)

@@ -1,5 +1,5 @@
 -- Conjunctions with a conjunct appended.
-use Rattle.std.proofs.Common.{◌≡◌, ℕ, ◌<◌, List, [], ◌∷◌, ◌++◌, length, length-append, Option, Some, None, refl, ap, sym, subst, ◌∙◌, arith}
+use Rattle.std.proofs.Common.{◌≡◌, ℕ, ◌<◌, List, [], ◌∷◌, ◌++◌, length, length-append, Option, Some, refl, ap, sym, subst, ◌∙◌, arith}
 use Rattle.std.proofs.lemmas.List.{append-nil}
 use Rattle.kc_expr.specs.between.Arena.{Exprs, Represents, node_expr}
 use Rattle.kc_expr.specs.Expr.{Expr, both}
@@ -21,11 +21,6 @@ joined old new a b id es s c = (
   omega (arith, length-append es (node_expr old b ∷ [])),
   record { within = s.within; is = s.is ∙ ap (λ e. both e (node_expr old b)) c.1.is ∙ sym (all_more es (node_expr old b) c.0) },
 )
-
--- one expression appended to the empty conjunction is the conjunction of itself alone
-pub alone_conjunct : (exprs : Exprs) (b : ℕ) (es : List Expr) → b < length exprs.nodes → Conjoins exprs None es
-    → Conjoins exprs (Some b) (es ++ conjunct exprs (Some b))
-alone_conjunct exprs b es h e = subst (λ xs. Conjoins exprs (Some b) (xs ++ node_expr exprs b ∷ [])) (sym e) (omega arith, record { within = h; is = refl })
 
 -- a conjunction is that of its conjuncts with none appended
 pub nothing_more : (exprs : Exprs) (o : Option ℕ) (es : List Expr) → Conjoins exprs o es → Conjoins exprs o (es ++ [])

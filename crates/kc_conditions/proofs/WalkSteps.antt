@@ -14,7 +14,6 @@ use Rattle.kc_parser.specs.declared.listing.Line.{Line as CodeLine}
 use Rattle.kc_parser.specs.declared.listing.GroupHead.{GroupHead as CodeHead}
 use Rattle.kc_parser.specs.declared.listing.GroupHead.TheVariants as codes
 use Rattle.kc_parser.specs.between.ListingView.{LineNodesExist, RepresentsHead, line_in}
-use Rattle.kc_parser.proofs.ListingGrowth.{lines_held}
 use Rattle.kc_statements.proofs.GrownArenas.{attribute_same, node_held, node_same}
 use Rattle.kc_parser.proofs.AppendSteps.{grows_same}
 use Rattle.kc_tree_model.specs.Trees as tree
@@ -43,14 +42,6 @@ first_step lines conditions i d h e f =
     let l : drop i lines ≡ get_or lines i d ∷ drop (i + 1) lines = rw add-one (drop-cons lines i d h) in
     let c : drop i conditions ≡ get_or conditions i 0 ∷ drop (i + 1) conditions = rw add-one (drop-cons conditions i 0 (omega arith)) in
     rw (l, c, f) refl
-
-pub first_here : (lines : List CodeLine) (conditions : List ℕ) (i x : ℕ) (d : CodeLine) → i < length lines → length conditions ≡ length lines
-    → is_prompt (get_or lines i d).attribute ≡ true → x ≡ get_or conditions i 0
-    → Some x ≡ first_prompt (drop i lines) (drop i conditions)
-first_here lines conditions i x d h e f g =
-    let l : drop i lines ≡ get_or lines i d ∷ drop (i + 1) lines = rw add-one (drop-cons lines i d h) in
-    let c : drop i conditions ≡ get_or conditions i 0 ∷ drop (i + 1) conditions = rw add-one (drop-cons conditions i 0 (omega arith)) in
-    rw (l, c, f) (ap Some g)
 
 -- inside an `if`, the conditions are the enclosing ones with the `if`'s expression joined to the dependencies
 pub if_inside : (language : Language) (old new : Exprs) (texts : List (List ℕ)) (y id : ℕ) (d : Option ℕ) (m : Group) (a : EnclosingConditions) (opened : List Group) → Grows old new
@@ -222,9 +213,6 @@ lines_kept old new (l ∷ lines) g h =
     let e : line_in new l ≡ line_in old l = ap line (attribute_same old new l.attribute g a) in
     let f = lines_kept old new lines g (λ k d i. h (suc k) d (omega arith)) in
     cc
-
-held_later : (old new : Exprs) (lines : List CodeLine) → Grows old new → All (LineNodesExist old) lines → All (LineNodesExist new) lines
-held_later old new lines g h = lines_held old new g lines h
 
 -- the conditions of a group's attributes
 own_shown : (language : Language) (old mid far later : Exprs) (before after : List ℕ) (lines : List CodeLine) (m : Group) (opened : List Group)

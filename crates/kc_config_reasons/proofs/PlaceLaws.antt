@@ -173,9 +173,6 @@ module _ (places : List (ℕ × Bor AskingLine)) (i : ℕ) where
 pub none_yet : (places : List (ℕ × Bor AskingLine)) → [] ≡ map file_numbers (overridden (map place_view (drop (length places) places)))
 none_yet places = sym (ap (λ ps. map file_numbers (overridden (map place_view ps))) (drop-length places))
 
-pub none_asks : (places : List (ℕ × Bor AskingLine)) → None ≡ file_asking_otherwise (map place_view (drop (length places) places))
-none_asks places = sym (ap (λ ps. file_asking_otherwise (map place_view ps)) (drop-length places))
-
 -- what is found by what files keep is found by their lines
 pub all_found : {E : Type 0} (u s : ℕ) (files : List FileLines) (r : Result (Vec Overridden) E) (kept : List AssigningPlace) → kept ≡ places_kept u s 0 files
     → IfOk r (λ found. found.items ≡ map file_numbers (overridden kept))

@@ -1,7 +1,6 @@
 -- The meanings of the lines of a configuration file.
-use Rattle.std.proofs.Common.{◌≡◌, ◌<◌, ℕ, Bool, true, false, not, ◌==◌, cond, List, [], ◌∷◌, length, find, Option, Some, None, refl, sym, ◌∙◌, ap, subst, zero, suc, arith}
+use Rattle.std.proofs.Common.{◌≡◌, ◌<◌, ℕ, Bool, true, false, not, cond, List, [], ◌∷◌, length, find, Option, Some, None, refl, sym, ◌∙◌, ap, subst, zero, suc, arith}
 use Rattle.std.specs.Prelude.{IfSome, IfNone, IfOk, Result, Ok, Err, slice_get, is_some, option_map, bytes_eq}
-use Rattle.std.proofs.lemmas.Bool.{eqb-true}
 use Rattle.std.proofs.lemmas.Slice.Eq.{bytes_eq-Decides}
 use Rattle.kc_tokens.specs.Token.{is_white_byte}
 use Rattle.kc_value.specs.declared.tri.Tri.{Tri}
@@ -111,12 +110,6 @@ named_at tree say s x h is = go (slice_get tree.symbols s) refl (slice_there tre
   go None e there = let f = there.1 in cc
   go (Some symbol) e there = is symbol e
 
-pub found_at_name : {E : Type 0} (r : Result Meaning E) (tree : Tree) (say : ℕ → Symbol → LineMeaning) (s : ℕ) (o : Option ℕ) → o ≡ Some s
-    → s < length tree.symbols → IfOk r (λ meaning. (symbol : Symbol) → slice_get tree.symbols s ≡ Some symbol → meaning_view meaning ≡ say s symbol)
-    → IfOk r (λ meaning. meaning_view meaning ≡ of_named tree say o)
-found_at_name (Ok meaning) tree say s o e h is = named_at tree say s (meaning_view meaning) h is ∙ sym (ap (of_named tree say) e)
-found_at_name (Err x) tree say s o e h is = tt
-
 -- the meaning of a line `CONFIG_X=value` is that of the value for the symbol of its name
 pub value_line_means : (format : FileFormat) (tree whole : Tree) (line text name rest : List ℕ) (x : LineMeaning) → whole ≡ tree → text ≡ line
     → value_parts format.prefix text ≡ Some (name, rest)
@@ -144,14 +137,6 @@ other_line_means format tree whole line text o same is parts unset meaning_is =
 pub hash_is_silent : (line : List ℕ) → is_hash (find (λ b. not (is_white_byte b)) line) ≡ true → Some silent ≡ of_other line
 hash_is_silent [] h = refl
 hash_is_silent (b ∷ line) h = sym (ap (λ t. cond {A = Option LineMeaning} t (Some silent) None) h)
-
-pub empty_is_silent : (line : List ℕ) → (length line == 0) ≡ true → Some silent ≡ of_other line
-empty_is_silent [] h = refl
-empty_is_silent (b ∷ line) h = let n = eqb-true (length (b ∷ line)) 0 h in absurd (omega arith)
-
-pub no_hash_means_none : (line : List ℕ) → (length line == 0) ≡ false → is_hash (find (λ b. not (is_white_byte b)) line) ≡ false → None ≡ of_other line
-no_hash_means_none [] some h = cc
-no_hash_means_none (b ∷ line) some h = sym (ap (λ t. cond {A = Option LineMeaning} t (Some silent) None) h)
 
 -- in a consistent tree, a symbol that has a name is the one found by the name
 pub named_there : (tree : Tree) → IsConsistent tree → (s : ℕ) (found name : List ℕ) → option_map (λ (t : Symbol). t.name) (slice_get tree.symbols s)

@@ -7,22 +7,14 @@ use Rattle.kc_tokens.specs.TokenGrammar.{relation_text}
 use Rattle.kc_tokens.specs.declared.token.TokenKind.TheVariants.{Relation, Not, And, Or, Open, Close}
 use Rattle.kc_expr.specs.between.Arena.{Exprs}
 use Rattle.kc_expr.specs.Expr.{Expr, Operand, alone, related, negated, both, either, shown}
-use Rattle.kc_expr.specs.Grammar.{Level, ors, ands, factor}
+use Rattle.kc_expr.specs.Grammar.{ors, ands, factor}
 use Rattle.kc_reasons_model.specs.Spelling.{token, operand_token, in_parentheses, joined, under_not, spelling}
 use Rattle.kc_explanation.specs.declared.spelling.SpelledToken.{SpelledToken}
 use Rattle.kc_explanation.specs.declared.spelling.OperandPlace.{OperandPlace}
 use Rattle.kc_explanation.specs.declared.spelling.OperandPlace.TheVariants.{InOr, InAnd, Factor, BehindNot}
 use Rattle.kc_explanation.specs.between.SpelledTokens.{lexeme_of, lexemes_of, left_operand, right_operand}
 use Rattle.kc_tokens.specs.declared.token.Relop.{Relop}
-use Rattle.kc_explanation.specs.checker.SpellingWalk.{is_enclosed, past_shown, enclosed, spelling_in_reverse, inside}
-use Rattle.std.proofs.lemmas.Bool.{false≢true}
-
--- the level of the grammar at a place
-abbrev pub level_of : OperandPlace → Level
-level_of InOr = ors
-level_of InAnd = ands
-level_of Factor = factor
-level_of BehindNot = factor
+use Rattle.kc_explanation.specs.checker.SpellingWalk.{is_enclosed, enclosed, spelling_in_reverse}
 
 -- the spelling at a place
 abbrev pub spelled_at : OperandPlace → Expr → List Lexeme
@@ -148,23 +140,6 @@ pub ended_by_not : (before one two rest all operand : List Lexeme) → rest ≡ 
     → one ≡ before ++ operand → two ≡ one ++ token Not (codes "!") ∷ [] → two ≡ all
 ended_by_not before one two rest all operand is h f g =
     g ∙ ap (λ xs. xs ++ token Not (codes "!") ∷ []) f ∙ append_assoc before operand (token Not (codes "!") ∷ []) ∙ ap (λ xs. before ++ xs) (sym is) ∙ h
-
-pub enclosed_inside : (place : OperandPlace) (e : Expr) → is_enclosed place e ≡ true → inside place ≡ 1
-enclosed_inside InOr (related op a b) h = absurd (false≢true h)
-enclosed_inside InOr (both a b) h = absurd (false≢true h)
-enclosed_inside InOr (either a b) h = absurd (false≢true h)
-enclosed_inside InOr (alone a) h = absurd (false≢true h)
-enclosed_inside InOr (negated e) h = absurd (false≢true h)
-enclosed_inside InOr (shown e) h = absurd (false≢true h)
-enclosed_inside InAnd e h = refl
-enclosed_inside Factor e h = refl
-enclosed_inside BehindNot e h = refl
-
-pub past_inside : (place : OperandPlace) → inside (past_shown place) ≡ inside place
-past_inside InOr = refl
-past_inside InAnd = refl
-past_inside Factor = refl
-past_inside BehindNot = refl
 
 -- the tokens of one operand, and of a relation
 pub alone_token : (place : OperandPlace) (e : Expr) (a : Operand) → e ≡ alone a → spelling_in_reverse place e ≡ operand_token (left_operand e) ∷ []

@@ -21,19 +21,6 @@ use Rattle.kc_files.specs.between.FileRuns.{Comes, HaveSameOutcome, missing_at, 
 use Rattle.kc_files.specs.checker.PatternRuns.{found_of, slashed, IsCutPattern, Finds, FindsMore, StopsAtFolder}
 use Rattle.kc_files.proofs.ProgramLemmas.{nothing_after, grouped, same_rest, same_then, fails_then, comes_at_once, fails_at_once, same_by, same_twice, comes_as, same_listed, same_later}
 
--- a name that matches a piece comes, as a path in its folder, after the paths before it and before those of the names after it
-pub matched_more : (piece folder : List ℕ) (name : List ℕ) (ns before : List (List ℕ)) → matches_name piece name ≡ true
-    → before ++ map (λ n. folder ++ n) (filter (matches_name piece) (name ∷ ns)) ≡ (before ++ (folder ++ name) ∷ []) ++ map (λ n. folder ++ n)
-    (filter (matches_name piece) ns)
-matched_more piece folder name ns before e =
-    ap (λ b. before ++ map (λ n. folder ++ n) (cond b (name ∷ filter (matches_name piece) ns) (filter (matches_name piece) ns))) e
-    ∙ sym (append_assoc before ((folder ++ name) ∷ []) (map (λ n. folder ++ n) (filter (matches_name piece) ns)))
-
-pub unmatched_more : (piece folder : List ℕ) (name : List ℕ) (ns before : List (List ℕ)) → matches_name piece name ≡ false
-    → before ++ map (λ n. folder ++ n) (filter (matches_name piece) (name ∷ ns)) ≡ before ++ map (λ n. folder ++ n) (filter (matches_name piece) ns)
-unmatched_more piece folder name ns before e =
-    ap (λ b. before ++ map (λ n. folder ++ n) (cond b (name ∷ filter (matches_name piece) ns) (filter (matches_name piece) ns))) e
-
 -- the paths among the names of a listed folder
 few_names : (at : Place) (piece folder : List ℕ) (listed : ℕ) (all : List (List ℕ)) → nat_lt MAX_LISTED_NAMES (listed + length all) ≡ false
     → matching_names at piece folder listed all ≡ returns (found (map (λ n. folder ++ n) (filter (matches_name piece) all)) (listed + length all))
@@ -352,9 +339,6 @@ with_files_more known path paths before b h = record {
 
 pub with_files_first : (known : KnownFiles) (paths : List (List ℕ)) → HaveSameOutcome known (paths_with_files paths) (rest_with_files paths [])
 with_files_first known paths = same_by known (paths_with_files paths) (rest_with_files paths []) (sym (nothing_after (paths_with_files paths)))
-
-pub with_files_last : (known : KnownFiles) (before : List (List ℕ)) → Comes known (rest_with_files [] before) (returned before)
-with_files_last known before = subst (λ ps. Comes known (rest_with_files [] before) (returned ps)) (append-nil before) (comes_at_once known (before ++ []))
 
 -- the files of a pattern are those paths that match it and at which files are, sorted
 pub files_found : (known : KnownFiles) (at : Place) (pattern : List ℕ) (listed : ℕ) (f : FoundPaths) (paths : List (List ℕ))

@@ -4,11 +4,10 @@ use Rattle.std.specs.Prelude.{is_some, option_map, Result, Ok, Err, IfOk}
 use Rattle.kc_value.specs.Streams.{one_failure_more}
 use Rattle.kc_files.specs.declared.file_bytes.FileRead.{FileRead as CodeFile}
 use Rattle.kc_files.specs.checker.FileViews.{file_of, seen_as}
-use Rattle.kc_value.specs.declared.limits.TheConstants.{MAX_LISTED_NAMES}
 use Rattle.kc_tree_model.specs.Keywords.{keyword_in_table}
 use Rattle.kc_macros_model.specs.Worlds.{World, has_file}
-use Rattle.kc_files.specs.TreeContents.{TreeContents, StaysKnown, HasRisen, FileContent, OpensAs, FolderContent, ListsAs}
-use Rattle.kc_files.specs.between.KnownFiles.{FileRead, missing, unreadable, whole, too_long, is_there, FolderRead, names, too_many, unlisted, KnownFiles, AreBytes, IsUnreadable, Agrees, MatchFile, content_of_reader, MatchFolder, AreAsKnown, Grows}
+use Rattle.kc_files.specs.TreeContents.{TreeContents, StaysKnown, HasRisen, FileContent, FolderContent}
+use Rattle.kc_files.specs.between.KnownFiles.{FileRead, missing, unreadable, whole, too_long, is_there, FolderRead, names, too_many, unlisted, KnownFiles, AreBytes, IsUnreadable, Agrees, MatchFile, MatchFolder, AreAsKnown, Grows}
 use Rattle.kc_files.proofs.TableLemmas.{stays_found, found_or_new, found_as}
 
 pub stays_same : (t : TreeContents) → StaysKnown t t
@@ -91,39 +90,6 @@ file_more k l known path read stays m = record {
       };
 }
 
--- the result of listing a folder as it is known agrees with its known content
-pub names_matched : (content : FolderContent) (a b : ℕ) (ns : List (List ℕ)) → ListsAs content MAX_LISTED_NAMES (Some ns)
-    → MatchFolder content a b (names ns)
-names_matched None a b ns h = tt
-names_matched (Some known) a b ns h = h
-
-pub many_matched : (content : FolderContent) (a b : ℕ) → ListsAs content MAX_LISTED_NAMES None → MatchFolder content a b too_many
-many_matched None a b h = tt
-many_matched (Some known) a b h = h
-
-pub unlisted_matched : (content : FolderContent) (a b : ℕ) → HasRisen a b → MatchFolder content a b unlisted
-unlisted_matched None a b h = tt
-unlisted_matched (Some known) a b h = h
-
--- the result of opening a file as it is known agrees with its known content
-pub missing_matched : (content : FileContent) (a b : ℕ) → OpensAs content None → MatchFile content a b missing
-missing_matched None a b h = tt
-missing_matched (Some None) a b h = refl
-missing_matched (Some (Some known)) a b h = absurd (let z : ⊥ = cc in z)
-
-pub unreadable_matched : (content : FileContent) (a b : ℕ) → (content ≡ Some None → ⊥) → HasRisen a b → MatchFile content a b unreadable
-unreadable_matched None a b h k = tt
-unreadable_matched (Some None) a b h k = absurd (h refl)
-unreadable_matched (Some (Some known)) a b h k = k
-
--- the result of reading the file of a reader that is opened agrees with the known content of the file
-pub opened_matched : (content : FileContent) (left : Option (List ℕ)) (a b : ℕ) (read : FileRead) → OpensAs content (Some left)
-    → MatchFile (content_of_reader left) a b read → MatchFile content a b read
-opened_matched None left a b read h m = tt
-opened_matched (Some None) left a b read h m = absurd (let z : ⊥ = cc in z)
-opened_matched (Some (Some known)) left a b read h m =
-    subst (λ (o : Option (List ℕ)). MatchFile (content_of_reader o) a b read) (let e : left ≡ Some known = cc in e) m
-
 -- and so it does once the file is closed, and its failures are counted
 pub closed_matched : (content : FileContent) (own own_after before opened closed : ℕ) (read : FileRead) → own ≡ 0 → before ≤ opened → opened ≤ closed
     → (0 < own_after → HasRisen opened closed) → MatchFile content own own_after read → MatchFile content before closed read
@@ -141,11 +107,6 @@ pub read_matched : {E : Type 0} (content : FileContent) (own own_after before op
 read_matched content own own_after before opened closed (Err e) z l m up h = tt
 read_matched content own own_after before opened closed (Ok read) z l m up h =
     closed_matched content own own_after before opened closed (file_of read) z l m up h
-
-pub if_opened : {E : Type 0} (content : FileContent) (left : Option (List ℕ)) (a b c d : ℕ) (r : Result CodeFile E) → OpensAs content (Some left) → a ≤ b → b ≤ c
-    → c ≤ d → IfOk r (λ read. MatchFile (content_of_reader left) b c (file_of read)) → IfOk r (λ read. MatchFile content a d (file_of read))
-if_opened content left a b c d (Err e) o l m n h = tt
-if_opened content left a b c d (Ok read) o l m n h = file_over content a b c d (file_of read) l m n (opened_matched content left b c (file_of read) o h)
 
 -- the count of a reader's failures rises by a read that fails
 pub one_more_rises : (n m k : ℕ) → m ≡ n → k ≡ one_failure_more m → HasRisen n k

@@ -2,7 +2,7 @@
 use Rattle.std.proofs.Common.{◌≡◌, ℕ, suc, ◌+◌, ◌-◌, ◌<◌, ◌≤◌, Bool, true, false, ◌&&◌, ◌||◌, cond, List, [], ◌∷◌, ◌++◌, length, take, drop, get_or, refl, sym, ap, ◌∙◌, append_assoc, arith, length-drop}
 use Rattle.std.specs.Prelude.{not, bytes_eq, codes}
 use Rattle.std.specs.List.{list_any}
-use Rattle.std.proofs.lemmas.List.{append-nil, at_drop_more, at_drop_all, take_all}
+use Rattle.std.proofs.lemmas.List.{append-nil, take_all}
 use Rattle.kc_macros_model.specs.Variables.{Value}
 use Rattle.kc_macros_model.specs.declared.token_sort.TokenSort.{TokenSort}
 use Rattle.kc_macros_model.specs.declared.token_sort.TokenSort.TheVariants.{Gap, Word, Quoted, Other, Unknown}
@@ -18,27 +18,6 @@ use Rattle.kc_macro_forms.specs.checker.RealTokens.{gap_count, real_tokens, is_e
 -- the last `length xs - n` elements of a list are all but its first `n`
 pub slice_rest : {A : Type 0} (xs : List A) (n : ℕ) → take (length xs - n) (drop n xs) ≡ drop n xs
 slice_rest xs n = take_all (length xs - n) (drop n xs) (omega (arith, length-drop n xs))
-
--- if the first `i` tokens of a line are gaps and so is token `i`, counted from 0, the first `i + 1` are
-pub gap_later : (ts : List CodeToken) (i : ℕ) (t : CodeToken) → i < length ts → t ≡ get_or ts i t → is_gap (token_of t) ≡ true
-    → gap_count ts ≡ i + gap_count (drop i ts) → gap_count ts ≡ (i + 1) + gap_count (drop (i + 1) ts)
-gap_later ts i t h e g same =
-    let step : gap_count (drop i ts) ≡ suc (gap_count (drop (i + 1) ts)) =
-    at_drop_more gap_count ts i t h ∙ ap (λ (x : CodeToken). cond (is_gap (token_of x)) (suc (gap_count (drop (i + 1) ts))) 0) (sym e)
-    ∙ ap (λ b. cond b (suc (gap_count (drop (i + 1) ts))) 0) g in
-    omega (arith, same, step)
-
--- if the first `i` tokens of a line are gaps and token `i`, counted from 0, is none, the line has `i` gaps at its front
-pub gap_stops : (ts : List CodeToken) (i : ℕ) (t : CodeToken) → i < length ts → t ≡ get_or ts i t → is_gap (token_of t) ≡ false
-    → gap_count ts ≡ i + gap_count (drop i ts) → i ≡ gap_count ts
-gap_stops ts i t h e g same =
-    let step : gap_count (drop i ts) ≡ 0 =
-    at_drop_more gap_count ts i t h ∙ ap (λ (x : CodeToken). cond (is_gap (token_of x)) (suc (gap_count (drop (i + 1) ts))) 0) (sym e)
-    ∙ ap (λ b. cond b (suc (gap_count (drop (i + 1) ts))) 0) g in
-    omega (arith, same, step)
-
-pub gap_ends : (ts : List CodeToken) (i : ℕ) → length ts ≤ i → i ≤ length ts → gap_count ts ≡ i + gap_count (drop i ts) → length ts ≡ gap_count ts
-gap_ends ts i h k same = let step : gap_count (drop i ts) ≡ 0 = at_drop_all gap_count ts i h in omega (arith, same, step)
 
 -- a line of gaps alone has no other tokens
 pub real_none : (ts : List CodeToken) → length ts ≤ gap_count ts → real_tokens ts ≡ []
@@ -79,10 +58,6 @@ form_is ts t u more rest h k w = by_rest rest ∙ sym (ap form_of (h ∙ ap (λ 
     by_rest : (xs : List WrittenToken) → form_by t.bytes u (is_empty_line xs) ≡ form_by_word t.bytes u xs
     by_rest [] = refl
     by_rest (x ∷ xs) = refl
-
-pub form_of_no_word : (ts : List WrittenToken) (t u : WrittenToken) (more rest : List WrittenToken) → ts ≡ t ∷ more → more ≡ u ∷ rest → is_word t ≡ false
-    → plain ≡ form_of ts
-form_of_no_word ts t u more rest h k w = sym (ap form_of (h ∙ ap (λ xs. t ∷ xs) k) ∙ ap (λ b. cond b (form_by_word t.bytes u rest) plain) w)
 
 -- a help text follows a line of one token if this is a help word
 pub help_alone : (ts : List WrittenToken) (t : WrittenToken) (more : List WrittenToken) (b : Bool) → ts ≡ t ∷ more → b ≡ is_empty_line more → b ≡ true
@@ -127,17 +102,6 @@ unknown_real (t ∷ ts) = ap (λ b. is_unknown (token_of t) || b) (unknown_real 
 abbrev pub bytes_of : List CodeToken → List ℕ
 bytes_of ts = line_bytes (tokens_of ts)
 
-pub bytes_later : (ts : List CodeToken) (i : ℕ) (t : CodeToken) → i < length ts → t ≡ get_or ts i t → (first before after text : List ℕ) → text ≡ t.bytes
-    → after ≡ before ++ text
-    → first ≡ before ++ bytes_of (drop i ts) → first ≡ after ++ bytes_of (drop (i + 1) ts)
-bytes_later ts i t h e first before after text b k same =
-    same ∙ ap (λ x. before ++ x) (at_drop_more bytes_of ts i t h ∙ ap (λ (x : CodeToken). x.bytes ++ bytes_of (drop (i + 1) ts)) (sym e)
-    ∙ ap (λ x. x ++ bytes_of (drop (i + 1) ts)) (sym b))
-    ∙ sym (append_assoc before text (bytes_of (drop (i + 1) ts))) ∙ ap (λ x. x ++ bytes_of (drop (i + 1) ts)) (sym k)
-
-pub bytes_end : (ts : List CodeToken) (i : ℕ) → length ts ≤ i → (first out : List ℕ) → first ≡ out ++ bytes_of (drop i ts) → out ≡ first
-bytes_end ts i h first out same = sym (same ∙ ap (λ x. out ++ x) (at_drop_all bytes_of ts i h) ∙ append-nil out)
-
 -- the bytes of a line with another token in place of its first one, gaps aside
 abbrev pub with_first : WrittenToken → List CodeToken → List ℕ
 with_first new ts = line_bytes (with_nth_token 0 new (tokens_of ts))
@@ -162,9 +126,6 @@ next_none new (t ∷ ts) h = by_test (λ k. next_none new ts k) (is_gap (token_o
         → line_bytes (cond b (token_of t ∷ with_nth_token 1 new (tokens_of ts)) (token_of t ∷ with_nth_token 0 new (tokens_of ts))) ≡ t.bytes ++ bytes_of ts
     by_test ih true k = ap (λ x. t.bytes ++ x) (ih (omega (arith, k)))
     by_test ih false k = absurd (omega arith)
-
-gaps_alone : (ts : List CodeToken) → length ts ≤ gap_count ts → bytes_of ts ≡ bytes_of (take (gap_count ts) ts)
-gaps_alone ts h = ap bytes_of (sym (take_all (gap_count ts) ts h))
 
 first_some : (new : WrittenToken) (ts : List CodeToken) → gap_count ts < length ts → with_first new ts
     ≡ bytes_of (take (gap_count ts) ts) ++ (new.bytes ++ bytes_of (drop (suc (gap_count ts)) ts))
@@ -244,9 +205,6 @@ module _ (ts : List CodeToken) (n : ℕ) (e : n ≡ gap_count ts) (out one : Lis
 
   later_is : drop (suc (gap_count ts)) ts ≡ later
   later_is = ap (λ k. drop (suc k) ts) (sym e) ∙ ap (λ k. drop k ts) (let m : suc n ≡ n + 1 = omega arith in m) ∙ sym (slice_rest ts (n + 1))
-
-  two_more : (gaps text : List ℕ) → out ++ (gaps ++ text) ≡ (out ++ gaps) ++ text
-  two_more gaps text = sym (append_assoc out gaps text)
 
   -- a line's gaps, a new token in place of its first other one, and the tokens after that, appended one by one, are the line with
   -- the new token; `one`, `two` and `three` are the bytes after each step

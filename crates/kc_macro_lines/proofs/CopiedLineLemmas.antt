@@ -24,10 +24,9 @@ use Rattle.kc_macros_model.specs.LineForms.{LineForm, plain, bare_prompt, replac
 use Rattle.kc_macros_model.specs.ReadingStates.{ReadingState, progress, WrittenLine, written_line}
 use Rattle.kc_macros_model.specs.TreeExpansion.{SourceReader, form_written, short_line, tokens_written, content_written, line_written}
 use Rattle.kc_macro_lines.specs.between.CopiedLines.{IsCopied}
-use Rattle.kc_macro_lines.specs.checker.LineTexts.{has_token}
 use Rattle.kc_macro_lines.specs.checker.QuietLines.{is_acting_word, HasNoWordNext, IsQuiet}
 use Rattle.kc_macro_lines.proofs.WrittenTokenLemmas.{run_is_word}
-use Rattle.kc_macro_lines.proofs.LineTokenLemmas.{row_of_tokens, tokens_skip, any_token}
+use Rattle.kc_macro_lines.proofs.LineTokenLemmas.{row_of_tokens, tokens_skip}
 
 -- whether a text has a `$`
 abbrev pub has_dollar : List ℕ → Bool
@@ -443,18 +442,6 @@ module _ (text : List ℕ) (short : length text ≤ MAX_TEXT_BYTES) (utf8 : is_u
 
 pub copied : (text : List ℕ) → length text ≤ MAX_TEXT_BYTES → is_utf8 text ≡ true → has_dollar text ≡ false → IsQuiet (line_tokens 0 text) → IsCopied text
 copied text short utf8 plain_text quiet = record { written = copied_line text short utf8 plain_text quiet }
-
--- a line of gaps alone
-quiet_gaps : (ts : List LineToken) → list_any (λ t. not (is_gap_token t)) ts ≡ false → IsQuiet ts
-quiet_gaps [] h = tt
-quiet_gaps (gap s ∷ ts) h = quiet_gaps ts h
-quiet_gaps (run s ∷ ts) h = absurd (let z : ⊥ = cc in z)
-quiet_gaps (quoted quote s ∷ ts) h = tt
-quiet_gaps (other s ∷ ts) h = tt
-quiet_gaps (broken s ∷ ts) h = tt
-
-pub quiet_empty : (text : List ℕ) → has_token text ≡ false → IsQuiet (line_tokens 0 text)
-quiet_empty text h = quiet_gaps (line_tokens 0 text) (any_token text ∙ h)
 
 white_first : (c : ℕ) (s : List ℕ) → is_white_byte c ≡ true → line_tokens 0 (c ∷ s) ≡ gap (c ∷ []) ∷ line_tokens 0 s
 white_first c s e =

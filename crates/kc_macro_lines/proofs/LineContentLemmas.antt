@@ -1,10 +1,9 @@
 -- The content of a line, token by token.
-use Rattle.std.proofs.Common.{◌≡◌, ℕ, ◌<◌, Bool, true, false, ◌&&◌, List, [], ◌∷◌, ◌++◌, length, Option, Some, None, Result, refl, sym, ap, ◌∙◌, subst, append_assoc, arith}
+use Rattle.std.proofs.Common.{◌≡◌, ℕ, ◌<◌, Bool, true, false, ◌&&◌, List, [], ◌∷◌, ◌++◌, length, Option, Some, None, refl, sym, ap, ◌∙◌, subst, append_assoc, arith}
 use Rattle.std.proofs.lemmas.List.{map-append, append-nil}
 use Rattle.kc_macros_model.specs.Programs.{Place, Program, returns, stops, ◌>>=◌}
 use Rattle.kc_macros_model.specs.Variables.{Value, Bindings}
-use Rattle.std.specs.Borrow.{Bor}
-use Rattle.kc_macros_model.specs.LineTokens.{LineToken, run, token_bytes, line_tokens}
+use Rattle.kc_macros_model.specs.LineTokens.{LineToken, run, token_bytes}
 use Rattle.kc_macros_model.specs.WrittenTokens.{WrittenToken, token_of_text, run_value, written_token}
 use Rattle.kc_macros_model.specs.Assignments.{AssignedText, assigned, LineContent, assigns, tokens, with_token, is_gap, is_open_front, assignment_to, assignment_at, assignment_or, line_content}
 use Rattle.kc_macros_model.specs.Worlds.{returned, stopped}
@@ -17,8 +16,8 @@ use Rattle.kc_macros.specs.declared.stop.Stop.{Stop}
 use Rattle.kc_answers.specs.RunStates.{RunState}
 use Rattle.kc_macros.specs.Runs.{ends, end_of_stop, Runs}
 use Rattle.kc_macro_forms.specs.between.WrittenTokens.{token_of, tokens_of}
-use Rattle.kc_macros.specs.checker.ProgramSteps.{Leads, Steps}
-use Rattle.kc_macro_lines.specs.checker.LineFronts.{with_tokens, content_left, front_left, step_left, IsShorter}
+use Rattle.kc_macros.specs.checker.ProgramSteps.{Leads}
+use Rattle.kc_macro_lines.specs.checker.LineFronts.{with_tokens, content_left, step_left}
 use Rattle.kc_macros.proofs.RunLemmas.{then_runs, stops_early, runs_nothing, runs_stop}
 use Rattle.kc_macros.proofs.ProgramLemmas.{then_returns, then_then, then_same, runs_same, leads_same, leads_then, leads_on}
 
@@ -167,15 +166,6 @@ module _ (at : Place) (b : Bindings) where
       name_assigned [] e k y l = absurd (omega arith)
       name_assigned (c ∷ x) e k y l = after_name (returns (assigns (c ∷ x) y)) (ap named e ∙ ap (λ z. returns (assigns (c ∷ x) z)) (sym l))
 
--- a run that is the name of an assignment where one may come is the name of this assignment to the run
-pub found_assigned : (may_assign : Bool) (t : LineToken) (ts : List LineToken) (name : List ℕ) (a : AssignedText) → may_assign ≡ true → t ≡ run name
-    → Some a ≡ assignment_at may_assign t ts → assignment_to (run name) ts ≡ Some a
-found_assigned may_assign t ts name a may e h = sym (h ∙ ap (λ m. assignment_at m t ts) may ∙ ap (λ x. assignment_to x ts) e)
-
--- a step through a program is one through each program that equals it
-pub steps_same : {A X : Type 0} (s t : RunState) (p q : Program A) (next : X → Program A) (r : Result X Stop) → p ≡ q → Steps s t q next r → Steps s t p next r
-steps_same s t p q next r e a = subst (λ x. Steps s t x next r) (sym e) a
-
 module _ (at : Place) (b : Bindings) (first s t : RunState) (p q : Program LineContent) (l : Leads first p s q) (front : LineFront) (step : ContentStep)
     (k : Leads s q t (step_left at b front step)) where
   -- if the next step along a line finds an assignment, the program for the content of the line returns it
@@ -186,10 +176,3 @@ module _ (at : Place) (b : Bindings) (first s t : RunState) (p q : Program LineC
       let last : Leads s q t end = subst (λ x. Leads s q t (step_left at b front x)) e k in
       (leads_then first s t p q end l last).leads t (ends (returned (assigns a.name (assigned a.operator a.text))))
       (runs_nothing t (assigns a.name (assigned a.operator a.text)))
-
-  -- if the next step along a line gives the bytes after a token, the program for the content of the line leads to their tokens
-  pub content_goes_on : (after : Bor (List ℕ)) → step ≡ steps.Rest after → Leads first p t (front_left at b front (line_tokens 0 after.now))
-  content_goes_on after e = leads_then first s t p q (front_left at b front (line_tokens 0 after.now)) l (subst (λ x. Leads s q t (step_left at b front x)) e k)
-
-pub rest_shorter : (step : ContentStep) (after : Bor (List ℕ)) (n : ℕ) → step ≡ steps.Rest after → IsShorter step n → length after.now < n
-rest_shorter step after n e h = subst (λ x. IsShorter x n) e h

@@ -6,7 +6,7 @@ use Rattle.std.specs.List.{list_any}
 use Rattle.std.specs.Cmp.{first_so}
 use Rattle.kc_macros_model.specs.References.{Item, byte, escaped, reference, unterminated, item_bytes, reference_of, first_item, items, is_unterminated, is_reference, is_plain_dollar, inside_length}
 use Rattle.kc_macros_model.specs.ExpansionRules.{begins_reference}
-use Rattle.kc_macros_model.specs.LineTokens.{run, quoted, other, broken, extent, run_token, quoted_token}
+use Rattle.kc_macros_model.specs.LineTokens.{extent}
 use Rattle.kc_macro_lines.specs.checker.LineTexts.{first_item_of}
 use Rattle.kc_macros.proofs.PieceLemmas.{rest_is}
 
@@ -146,17 +146,6 @@ two_of_pair p n h = by_order (cases_lt 1 n)
     by_order : (1 < n) ⊎ (n ≤ 1) → 2 ≤ n
     by_order (inl l) = l
     by_order (inr l) = absurd (let z : false ≡ true = sym (ap (λ t. p && t) (le-ltb 1 n l) ∙ and_false p) ∙ h in let w : ⊥ = cc in w)
-
--- a run token is broken if one of its references has no `)`
-pub run_by : (s : List ℕ) (b : Bool) → list_any is_unterminated (items false 0 s) ≡ b → run_token s ≡ cond b (broken s) (run s)
-run_by s b h = ap (λ t. cond t (broken s) (run s)) h
-
--- a text that begins with a quote is a broken token if one of its references has no `)`, a quoted token if its closing quote is
--- there, and other bytes if not
-pub quoted_by : (n quote : ℕ) (s : List ℕ) (b d : Bool) → list_any is_unterminated (items true 0 (take n s)) ≡ b → nat_lt n (length s) ≡ d
-    → quoted_token n quote s ≡ cond b (broken (quote ∷ s)) (cond d (quoted quote (take n s)) (other (quote ∷ s)))
-quoted_by n quote s b d h k = ap (λ t. cond t (broken (quote ∷ s)) (cond (nat_lt n (length s)) (quoted quote (take n s)) (other (quote ∷ s)))) h
-    ∙ ap (λ t. cond b (broken (quote ∷ s)) (cond t (quoted quote (take n s)) (other (quote ∷ s)))) k
 
 pub whole_text : (s : List ℕ) (quote : ℕ) → slice_get s 0 ≡ Some quote → s ≡ quote ∷ drop 1 s
 whole_text [] quote h = absurd (let z : ⊥ = cc in z)

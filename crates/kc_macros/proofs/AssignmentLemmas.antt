@@ -1,5 +1,5 @@
 -- The steps of an assignment.
-use Rattle.std.proofs.Common.{◌≡◌, ℕ, ◌<◌, ◌≤◌, List, [], ◌∷◌, Option, Some, refl, sym, ap, subst}
+use Rattle.std.proofs.Common.{◌≡◌, ℕ, ◌<◌, List, [], ◌∷◌, Option, Some, refl, sym, ap, subst}
 use Rattle.kc_value.specs.declared.limits.TheConstants.{MAX_TEXT_BYTES}
 use Rattle.kc_macros_model.specs.Programs.{Place, Program, returns, fails, ◌>>=◌}
 use Rattle.kc_macros_model.specs.Variables.{Value, value_length, joined_values, Variable, simple, Bindings, with_variable}
@@ -17,13 +17,10 @@ use Rattle.kc_macros.specs.checker.PartialValues.{too_long}
 use Rattle.kc_macros.specs.checker.StoredBytes.{stored_bytes}
 use Rattle.kc_macros.proofs.RunLemmas.{then_runs, stops_early, runs_nothing, returns_as}
 use Rattle.kc_macros.proofs.ProgramLemmas.{runs_same}
-use Rattle.kc_macros.proofs.PartialValueLemmas.{fits, fits_not, long_then}
+use Rattle.kc_macros.proofs.PartialValueLemmas.{fits_not, long_then}
 
 pub stores_too_much : (s : RunState) (at : Place) (n : ℕ) → MAX_TEXT_BYTES < n → stored_bytes at n ≡ fails (too_long at)
 stores_too_much s at n h = fits_not at n (spent at n) h
-
-pub stores_by : (s t : RunState) (at : Place) (n : ℕ) (e : RunEnd (Unit {0})) → n ≤ MAX_TEXT_BYTES → Runs s t (spent at n) e → Runs s t (stored_bytes at n) e
-stores_by s t at n e h a = runs_same s t (stored_bytes at n) (spent at n) e (fits at n (spent at n) h) a
 
 module _ (s t : RunState) (at : Place) (value : Value) (v : Variable) where
   stored_is : stored at value v ≡ stored_bytes at (value_length value) >>= (λ u. returns v)

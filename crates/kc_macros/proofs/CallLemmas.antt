@@ -85,10 +85,6 @@ pub recursion_by : (names : List (Bor (List ℕ))) (name : List ℕ) (args : Lis
 recursion_by names name [] b h e = e ∙ any_of_texts name names
 recursion_by names name (a ∷ args) b h e = absurd (omega (arith, h))
 
-pub no_recursion : (names : List (Bor (List ℕ))) (name : List ℕ) (args : List Value) → 0 < length args → is_recursion (texts_of_slices names) name args ≡ false
-no_recursion names name [] h = absurd (omega arith)
-no_recursion names name (a ∷ args) h = refl
-
 pub texts_length : (ts : List (Bor (List ℕ))) → length (texts_of_slices ts) ≡ length ts
 texts_length [] = refl
 texts_length (t ∷ ts) = ap suc (texts_length ts)

@@ -1,11 +1,11 @@
 -- Lines of members, grouped by the units of their choices.
-use Rattle.std.proofs.Common.{◌≡◌, ◌≢◌, inl, inr, ℕ, zero, suc, ◌+◌, ◌<◌, ◌≤◌, Bool, true, false, ◌==◌, eq-eqb, cond, List, [], ◌∷◌, ◌++◌, length, map, take, drop, get_or, Option, Some, None, Result, IfOk, refl, sym, ◌∙◌, ap, arith}
+use Rattle.std.proofs.Common.{◌≡◌, ◌≢◌, inl, inr, ℕ, zero, suc, ◌+◌, ◌<◌, ◌≤◌, Bool, true, false, ◌==◌, cond, List, [], ◌∷◌, ◌++◌, length, map, take, drop, get_or, Option, Some, None, Result, IfOk, refl, sym, ◌∙◌, ap, arith}
 use Rattle.std.specs.Global.{Vec}
 use Rattle.std.specs.declared.alloc.AllocError.{AllocError}
 use Rattle.std.proofs.lemmas.Result.{IfOk-weaker}
 use Rattle.std.specs.Prelude.{unwrap_or, slice_get}
-use Rattle.std.proofs.lemmas.Bool.{cases_eq, ne_eqb}
-use Rattle.kc_minimal.specs.checker.LineGroups.{group_more, lines_at, line_from, by_group}
+use Rattle.std.proofs.lemmas.Bool.{cases_eq}
+use Rattle.kc_minimal.specs.checker.LineGroups.{lines_at, line_from, by_group}
 use Rattle.std.specs.List.{filter_map, range_with_len, cons_option, AllByRecursion}
 use Rattle.std.specs.List.Sorted.{IsStrictlySortedBy}
 use Rattle.std.specs.Map.{lookup, keys_of}
@@ -93,19 +93,6 @@ module _ (tree : Tree) (values : List UnitValue) where
   no_places =
       ap (map place_of) (nothing_found (λ u. other_line_of_unit tree values u (slice_get tree.units u) [])
       (λ u. none_without_lines u (slice_get tree.units u) [] refl) (range_with_len 0 (length tree.units)))
-
--- the lines in the group of a unit after a line is added to the group of its choice's unit
-pub line_grouped : (old new : Option (List (ℕ × ChoiceLine))) (l : ℕ × ChoiceLine) (u : ℕ) → new ≡ cond (u == l.1.unit) (group_more old l) old
-    → unwrap_or new [] ≡ unwrap_or old [] ++ cond (l.1.unit == u) (l ∷ []) []
-line_grouped old new l u is = elim (cases_eq u l.1.unit) [
-  | inl same ↦
-      ap (λ o. unwrap_or o []) (is ∙ ap (λ b. cond b (group_more old l) old) (eq-eqb u l.1.unit same))
-      ∙ ap (λ b. unwrap_or old [] ++ cond b (l ∷ []) []) (sym (eq-eqb l.1.unit u (sym same)))
-  | inr other ↦
-      ap (λ o. unwrap_or o []) (is ∙ ap (λ b. cond b (group_more old l) old) (ne_eqb u l.1.unit other))
-      ∙ sym (append-nil (unwrap_or old []))
-      ∙ ap (λ b. unwrap_or old [] ++ cond b (l ∷ []) []) (sym (ne_eqb l.1.unit u (λ e. other (sym e))))
-]
 
 -- numbers from one on are from each smaller one on
 from_less : (a b : ℕ) (us : List ℕ) → a ≤ b → AllByRecursion (λ u. b ≤ u) us → AllByRecursion (λ u. a ≤ u) us

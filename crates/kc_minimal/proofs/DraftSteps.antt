@@ -7,7 +7,7 @@ use Rattle.std.proofs.lemmas.List.{get_or-set_same, get_or-set_other, get_or-rep
 use Rattle.std.proofs.lemmas.Option.{slice_get_within, unwrap_or-slice_get}
 use Rattle.std.proofs.Math.Seq.{drop-cons}
 use Rattle.kc_expr.specs.Expr.{Expr}
-use Rattle.kc_tree_model.specs.Trees.{Tree, Entry, definition, choice_begins, menu_begins, menu_ends, comment}
+use Rattle.kc_tree_model.specs.Trees.{Tree, Entry, definition, menu_begins, menu_ends, comment}
 use Rattle.kc_rules_model.specs.declared.values.UnitValue.{UnitValue}
 use Rattle.kc_rules_model.specs.Reports.{is_written}
 use Rattle.kc_minimal_model.specs.SymbolLine.{ended_line}
@@ -68,11 +68,6 @@ module _ (format : FileFormat) (tree : Tree) (values : List UnitValue) (left : L
       (entry_texts format tree values seen old.gap left))
       e))
 
--- the beginning of a choice adds nothing to a draft of a full file
-pub choice_passed : (format : FileFormat) (tree : Tree) (values : List UnitValue) (left : List Entry) (draft : Draft) (c : ℕ)
-    → IsDraft format tree values (choice_begins c ∷ left) draft → IsDraft format tree values left draft
-choice_passed format tree values left draft c d = record { seen = d.seen; marked = d.marked; whole = d.whole }
-
 -- marking a symbol makes the marks those of the symbols seen with this one more
 marked_more : (n : ℕ) (xs : List Bool) (seen : List ℕ) (s : ℕ) → s < length xs → ((t : ℕ) → t < n → slice_index_or xs t false ≡ list_any (nat_eq t) seen)
     → (t : ℕ) → t < n → slice_index_or (slice_set xs s true) t false ≡ list_any (nat_eq t) (s ∷ seen)
@@ -103,17 +98,6 @@ module _ (format : FileFormat) (tree : Tree) (values : List UnitValue) (left : L
       ap (λ t. cond t (cond old.gap (10 ∷ ended_line format tree values s) (ended_line format tree values s) ++ entry_texts format tree values (s ∷ d.seen)
       false left) (entry_texts format tree values (s ∷ d.seen) old.gap left))
       (ap (λ m. is_written tree values s && not m) (sym (d.marked s there)) ∙ e)
-
-  pub symbol_passed : (is_written tree values s && not (slice_index_or old.defined.items s false)) ≡ false → new.text.items ≡ old.text.items → new.gap ≡ old.gap
-      → IsDraft format tree values (definition s ∷ left) old → IsDraft format tree values left new
-  symbol_passed e text gap d = record {
-    seen = s ∷ d.seen;
-    marked = marked_now d;
-    whole =
-        ap (λ t. t ++ entry_texts format tree values (s ∷ d.seen) new.gap left) text
-        ∙ ap (λ g. old.text.items ++ entry_texts format tree values (s ∷ d.seen) g left) gap
-        ∙ sym (ap (λ p. old.text.items ++ p) (definition_pieces d false e)) ∙ d.whole;
-  }
 
   pub symbol_written : (is_written tree values s && not (slice_index_or old.defined.items s false)) ≡ true
       → new.text.items ≡ old.text.items ++ cond old.gap (10 ∷ ended_line format tree values s) (ended_line format tree values s) → new.gap ≡ false

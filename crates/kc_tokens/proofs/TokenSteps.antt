@@ -125,15 +125,6 @@ lexemes_more ts t = map-append lexeme_of ts (t ∷ [])
 pub text_is : (line : List ℕ) (at len : ℕ) (text : List ℕ) → text ≡ take ((at + len) - at) (drop at line) → text ≡ take len (drop at line)
 text_is line at len text e = e ∙ ap (λ n. take n (drop at line)) (omega arith)
 
-pub fault_alone : {X E : Type 0} (xs : List X) (r : Result (List X) E) (e : E) → with_front xs r ≡ Err e → r ≡ Err e
-fault_alone xs (Ok ys) e h = cc
-fault_alone xs (Err f) e h = h
-
--- the run of word bytes from a word byte on is one byte longer than that from the byte after it
-pub run_on : (bs : List ℕ) (i : ℕ) → i < length bs → is_word_byte (get_or bs i 0) ≡ true → length (take_while is_word_byte (drop i bs))
-    ≡ 1 + length (take_while is_word_byte (drop (i + 1) bs))
-run_on bs i h e = rw (drop_more bs i 0 h, take_while-cons is_word_byte (get_or bs i 0) (drop (i + 1) bs), e) (omega arith)
-
 pub run_stops : (bs : List ℕ) (i : ℕ) → i < length bs → is_word_byte (get_or bs i 0) ≡ false → length (take_while is_word_byte (drop i bs)) ≡ 0
 run_stops bs i h e = rw (drop_more bs i 0 h, take_while-cons is_word_byte (get_or bs i 0) (drop (i + 1) bs), e) refl
 

@@ -18,9 +18,6 @@ pub record HasSteps (steps : List Step) (text between : List ℕ) : Type 0 where
   pub so_far : text ≡ cycle_text steps
   pub next : between ≡ glue steps
 
-pub no_steps : (text between : List ℕ) → text ≡ [] → between ≡ [] → HasSteps [] text between
-no_steps text between h k = record { so_far = h; next = k }
-
 one_more : (steps : List Step) (step : Step) → cycle_text (steps ++ step ∷ []) ≡ cycle_text steps ++ (glue steps ++ step_text step)
 one_more [] step = append-nil (step_text step)
 one_more (first ∷ steps) step =

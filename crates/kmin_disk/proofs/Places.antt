@@ -4,7 +4,7 @@ use Rattle.std.specs.Bool.{Decides}
 use Rattle.std.specs.Str.{bytes_eq}
 use Rattle.std.proofs.lemmas.Slice.Eq.{bytes_eq-Decides}
 use Rattle.kmin_disk.specs.Contents.{nothing, file, unfinished}
-use Rattle.kmin_disk.specs.Disks.{DiskState, History, Stays, IsUnchanged, Replaces, Leaves, with_newest, newest}
+use Rattle.kmin_disk.specs.Disks.{DiskState, History, Stays, IsUnchanged, Replaces, with_newest, newest}
 use Rattle.kmin_disk.specs.NewFiles.{Draft, Creates, Renames, Removes, IsSameDraft, Takes, and_then, after_rename}
 
 -- two places are equal or different
@@ -42,15 +42,6 @@ unchanged_by_removal a b c path new_path draft last made same gone = record {
     | inl is ↦ own_place_stays a b c path new_path draft last made same.own gone.gone place is
     | inr other ↦ Stays-refl (a.history place) (c.history place) (gone.others place (λ e. other (e ∙ same.own)) ∙ made.others place other)
   ];
-}
-
--- a disk on which a new file was created has that one file more, as `Leaves` says
-pub leaves_new_file : (a b : DiskState) (path new_path : List ℕ) (draft : Draft) → Creates a b path new_path draft → Leaves a b new_path
-leaves_new_file a b path new_path draft made = record {
-  places = made.places;
-  free = subst (λ o. newest (a.history o) ≢ None → newest (a.history o) ≡ Some nothing) made.own made.free;
-  left = subst (λ o. b.history o ≡ with_newest unfinished (a.history o)) made.own made.made;
-  others = λ place other. made.others place (λ e. other (e ∙ made.own));
 }
 
 pub after_rename-begun : (begun : Option (List ℕ)) (bytes : List ℕ) (history : History) → (newest history ≢ None → begun ≡ Some [])

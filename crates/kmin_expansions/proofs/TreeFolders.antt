@@ -1,31 +1,16 @@
 -- The files and the folders of a tree below a root.
-use Rattle.std.proofs.Common.{◌≡◌, ℕ, ◌≤◌, Bool, true, false, List, [], Option, Some, None, Result, Ok, Err, IfOk, Vec, refl, sym, ap, ◌∙◌, subst}
-use Rattle.std.specs.Prelude.{option_map, if◌then◌else◌}
+use Rattle.std.proofs.Common.{◌≡◌, ℕ, Bool, true, false, List, Result, refl, subst}
 use Rattle.std.specs.Str.{IsUtf8, is_utf8}
 use Rattle.std.proofs.lemmas.Str.{IsUtf8-from_is_utf8}
-use Rattle.std.specs.declared.alloc.Global.{Global}
-use Rattle.kc_files.specs.TextViews.{texts_of}
-use Rattle.kc_files.specs.declared.files.FileStop.{FileStop}
 use Rattle.kc_macros_model.specs.AnswerFiles.{RecordedAnswers}
 use Rattle.kc_macros_model.specs.Programs.{Fault, Notice}
 use Rattle.kc_macros_model.specs.ReadingStates.{ExpandedFile}
 use Rattle.kc_macros_model.specs.Worlds.{World}
 use Rattle.kc_expansion.specs.Expansions.{IsCountedExpansion, AreCountedWanted, AreCountedUnused}
-use Rattle.kc_files.specs.TreeContents.{FileContent, FolderContent, TreeContents, StaysKnown, ListsAs, IsWorldOf, IsWholeWorldOf}
+use Rattle.kc_files.specs.TreeContents.{TreeContents, IsWorldOf, IsWholeWorldOf}
 use Rattle.kc_files.specs.TreeContents as tree
-use Rattle.kmin_inputs.specs.FileContents.{Surroundings, path_below}
-use Rattle.kmin_disk.specs.Contents.{OpensAs}
-use Rattle.kmin_expansions.specs.TreeFolders.{regular_below, names_below, contents_through, contents_below}
-
--- what is known of a tree stays where what is known of the files stays and their count of failures doesn't fall
-pub stays_below : (reference failures failures_after : ℕ) (known after : Surroundings) (root : List ℕ) → after ≡ known → failures ≤ failures_after
-    → StaysKnown (contents_through reference failures known root) (contents_through reference failures_after after root)
-stays_below reference failures failures_after known after root e le =
-    record { same = ap (λ (s : Surroundings). contents_through reference failures_after s root) e; rising = le }
-
--- the contents beside a tree stay, and the count of failures doesn't fall
-pub beside_stays : (before after : TreeContents) → StaysKnown before after → after.beside ≡ before.beside
-beside_stays before after stays = ap (λ (t : TreeContents). t.beside) stays.same
+use Rattle.kmin_inputs.specs.FileContents.{Surroundings}
+use Rattle.kmin_expansions.specs.TreeFolders.{contents_through, contents_below}
 
 not_so : (b : Bool) → (b ≡ true → ⊥) → b ≡ false
 not_so true h = absurd (h refl)
@@ -33,37 +18,6 @@ not_so false h = refl
 
 pub utf8_fails : (bytes : List ℕ) → (IsUtf8 bytes → ⊥) → is_utf8 bytes ≡ false
 utf8_fails bytes h = not_so (is_utf8 bytes) (λ e. h (IsUtf8-from_is_utf8 bytes e))
-
-opens_as : (content : FileContent) (reader : Option (Option (List ℕ))) → OpensAs content reader → tree.OpensAs content reader
-opens_as None reader h = tt
-opens_as (Some None) reader h = h
-opens_as (Some (Some bytes)) reader h = h
-
--- opening the regular file at a path below the root agrees with what is known of the file of the tree
-pub opened_below : (regular : List ℕ → FileContent) (root path place : List ℕ) (reader : Option (Option (List ℕ))) → is_utf8 path ≡ true
-    → place ≡ path_below root path → OpensAs (regular place) reader → tree.OpensAs (regular_below regular root path) reader
-opened_below regular root path place reader e p h = rw e (subst (λ q. tree.OpensAs (regular q) reader) p (opens_as (regular place) reader h))
-
--- a file of a tree whose path isn't UTF-8 is known to be missing, and so isn't opened
-pub unopened_below : (regular : List ℕ → FileContent) (root path : List ℕ) (reader : Option (Option (List ℕ))) → is_utf8 path ≡ false → reader ≡ None
-    → tree.OpensAs (regular_below regular root path) reader
-unopened_below regular root path reader e h = rw e h
-
--- a file of a tree whose opening failed isn't known to be missing
-pub there_below : (regular : List ℕ → FileContent) (root path place : List ℕ) → is_utf8 path ≡ true → place ≡ path_below root path
-    → (regular place ≡ Some None → ⊥) → regular_below regular root path ≡ Some None → ⊥
-there_below regular root path place e p h f = h (ap regular p ∙ sym (ap (λ b. if b then regular (path_below root path) else Some None) e) ∙ f)
-
--- listing the folder at a path below the root agrees with what is known of the folder of the tree
-pub listed_below : (names : List ℕ → FolderContent) (root folder place : List ℕ) (most : ℕ) (r : Result (Option (Vec (Vec ℕ Global) Global)) FileStop)
-    → is_utf8 folder ≡ true → place ≡ path_below root folder → IfOk r (λ found. ListsAs (names place) most (option_map texts_of found))
-    → IfOk r (λ found. ListsAs (names_below names root folder) most (option_map texts_of found))
-listed_below names root folder place most (Err e) u p h = tt
-listed_below names root folder place most (Ok found) u p h = rw u (subst (λ q. ListsAs (names q) most (option_map texts_of found)) p h)
-
-pub unlisted_below : (names : List ℕ → FolderContent) (root folder : List ℕ) (most : ℕ) (found : List (List ℕ)) → is_utf8 folder ≡ false → found ≡ []
-    → ListsAs (names_below names root folder) most (Some found)
-unlisted_below names root folder most found u h = rw u h
 
 -- the files and folders are the same, whatever they are read through
 world_below : (reference failures : ℕ) (known : Surroundings) (root : List ℕ) (w : World) → IsWorldOf (contents_through reference failures known root) w

@@ -8,7 +8,6 @@ use Rattle.std.proofs.lemmas.List.Elements.{All-nil, All-cons, filter_map-append
 use Rattle.kc_value.specs.declared.tri.Tri.{Tri}
 use Rattle.kc_value.specs.declared.tri.Tri.TheVariants.{N, M}
 use Rattle.kc_value.specs.Tri.{tri_not}
-use Rattle.kc_tokens.specs.declared.token.Relop.{Relop}
 use Rattle.kc_expr.specs.Expr.{Expr, Operand, constant, named, quoted, alone, related, negated, both, either, shown, Environment, value}
 use Rattle.kc_expr.specs.ExpressionNames.{operand_names}
 use Rattle.kc_tree_model.specs.Trees.{Tree, Symbol}
@@ -30,57 +29,13 @@ into_part whole part before all is h = ap (λ x. before ++ x) (sym is) ∙ h
 pub nothing_left : (whole before all : List ℕ) → whole ≡ [] → before ++ whole ≡ all → before ≡ all
 nothing_left whole before all is h = sym (append-nil before) ∙ into_part whole [] before all is h
 
--- or after the last part
-pub last_part : (whole part before found all : List ℕ) → whole ≡ part → found ≡ before ++ part → before ++ whole ≡ all → found ≡ all
-last_part whole part before found all is f h = f ∙ into_part whole part before all is h
-
 module _ (tree : Tree) (names : Environment) where
-  -- what an expression of two parts has where it is off, and where it isn't
-  pub off_both : (above : Bool) (t : Tri) (e left right : Expr) (b : Bool) → e ≡ both left right → b ≡ is_off above t (value names e) → b ≡ true
-      → blamed_in_reverse tree names above t e ≡ blamed_in_reverse tree names above t right ++ blamed_in_reverse tree names above t left
-  off_both above t e left right b is test on =
-      ap (blamed_in_reverse tree names above t) is ∙ ap (λ c. cond c (blamed_in_reverse tree names above t right ++ blamed_in_reverse tree names above t left) []) (sym (test ∙ ap (λ x. is_off above t (value names x)) is) ∙ on)
-
-  pub on_both : (above : Bool) (t : Tri) (e left right : Expr) (b : Bool) → e ≡ both left right → b ≡ is_off above t (value names e) → b ≡ false
-      → blamed_in_reverse tree names above t e ≡ []
-  on_both above t e left right b is test on =
-      ap (blamed_in_reverse tree names above t) is ∙ ap (λ c. cond c (blamed_in_reverse tree names above t right ++ blamed_in_reverse tree names above t left) []) (sym (test ∙ ap (λ x. is_off above t (value names x)) is) ∙ on)
-
-  pub off_either : (above : Bool) (t : Tri) (e left right : Expr) (b : Bool) → e ≡ either left right → b ≡ is_off above t (value names e) → b ≡ true
-      → blamed_in_reverse tree names above t e ≡ blamed_in_reverse tree names above t right ++ blamed_in_reverse tree names above t left
-  off_either above t e left right b is test on =
-      ap (blamed_in_reverse tree names above t) is ∙ ap (λ c. cond c (blamed_in_reverse tree names above t right ++ blamed_in_reverse tree names above t left) []) (sym (test ∙ ap (λ x. is_off above t (value names x)) is) ∙ on)
-
-  pub on_either : (above : Bool) (t : Tri) (e left right : Expr) (b : Bool) → e ≡ either left right → b ≡ is_off above t (value names e) → b ≡ false
-      → blamed_in_reverse tree names above t e ≡ []
-  on_either above t e left right b is test on =
-      ap (blamed_in_reverse tree names above t) is ∙ ap (λ c. cond c (blamed_in_reverse tree names above t right ++ blamed_in_reverse tree names above t left) []) (sym (test ∙ ap (λ x. is_off above t (value names x)) is) ∙ on)
-
-  -- what an expression of one part has
-  pub of_negated : (above : Bool) (t : Tri) (e part : Expr) (above' : Bool) (t' : Tri) → e ≡ negated part → above' ≡ not above → t' ≡ tri_not t
-      → blamed_in_reverse tree names above t e ≡ blamed_in_reverse tree names above' t' part
-  of_negated above t e part above' t' is a b =
-      ap (blamed_in_reverse tree names above t) is ∙ ap (λ x. blamed_in_reverse tree names x (tri_not t) part) (sym a) ∙ ap (λ x. blamed_in_reverse tree names above' x part) (sym b)
 
   pub of_shown : (above : Bool) (t : Tri) (e part : Expr) (above' : Bool) (t' : Tri) → e ≡ shown part → is_never_off above t ≡ false → above' ≡ above → t' ≡ shown_limit above
       → blamed_in_reverse tree names above t e ≡ blamed_in_reverse tree names above' t' part
   of_shown above t e part above' t' is never a b =
       ap (blamed_in_reverse tree names above t) is ∙ ap (λ c. cond c [] (blamed_in_reverse tree names above (shown_limit above) part)) never
       ∙ ap (λ x. blamed_in_reverse tree names x (shown_limit above) part) (sym a) ∙ ap (λ x. blamed_in_reverse tree names above' x part) (sym b)
-
-  pub never_shown : (above : Bool) (t : Tri) (e part : Expr) → e ≡ shown part → is_never_off above t ≡ true → blamed_in_reverse tree names above t e ≡ []
-  never_shown above t e part is never =
-      ap (blamed_in_reverse tree names above t) is ∙ ap (λ c. cond c [] (blamed_in_reverse tree names above (shown_limit above) part)) never
-
-  pub of_alone : (above : Bool) (t : Tri) (e : Expr) (a : Operand) (b : Bool) → e ≡ alone a → b ≡ is_off above t (value names e)
-      → blamed_in_reverse tree names above t e ≡ cond b (operand_symbols tree a) []
-  of_alone above t e a b is test =
-      ap (blamed_in_reverse tree names above t) is ∙ ap (λ c. cond c (operand_symbols tree a) []) (sym (test ∙ ap (λ x. is_off above t (value names x)) is))
-
-  pub of_related : (above : Bool) (t : Tri) (e : Expr) (op : Relop) (a a' : Operand) (b : Bool) → e ≡ related op a a' → b ≡ is_off above t (value names e)
-      → blamed_in_reverse tree names above t e ≡ cond b (operand_symbols tree a' ++ operand_symbols tree a) []
-  of_related above t e op a a' b is test =
-      ap (blamed_in_reverse tree names above t) is ∙ ap (λ c. cond c (operand_symbols tree a' ++ operand_symbols tree a) []) (sym (test ∙ ap (λ x. is_off above t (value names x)) is))
 
   -- turned round, what the walk finds are the blamed names
   one_kept : (o : Option ℕ) → reverse (cons_option o []) ≡ cons_option o []

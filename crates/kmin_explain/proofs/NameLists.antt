@@ -14,9 +14,6 @@ use Rattle.kmin_explain.specs.Names.{is_unknown, each_once_after}
 use Rattle.kmin_explain.specs.checker.Marks.{with_meant}
 use Rattle.kmin_explain.proofs.EachOnce.{one_name}
 
-abbrev now_of : Bor (List ℕ) → List ℕ
-now_of name = name.now
-
 pub if_not_none : (some none : Bool) → some ≡ not none → none ≡ false → not some ≡ false
 if_not_none some none e f = ap not (e ∙ ap not f)
 

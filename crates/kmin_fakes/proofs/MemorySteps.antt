@@ -20,11 +20,6 @@ pub bytes_eq-other : (p q : List ℕ) → p ≢ q → bytes_eq p q ≡ false
 bytes_eq-other p q other =
     elim (bytes_eq p q) as (λ b. Decides b (p ≡ q) → b ≡ false) [ true ↦ λ d. absurd (other (d.0 refl)) | false ↦ λ d. refl ] (bytes_eq-Decides p q)
 
--- a content that is added to a history that isn't empty is its newest content
-pub newest-with_newest : (content before : Content) (history : History) → newest history ≡ Some before → newest (with_newest content history) ≡ Some content
-newest-with_newest content before [] known = (cc)
-newest-with_newest content before (last ∷ earlier) known = refl
-
 pub history_from-append : (history : History) (events : List Event) (event : Event) (path : List ℕ) → history_from history (events ++ event ∷ []) path
     ≡ history_after event path (history_from history events path)
 history_from-append history [] event path = refl

@@ -1,5 +1,5 @@
 -- The definition whose line is nearest to a place, statement by statement.
-use Rattle.std.proofs.Common.{◌≡◌, inl, inr, ℕ, ◌+◌, ◌<◌, ◌≤◌, Bool, true, false, cond, ◌&&◌, ◌==◌, List, [], ◌∷◌, Option, Some, None, take, length, get_or, reverse, refl, ap, sym, subst, ◌∙◌, arith}
+use Rattle.std.proofs.Common.{◌≡◌, inl, inr, ℕ, ◌+◌, ◌<◌, ◌≤◌, Bool, true, false, cond, ◌&&◌, ◌==◌, List, [], ◌∷◌, Option, Some, take, length, get_or, reverse, refl, ap, sym, subst, ◌∙◌, arith}
 use Rattle.std.specs.Prelude.{find, nat_le, option_and_then}
 use Rattle.std.proofs.lemmas.Bool.{cases_Bool, eq-eqb, leb-false, ne_eqb, false≢true}
 use Rattle.std.proofs.lemmas.List.{reverse-append, take_all, take_more}
@@ -58,9 +58,6 @@ module _ (newest : List Group) (at : TextPlace) (g : Group) where
 -- the first i + 1 statements, the newest first
 one_newer : (groups : List Group) (i : ℕ) (d : Group) → i < length groups → reverse (take (i + 1) groups) ≡ get_or groups i d ∷ reverse (take i groups)
 one_newer groups i d h = ap reverse (take_more groups i d h) ∙ reverse-append (take i groups) (get_or groups i d ∷ [])
-
-pub nothing_yet : (at : TextPlace) (found : Option ℕ) (nearest : ℕ) → found ≡ None → nearest ≡ 0 → HasNearest [] at found nearest
-nothing_yet at found nearest n z = record { line_is = z; found_is = n }
 
 pub nearer_next : (groups : List Group) (at : TextPlace) (i : ℕ) (d : Group) (found : Option ℕ) (nearest : ℕ) (found_next : Option ℕ) (nearest_next : ℕ)
     → i < length groups → HasNearest (reverse (take i groups)) at found nearest

@@ -1,13 +1,13 @@
 -- Words `@FILE`, and words that are put together of lists.
-use Rattle.std.proofs.Common.{◌≡◌, ◌≢◌, ℕ, suc, ◌+◌, ◌<◌, ◌≤◌, ◌==◌, true, false, List, [], ◌∷◌, ◌++◌, Option, Some, None, option_map, MatchOption, length, map, take, drop, get_or, refl, ap, sym, ◌∙◌, add-one, drop-cons, take-append-drop}
+use Rattle.std.proofs.Common.{◌≡◌, ◌≢◌, ℕ, suc, ◌+◌, ◌<◌, ◌==◌, true, false, List, [], ◌∷◌, ◌++◌, Option, Some, None, option_map, MatchOption, length, map, take, drop, get_or, refl, ap, sym, ◌∙◌, add-one, drop-cons, take-append-drop}
 use Rattle.std.specs.Borrow.{Bor}
 use Rattle.std.specs.Global.{Vec}
-use Rattle.std.specs.List.{cons_option, list_all}
+use Rattle.std.specs.List.{list_all}
 use Rattle.std.proofs.lemmas.Bool.{false_from_ne_true, eqb-true}
-use Rattle.std.proofs.lemmas.List.{map-append, drop-map, drop_all}
+use Rattle.std.proofs.lemmas.List.{map-append, drop-map}
 use Rattle.std.specs.Str.{is_utf8}
 use Rattle.kmin_lines.specs.WordLines.{are_utf8, words_in}
-use Rattle.kmin_lines.specs.WordFiles.{ends_options, file_of, files_of, first_list, further_lists, lists_after, with_lists, words_for}
+use Rattle.kmin_lines.specs.WordFiles.{ends_options, file_of, with_lists}
 use Rattle.kmin_lines.specs.between.Words.{files_view, lists_view, words_view}
 use Rattle.kmin_lines.proofs.PathLemmas.{one_fails}
 
@@ -39,24 +39,12 @@ file_fails files i file there is fails =
     (one_fails (λ file. list_all is_utf8 (words_in file)) (files_view (take i files)) file.items (files_view (drop (suc i) files)) fails)
 
 module _ (words : List (Bor (List ℕ))) (i : ℕ) (word : Bor (List ℕ)) (there : i < length words) (is : word ≡ get_or words i word) where
-  -- words from a `--` on name no file
-  pub no_files_from : ends_options word.now ≡ true → files_of (words_view (drop i words)) ≡ []
-  no_files_from ends = ap files_of (mapped_from (λ (word : Bor (List ℕ)). word.now) words i word there is) ∙ (rw ends refl)
-
-  -- words from another one on name its file, if it names one, and those of the further words
-  pub files_from : ends_options word.now ≡ false → files_of (words_view (drop i words)) ≡ cons_option (file_of word.now) (files_of (words_view (drop (i + 1) words)))
-  files_from other = ap files_of (mapped_from (λ (word : Bor (List ℕ)). word.now) words i word there is) ∙ (rw other refl)
 
   -- words from a `--` on are plain
   pub plain_from : (lists : List (List (List ℕ))) → ends_options word.now ≡ true → with_lists (words_view (drop i words)) lists ≡ words_view (drop i words)
   plain_from lists ends =
       let from = mapped_from (λ (word : Bor (List ℕ)). word.now) words i word there is in
       ap (λ ws. with_lists ws lists) from ∙ (rw ends (sym from))
-
-  -- words from another one on are those that it represents, and those of the further words
-  pub represented_from : (lists : List (List (List ℕ))) → ends_options word.now ≡ false
-      → with_lists (words_view (drop i words)) lists ≡ words_for word.now lists ++ with_lists (words_view (drop (i + 1) words)) (lists_after word.now lists)
-  represented_from lists other = ap (λ ws. with_lists ws lists) (mapped_from (λ (word : Bor (List ℕ)). word.now) words i word there is) ∙ (rw other refl)
 
 -- the lists from a place on begin with that at it
 pub lists_from : (lists : List (Vec (Bor (List ℕ)))) (used : ℕ) (list : Vec (Bor (List ℕ))) → used < length lists → list ≡ get_or lists used list
@@ -66,26 +54,9 @@ lists_from lists used list there is =
     ∙ mapped_from (λ (list : Vec (Bor (List ℕ))). words_view list.items) lists used list there is
     ∙ ap (λ rest. words_view list.items ∷ rest) (sym (drop-map (λ (list : Vec (Bor (List ℕ))). words_view list.items) (used + 1) lists))
 
--- there are no lists behind the last one
-pub no_lists_from : (lists : List (Vec (Bor (List ℕ)))) (used : ℕ) → length lists ≤ used → drop used (lists_view lists) ≡ []
-no_lists_from lists used all =
-    drop-map (λ (list : Vec (Bor (List ℕ))). words_view list.items) used lists ∙ ap (map (λ (list : Vec (Bor (List ℕ))). words_view list.items)) (drop_all used lists all)
-
 module _ (word path : List ℕ) (lists : List (List (List ℕ))) (names : Some path ≡ file_of word) where
-  -- a word that names a file represents the words of the first list
-  pub words_for_file : words_for word lists ≡ first_list lists
-  words_for_file = ap (λ (file : Option (List ℕ)). elim file [ None ↦ word ∷ [] | Some path ↦ first_list lists ]) (sym names)
-
-  pub lists_after_file : lists_after word lists ≡ further_lists lists
-  lists_after_file = ap (λ (file : Option (List ℕ)). elim file [ None ↦ lists | Some path ↦ further_lists lists ]) (sym names)
 
 module _ (word : List ℕ) (lists : List (List (List ℕ))) (plain : None ≡ file_of word) where
-  -- another word represents itself
-  pub words_for_itself : words_for word lists ≡ word ∷ []
-  words_for_itself = ap (λ (file : Option (List ℕ)). elim file [ None ↦ word ∷ [] | Some path ↦ first_list lists ]) (sym plain)
-
-  pub lists_after_itself : lists_after word lists ≡ lists
-  lists_after_itself = ap (λ (file : Option (List ℕ)). elim file [ None ↦ lists | Some path ↦ further_lists lists ]) (sym plain)
 
 -- words of a list are appended
 pub words_appended : (all old more list : List (Bor (List ℕ))) → all ≡ old ++ more → more ≡ list → words_view all ≡ words_view old ++ words_view list

@@ -1,5 +1,5 @@
 -- Inner lines of a text, in one line.
-use Rattle.std.proofs.Common.{◌≡◌, ℕ, List, [], ◌∷◌, ◌++◌, drop, sym, ◌∙◌, ap, append_assoc, append-nil}
+use Rattle.std.proofs.Common.{◌≡◌, ℕ, List, ◌∷◌, ◌++◌, drop, sym, ◌∙◌, ap, append_assoc}
 use Rattle.std.specs.Prelude.{codes}
 use Rattle.kc_value.specs.Lines.{pieces}
 use Rattle.kmin_missed.specs.MissedLines.{in_one_line}
@@ -12,8 +12,3 @@ one_more_line old one two lead line cut rest after all first second is_cut piece
     ∙ append_assoc (old ++ lead) (drop 2 line) (in_one_line (codes "; ") (pieces 10 after))
     ∙ append_assoc old lead (drop 2 line ++ in_one_line (codes "; ") (pieces 10 after))
     ∙ ap (λ ls. old ++ in_one_line lead ls) (sym pieced) ∙ before
-
--- and after the last one
-pub no_more_line : (old lead rest all : List ℕ) → rest ≡ [] → old ++ in_one_line lead (pieces 10 rest) ≡ all → old ≡ all
-no_more_line old lead rest all none before =
-    sym (append-nil old) ∙ ap (λ r. old ++ in_one_line lead (pieces 10 r)) (sym none) ∙ before

@@ -2,17 +2,13 @@
 use Rattle.std.proofs.Common.{◌≡◌, ℕ, suc, ◌+◌, ◌<◌, List, [], ◌∷◌, ◌++◌, Option, get_or, map, take, drop, length, length-append, refl, sym, ap, ◌∙◌, subst, arith, append-nil, append_assoc, drop-cons, take-append-drop, Result, Ok, Err, OnErr}
 use Rattle.std.specs.List.{flat_map}
 use Rattle.std.specs.Io.KnownBytes.{Appends}
-use Rattle.std.proofs.KnownBytes.{Appends-nil, Appends-trans}
+use Rattle.std.proofs.KnownBytes.{Appends-trans}
 use Rattle.std.proofs.lemmas.Grind.{flat_map-append}
 use Rattle.std.proofs.lemmas.List.{take-append-le, map-append}
 use Rattle.std.proofs.Math.Seq.{take-append-add, take-suc}
 use Rattle.kmin_report.specs.Reports.{ErrorLine}
 use Rattle.kmin_report.specs.StandardError.{SpelledBytes, TakesWhole, TakesPart, TakesLine, TakesLines, none, one_more}
 use Rattle.kc_files.specs.TreeContents.{HasRisen}
-
--- a writer takes the empty text whole, and is as before
-pub whole_none : (before : Option (List ℕ)) (failed : ℕ) → TakesWhole before failed [] before failed
-whole_none before failed = record { appends = Appends-nil before; unfailed = refl }
 
 pub whole_whole : (before middle after : Option (List ℕ)) (failed failed_middle failed_after : ℕ) (text more : List ℕ)
     → TakesWhole before failed text middle failed_middle → TakesWhole middle failed_middle more after failed_after
@@ -47,22 +43,6 @@ flat_map_at f xs i d h =
     ap (flat_map f) (sym (take-append-drop i xs)) ∙ flat_map-append f (take i xs) (drop i xs)
     ∙ ap (λ ys. flat_map f (take i xs) ++ flat_map f ys) (drop-cons xs i d h)
     ∙ sym (append_assoc (flat_map f (take i xs)) (f (get_or xs i d)) (flat_map f (drop (suc i) xs)))
-
-flat_map_next : {A : Type 0} (f : A → List ℕ) (xs : List A) (i : ℕ) (d : A) → i < length xs
-    → flat_map f (take (i + 1) xs) ≡ flat_map f (take i xs) ++ f (get_or xs i d)
-flat_map_next f xs i d h =
-    let n : i + 1 ≡ suc i = omega arith in
-    rw n (ap (flat_map f) (take-suc xs i d h) ∙ flat_map-append f (take i xs) (get_or xs i d ∷ [])
-    ∙ ap (λ z. flat_map f (take i xs) ++ z) (append-nil (f (get_or xs i d))))
-
--- a writer that took the texts of the first i elements of a list whole, and then the next one, took those of the first i + 1
-pub whole_next : {A : Type 0} (f : A → List ℕ) (xs : List A) (i : ℕ) (d : A) (before middle after : Option (List ℕ)) (failed failed_middle failed_after : ℕ)
-    → i < length xs
-    → TakesWhole before failed (flat_map f (take i xs)) middle failed_middle → TakesWhole middle failed_middle (f (get_or xs i d)) after failed_after
-    → TakesWhole before failed (flat_map f (take (i + 1) xs)) after failed_after
-whole_next f xs i d before middle after failed failed_middle failed_after n h k =
-    subst (λ text. TakesWhole before failed text after failed_after) (sym (flat_map_next f xs i d n))
-    (whole_whole before middle after failed failed_middle failed_after _ _ h k)
 
 pub part_next : {A : Type 0} (f : A → List ℕ) (xs : List A) (i : ℕ) (d : A) (before middle after : Option (List ℕ)) (failed failed_middle failed_after : ℕ)
     → i < length xs

@@ -1,19 +1,17 @@
 -- The details of faults, by their lines.
-use Rattle.std.proofs.Common.{◌≡◌, inl, inr, ℕ, Bool, true, false, ◌||◌, ◌==◌, cond, List, [], ◌∷◌, ◌++◌, Option, Some, None, Result, Ok, Err, IfOk, refl, sym, ap, subst}
+use Rattle.std.proofs.Common.{◌≡◌, inl, inr, ℕ, Bool, true, false, ◌||◌, ◌==◌, cond, List, [], ◌∷◌, Option, Some, None, Result, Ok, Err, IfOk, refl, sym, ap, subst}
 use Rattle.std.specs.List.{flat_map}
 use Rattle.std.specs.Str.Lossy.{utf8_lossy}
 use Rattle.kc_tokens.specs.declared.language.Language.{Language}
-use Rattle.kc_tree_model.specs.Blocks.{Position}
-use Rattle.kc_tree_model.specs.TreeFiles.{Files, path_at}
 use Rattle.kc_macros_model.specs.Programs.{Fault}
 use Rattle.kc_macros_model.specs.declared.fault.MacroKind.TheVariants.{TooMany}
 use Rattle.kmin_report.specs.StandardError.{Detail}
 use Rattle.kmin_faults.specs.SourcedPaths.{is_open}
 use Rattle.kmin_faults.specs.declared.passed_limits.Limit.TheVariants.{TreeBytes}
 use Rattle.kmin_texts.specs.KnownLines.{KnownFile, MayBeReason, MayBeUnread}
-use Rattle.kmin_texts.specs.LineDetails.{has_macro, is_given, is_of_macro_fault, is_of_missing, is_one_of, never, no_detail, of_limit, of_line, of_path, of_place, on_expanded_line, path_details, reasons, sourced, sourced_on, unread, words}
-use Rattle.kmin_texts.specs.NumberedLines.{line_at, utf8_line}
-use Rattle.kmin_details.specs.Texts.{first_place_text, missing_text, unreadable_text}
+use Rattle.kmin_texts.specs.LineDetails.{has_macro, is_given, is_of_macro_fault, is_of_missing, is_one_of, never, no_detail, of_limit, of_line, on_expanded_line, path_details, reasons, sourced, sourced_on, unread, words}
+use Rattle.kmin_texts.specs.NumberedLines.{line_at}
+use Rattle.kmin_details.specs.Texts.{missing_text, unreadable_text}
 use Rattle.kmin_details.specs.declared.places.Unreadable.{Unreadable}
 use Rattle.kmin_details.specs.declared.places.Unreadable.TheVariants.{NotThere, NoPermission, Folder, FailedRead}
 use Rattle.kmin_texts.specs.declared.kept_details.KeptDetail.{KeptDetail}
@@ -24,34 +22,10 @@ use Rattle.kmin_texts.proofs.OwnDetails.{first_one, later_one}
 pub words_of : (f : List ℕ → List ℕ) (text given : List ℕ) → given ≡ f text → is_one_of (of_line (λ t. words (f t) ∷ []) (Some text)) (words given) ≡ true
 words_of f text given e = subst (λ g. is_one_of (words (f text) ∷ []) (words g) ≡ true) (sym e) (first_one (words (f text)) [])
 
--- what a function gives of a line of UTF-8
-pub on_utf8 : (f : List ℕ → List Detail) (line text : List ℕ) (d : Detail) → utf8_line (Some line) ≡ Some text → MayBe (is_one_of (f text)) d
-    → MayBe (is_one_of (of_line f (utf8_line (Some line)))) d
-on_utf8 f line text d utf8 h = subst (λ o. MayBe (is_one_of (of_line f o)) d) (sym utf8) h
-
--- a place that is found, with the name of its file
-pub at_path : (root : List ℕ) (names : Files) (place : Position) (path text : List ℕ) → Some path ≡ path_at names place.file → text ≡ root ++ 47 ∷ path
-    → is_one_of (of_place root names (Some place)) (words (first_place_text text place.line)) ≡ true
-at_path root names place path text found e =
-    subst (λ o. is_one_of (of_path root o place.line) (words (first_place_text text place.line)) ≡ true) found
-    (subst (λ t. is_one_of (words (first_place_text t place.line) ∷ []) (words (first_place_text text place.line)) ≡ true) e
-    (first_one (words (first_place_text text place.line)) []))
-
--- a path that a line sources
-pub open_path : (known_of : List ℕ → KnownFile) (path : List ℕ) (d : Detail) → is_open path ≡ true → is_one_of (words (utf8_lossy path) ∷ []) d ≡ true
-    → is_one_of (sourced known_of (Some path)) d ≡ true
-open_path known_of path d o h =
-    subst (λ b. is_one_of (cond b (words (utf8_lossy path) ∷ []) (path_details (known_of path) path)) d ≡ true) (sym o) h
-
 pub plain_path : (known_of : List ℕ → KnownFile) (path : List ℕ) (d : Detail) → is_open path ≡ false → is_one_of (path_details (known_of path) path) d ≡ true
     → is_one_of (sourced known_of (Some path)) d ≡ true
 plain_path known_of path d o h =
     subst (λ b. is_one_of (cond b (words (utf8_lossy path) ∷ []) (path_details (known_of path) path)) d ≡ true) (sym o) h
-
-pub may_plain_path : (known_of : List ℕ → KnownFile) (path : List ℕ) (d : Detail) → is_open path ≡ false → MayBe (is_one_of (path_details (known_of path) path)) d
-    → MayBe (is_one_of (sourced known_of (Some path))) d
-may_plain_path known_of path d o (inl none) = inl none
-may_plain_path known_of path d o (inr is) = inr (plain_path known_of path d o is)
 
 -- the details for some reasons
 abbrev for_reasons : (path : List ℕ) → List Unreadable → List Detail
@@ -141,12 +115,6 @@ of_missing language known_of (Some (Ok bytes)) path number d h = either_way (has
     either_way : (a b c : Bool) → (b || c) ≡ true → (a || b || c) ≡ true
     either_way true b c h = refl
     either_way false b c h = h
-
--- the limit of an expansion, at a line or of all files
-pub of_all_files : (language : Language) (known_of : List ℕ → KnownFile) (fault : Fault) (d : Detail) → (fault.at.line == 0) ≡ true
-    → is_one_of (of_limit (Some TreeBytes)) d ≡ true → is_of_macro_fault language known_of fault TooMany d ≡ true
-of_all_files language known_of fault d z h =
-    subst (λ b. cond b (is_one_of (of_limit (Some TreeBytes)) d) (is_given (known_of fault.at.file) (λ bytes. on_expanded_line (line_at bytes fault.at.line)) never d) ≡ true) (sym z) h
 
 pub of_expanded : (language : Language) (known_of : List ℕ → KnownFile) (fault : Fault) (d : Detail) → (fault.at.line == 0) ≡ false
     → is_given (known_of fault.at.file) (λ bytes. on_expanded_line (line_at bytes fault.at.line)) never d ≡ true → is_of_macro_fault language known_of fault TooMany d ≡ true

@@ -1,6 +1,5 @@
 pub mod NumberedLines
 pub mod OwnDetails
-pub mod OtherKinds
 pub mod FaultSteps
 pub mod NoticeSteps
 pub mod Spaced

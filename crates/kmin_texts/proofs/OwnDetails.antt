@@ -1,16 +1,16 @@
 -- Details that are those of lines.
-use Rattle.std.proofs.Common.{◌≡◌, ◌⊎◌, inl, inr, ℕ, Bool, true, false, ◌||◌, ◌&&◌, cond, List, [], ◌∷◌, map, Option, Some, None, Result, Ok, Err, refl, sym, ap, subst, ◌∙◌}
-use Rattle.std.specs.Prelude.{bytes_eq, slice_get}
+use Rattle.std.proofs.Common.{◌≡◌, inl, inr, ℕ, Bool, true, false, ◌||◌, ◌&&◌, cond, List, [], ◌∷◌, Option, Some, None, Ok, Err, refl, sym, ap, subst, ◌∙◌}
+use Rattle.std.specs.Prelude.{bytes_eq}
 use Rattle.std.proofs.Math.Bool.{or-true}
 use Rattle.std.proofs.lemmas.Slice.Eq.{bytes_eq-Decides}
 use Rattle.kmin_messages.specs.ShownTexts.{shown}
 use Rattle.kmin_report.specs.Reports.{ErrorLine}
 use Rattle.kmin_report.specs.StandardError.{Detail}
-use Rattle.kmin_texts.specs.KnownLines.{IsLineOf, KnownFile, KnownLines, MayBeUnread}
+use Rattle.kmin_texts.specs.KnownLines.{IsLineOf, KnownFile, KnownLines}
 use Rattle.kmin_texts.specs.LineDetails.{are_same_names, is_detail_of, is_given, is_one_of, is_same_detail, no_detail}
 use Rattle.kmin_texts.specs.NumberedLines.{line_at}
 use Rattle.kmin_details.specs.ReportMessages.{line_in}
-use Rattle.kmin_texts.specs.Spellings.{AskedForm, spelling_of}
+use Rattle.kmin_texts.specs.Spellings.{AskedForm}
 use Rattle.kmin_details.specs.declared.places.Unreadable.{Unreadable}
 use Rattle.kmin_details.specs.declared.places.Unreadable.TheVariants.{FailedRead}
 use Rattle.kmin_texts.specs.between.KeptDetails.{MayBe}
@@ -38,19 +38,6 @@ by_line (Some (Err why)) number line f of_reason d h is = absurd h
 by_line (Some (Ok bytes)) number line f of_reason d h is =
     subst (λ l. (is_one_of (of_reason FailedRead) d || is_one_of (f l) d) ≡ true) (sym h)
     (ap (λ b. is_one_of (of_reason FailedRead) d || b) is ∙ or-true (is_one_of (of_reason FailedRead) d))
-
-pub may_by_line : (known : KnownFile) (number : ℕ) (line : Option (List ℕ)) (f : Option (List ℕ) → List Detail) (of_reason : Unreadable → List Detail) (d : Detail)
-    → IsLineOf known number line → MayBe (is_one_of (f line)) d → MayBe (is_given known (λ bytes. f (line_at bytes number)) of_reason) d
-may_by_line known number line f of_reason d h (inl none) = inl none
-may_by_line known number line f of_reason d h (inr is) = inr (by_line known number line f of_reason d h is)
-
--- what a file gives for the reason why it can't be read
-pub by_reason : (known : KnownFile) (of_bytes : List ℕ → List Detail) (of_reason : Unreadable → List Detail) (why : Unreadable) (d : Detail)
-    → MayBeUnread known why → is_one_of (of_reason why) d ≡ true → is_given known of_bytes of_reason d ≡ true
-by_reason None of_bytes of_reason why d h is = refl
-by_reason (Some (Err known)) of_bytes of_reason why d h is = subst (λ w. is_one_of (of_reason w) d ≡ true) h is
-by_reason (Some (Ok bytes)) of_bytes of_reason why d h is =
-    ap (λ b. b || is_one_of (of_bytes bytes) d) (subst (λ w. is_one_of (of_reason w) d ≡ true) h is)
 
 -- a detail that passes a test passes one that is implied
 pub may_also : (p q : Detail → Bool) (d : Detail) → (p d ≡ true → q d ≡ true) → MayBe p d → MayBe q d

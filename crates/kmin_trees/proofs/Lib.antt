@@ -2,7 +2,6 @@ pub mod TreeResults
 pub mod TextGrowth
 pub mod MissingFiles
 pub mod UnfailedStops
-pub mod FileNameLemmas
 pub mod JobTrees
 pub mod PathLists
 pub mod KnownTrees

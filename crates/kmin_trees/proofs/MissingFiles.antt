@@ -1,14 +1,11 @@
 -- Files that count as missing while the files of a tree come in.
-use Rattle.std.proofs.Common.{◌≡◌, ℕ, suc, ◌+◌, ◌<◌, ◌≤◌, Bool, true, false, ◌⊎◌, inl, inr, List, [], ◌∷◌, length, get_or, take, Option, Some, None, Ok, Err, Result, refl, sym, ap, ◌∙◌, subst, map, arith}
+use Rattle.std.proofs.Common.{◌≡◌, ℕ, suc, ◌+◌, ◌<◌, ◌≤◌, Bool, true, false, ◌⊎◌, inl, inr, List, [], ◌∷◌, length, get_or, take, Option, Some, None, Ok, Err, Result, refl, ap, ◌∙◌, arith}
 use Rattle.std.specs.Prelude.{◌≢◌, ◌++◌, bytes_eq, nat_lt, filter_map, is_some, not, IfOk, IfErr, IfNone, if◌then◌else◌}
 use Rattle.std.specs.List.{All}
 use Rattle.std.specs.Map.{lookup}
 use Rattle.std.proofs.lemmas.Bool.Decides.{nat_tests}
 use Rattle.kc_parser.specs.between.MemoryFaults.{no_memory}
 use Rattle.std.proofs.lemmas.List.Elements.{All-more, All-weaker, All-same, filter_passes}
-use Rattle.kc_value.specs.declared.reader_bytes.ReadEnd.{ReadEnd}
-use Rattle.kc_value.specs.declared.reader_bytes.ReadEnd.TheVariants.{AtFailure}
-use Rattle.kc_value.specs.ReaderFailures.{failures_after_reading}
 use Rattle.kc_tree_model.specs.TreeFiles.{Files, file_at, with_path, with_file}
 use Rattle.kc_tree_model.specs.Blocks.{Group, sourced_path}
 use Rattle.kc_tree_model.specs.Limits.{without_repeats}
@@ -25,7 +22,7 @@ use Rattle.kc_files.specs.TreeContents.{FileContent, HasRisen}
 use Rattle.kmin_disk.specs.Contents.{OpensAs}
 use Rattle.kmin_inputs.specs.FileContents.{path_below}
 use Rattle.kmin_trees.specs.MissingFiles.{MayBeMissing, LacksOnlyMissing, lacks_none, lacks_some, MissesOnlyMissing}
-use Rattle.kmin_trees.specs.between.InsertedFiles.{AreTried, AreInserted}
+use Rattle.kmin_trees.specs.between.InsertedFiles.{AreTried}
 use Rattle.kmin_inputs.proofs.FailureCounts.{rises_earlier, rises_later, closed_rises}
 
 -- a file that can't be opened isn't known to be there
@@ -45,10 +42,6 @@ pub missing_over : (content : FileContent) (a b c d : ℕ) → a ≤ b → b ≤
 missing_over None a b c d l m n h = tt
 missing_over (Some None) a b c d l m n h = tt
 missing_over (Some (Some bytes)) a b c d l m n h = rises_earlier a c d n (rises_later a b c l m h)
-
--- the count of a reader's failures rises where reading ends at a failure
-pub rose_at_failure : (before after : ℕ) (end : ReadEnd) → end ≡ AtFailure → after ≡ failures_after_reading before end → HasRisen before after
-rose_at_failure before after end e h = λ lt. omega (arith, h ∙ ap (failures_after_reading before) e)
 
 -- texts of which each missing file may count as missing
 pub lacks_over : (content_of : List ℕ → FileContent) (root first : List ℕ) (texts : Files) (a b c d : ℕ) → a ≤ b → b ≤ c → c ≤ d
