@@ -1,21 +1,20 @@
 -- A file of answers that was read as far as it goes.
-use Rattle.std.proofs.Common.{◌≡◌, ◌≢◌, ◌⊎◌, inl, inr, ℕ, ◌+◌, ◌<◌, ◌≤◌, Bool, true, false, cond, List, [], ◌∷◌, length, take, Option, Some, None, Result, Ok, Err, sym, ap, subst, ◌∙◌}
+use Rattle.std.proofs.Common.{◌≢◌, ◌⊎◌, subst}
 use Rattle.std.specs.Prelude.{IfErr, nat_lt}
 use Rattle.std.specs.Io.KnownBytes.{Consumes}
-use Rattle.std.specs.Str.{is_utf8}
+use Rattle.kc_answers.proofs.Common.{◌≡◌, inl, inr, ℕ, ◌+◌, ◌<◌, ◌≤◌, Bool, true, false, cond, List, [], ◌∷◌, length, take, Option, Some, None, Result, Ok, Err,
+    sym, ap, ◌∙◌, is_utf8, take_all, keyword_in_table, PhysicalLine, split_at_newlines, without_white_end, AnswersFault, MAX_ANSWER_BYTES, MAX_ANSWER_LINES,
+    Answer, RecordedAnswers, meaning_of_line, LinesSoFar, fault_at, with_meaning, fault_of_line, with_line, FileEnd, complete, cut_by, and_then, recorded_from,
+    first_line, end_of_file}
 use Rattle.std.proofs.lemmas.Bool.{lt-ltb, le-ltb}
-use Rattle.std.proofs.lemmas.List.{take_all}
-use Rattle.kc_tree_model.specs.Keywords.{keyword_in_table}
-use Rattle.kc_tree_model.specs.LogicalLines.{PhysicalLine, split_at_newlines, without_white_end}
 use Rattle.kc_macros_model.specs.declared.fault.AnswersKind.{AnswersKind}
 use Rattle.kc_macros_model.specs.declared.fault.AnswersKind.TheVariants.{Malformed, TwoAnswers, NotUtf8, LineTooLong, TooManyLines, TooLarge, Read, OutOfMemory}
-use Rattle.kc_macros_model.specs.declared.fault.AnswersFault.{AnswersFault}
 use Rattle.std.specs.Option.{option_or}
-use Rattle.kc_value.specs.declared.limits.TheConstants.{MAX_ANSWER_BYTES, MAX_ANSWER_LINES, MAX_ANSWER_LINE_BYTES}
-use Rattle.kc_macros_model.specs.Programs.{Answer}
-use Rattle.kc_macros_model.specs.AnswerFiles.{RecordedAnswers, AnswerLine, comment, answer, command, malformed, meaning_of_line, is_same_answer, LinesSoFar, fault_at, one_line_more, with_answer, malformed_line, with_meaning, fault_of_size, fault_of_line, with_line, FileEnd, complete, cut_by, unless_waiting, cut_line, and_then, recorded_from, first_line, answers_read}
+use Rattle.kc_value.specs.declared.limits.TheConstants.{MAX_ANSWER_LINE_BYTES}
+use Rattle.kc_macros_model.specs.AnswerFiles.{AnswerLine, comment, answer, command, malformed, is_same_answer, one_line_more, with_answer, malformed_line,
+    fault_of_size, unless_waiting, cut_line, answers_read}
 use Rattle.kc_answers.specs.checker.AnswerFaults.{no_memory}
-use Rattle.kc_answers.specs.ReadAnswers.{ReadsToEnd, end_of_file, AreRecorded, AreAnswersRefused}
+use Rattle.kc_answers.specs.ReadAnswers.{ReadsToEnd, AreRecorded, AreAnswersRefused}
 
 -- a file that a fault cuts isn't recorded
 cut_is_refused : (kind : AnswersKind) (lines : LinesSoFar) (ls : List PhysicalLine) (r : RecordedAnswers) → recorded_from (cut_by kind) lines ls ≡ Ok r → ⊥

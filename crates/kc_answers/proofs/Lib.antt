@@ -1,3 +1,4 @@
+pub mod Common
 pub mod TableLemmas
 pub mod RecordLemmas
 pub mod AnswerFileLemmas

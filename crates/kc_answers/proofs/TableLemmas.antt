@@ -1,17 +1,11 @@
 -- Questions and answers, through the map that holds them.
-use Rattle.std.proofs.Common.{◌≡◌, ℕ, zero, suc, Bool, true, false, cond, List, [], ◌∷◌, ◌++◌, take, map, Option, Some, None, refl, sym, ap, ◌∙◌}
-use Rattle.std.specs.Prelude.{Vec, bytes_eq, filter, not, option_map, is_none, is_some, IfOk, Result, Ok, Err, ◌||◌}
+use Rattle.kc_answers.proofs.Common.{◌≡◌, ℕ, zero, suc, Bool, true, false, cond, List, [], ◌∷◌, ◌++◌, take, map, Option, Some, None, refl, sym, ap, ◌∙◌, Vec,
+    bytes_eq, option_map, is_none, RecordedAnswers, questions_of, Global, bytes_eq-Decides, insert_entry, keys_of, keyword_in_table, Answer, answer_of_entry}
+use Rattle.std.specs.Prelude.{filter, not, is_some, IfOk, Result, Ok, Err, ◌||◌}
 use Rattle.kc_tree_model.specs.Limits.{is_in_list}
-use Rattle.kc_macros_model.specs.AnswerFiles.{RecordedAnswers}
-use Rattle.kc_answers.specs.RunStates.{questions_of, with_question}
-use Rattle.std.specs.declared.alloc.Global.{Global}
-use Rattle.std.proofs.lemmas.Slice.Eq.{bytes_eq-Decides}
-use Rattle.indexmap.specs.IndexMap.{insert_entry}
-use Rattle.std.specs.Map.{keys_of, lookup}
-use Rattle.kc_tree_model.specs.Keywords.{keyword_in_table}
-use Rattle.kc_macros_model.specs.Programs.{Answer}
+use Rattle.kc_answers.specs.RunStates.{with_question}
+use Rattle.std.specs.Map.{lookup}
 use Rattle.kc_macros_model.specs.Worlds.{not_in}
-use Rattle.kc_answers.specs.checker.TableView.{answer_of_entry}
 
 pub bytes_eq_turned : (x y : List ℕ) → bytes_eq x y ≡ bytes_eq y x
 bytes_eq_turned x y = by_tests (bytes_eq x y) (bytes_eq y x) refl refl

@@ -1,10 +1,9 @@
 -- Conjunctions with a conjunct appended.
-use Rattle.std.proofs.Common.{◌≡◌, ℕ, ◌<◌, List, [], ◌∷◌, ◌++◌, length, length-append, Option, Some, refl, ap, sym, subst, ◌∙◌, arith}
+use Rattle.kc_conditions.proofs.Common.{◌≡◌, ℕ, ◌<◌, List, [], ◌∷◌, ◌++◌, length, length-append, Option, Some, refl, ap, sym, subst, ◌∙◌, arith, Exprs,
+    Represents, node_expr, Expr, conjunction_of, Conjoins, conjunct}
 use Rattle.std.proofs.lemmas.List.{append-nil}
-use Rattle.kc_expr.specs.between.Arena.{Exprs, Represents, node_expr}
-use Rattle.kc_expr.specs.Expr.{Expr, both}
-use Rattle.kc_tree_model.specs.Conditions.{conjunction_from, conjunction_of}
-use Rattle.kc_conditions.specs.checker.Conjunctions.{Conjoins, conjunct}
+use Rattle.kc_expr.specs.Expr.{both}
+use Rattle.kc_tree_model.specs.Conditions.{conjunction_from}
 
 all_from_more : (e : Expr) (es : List Expr) (f : Expr) → conjunction_from e (es ++ f ∷ []) ≡ both (conjunction_from e es) f
 all_from_more e [] f = refl

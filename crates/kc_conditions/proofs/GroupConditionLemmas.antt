@@ -1,16 +1,12 @@
 -- The conditions of groups, by the groups' numbers.
-use Rattle.std.proofs.Common.{◌≡◌, ℕ, zero, suc, ◌+◌, ◌-◌, ◌<◌, ◌≤◌, false, cond, List, [], ◌∷◌, length, get_or, drop, reverse, refl, ap, sym, ◌∙◌, arith}
-use Rattle.std.specs.Prelude.{slice_range, nat_lt}
+use Rattle.std.proofs.Common.{zero}
+use Rattle.std.specs.Prelude.{nat_lt}
 use Rattle.std.proofs.lemmas.Bool.{lt-ltb}
 use Rattle.std.proofs.lemmas.List.{get_or-reverse, length-reverse}
-use Rattle.kc_tokens.specs.declared.language.Language.{Language}
-use Rattle.kc_expr.specs.between.Arena.{Exprs}
-use Rattle.kc_tree_model.specs.Blocks.{Group, open_blocks}
-use Rattle.kc_tree_model.specs.Conditions.{group_in_context}
-use Rattle.kc_conditions.specs.between.GroupConditions.{no_conditions, conditions_at, conditions_end, own_conditions}
-use Rattle.kc_checks.specs.between.Summaries.{read_before}
-use Rattle.kc_conditions.specs.between.Walks.{RepresentsConditions, RepresentsAllConditions}
-use Rattle.kc_conditions.specs.declared.group_walk.GroupConditions.{GroupConditions}
+use Rattle.kc_conditions.proofs.Common.{◌≡◌, ℕ, suc, ◌+◌, ◌-◌, ◌<◌, ◌≤◌, false, cond, List, [], ◌∷◌, length, get_or, drop, reverse, refl, ap, sym, ◌∙◌, arith,
+    slice_range, Language, Exprs, Group, open_blocks, group_in_context, no_conditions, conditions_at, read_before, RepresentsConditions, RepresentsAllConditions,
+    GroupConditions}
+use Rattle.kc_conditions.specs.between.GroupConditions.{conditions_end, own_conditions}
 
 -- the stored conditions of group `i` are those of the group that was read with this number, and lie within the list
 pub record IsConditionedAt (language : Language) (e : Exprs) (texts : List (List ℕ)) (conditions : List ℕ) (groups : List GroupConditions) (read : List Group) (i : ℕ) : Type 0 where

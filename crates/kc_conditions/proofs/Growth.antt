@@ -1,25 +1,16 @@
 -- Joined expressions stay so as the arena grows.
-use Rattle.std.proofs.Common.{◌≡◌, ℕ, ◌<◌, Bool, true, false, cond, List, [], ◌∷◌, ◌++◌, length, get_or, take, map, Option, Some, None, suc, ◌+◌, refl, ap, sym, subst, ◌∙◌, arith, append_assoc, append-nil}
-use Rattle.std.specs.Prelude.{All, IfSome}
+use Rattle.std.proofs.Common.{append_assoc}
+use Rattle.kc_conditions.proofs.Common.{◌≡◌, ℕ, ◌<◌, Bool, true, false, cond, List, [], ◌∷◌, ◌++◌, length, get_or, take, map, Option, Some, None, suc, ◌+◌, refl,
+    ap, sym, subst, ◌∙◌, arith, append-nil, All, IfSome, Exprs, Represents, node_expr, Grows, Expr, represents_on, AttributeNodesExist, is_prompt,
+    conjunct_given, grows_on, node_held, node_same, LineNodesExist, conjunction_of, visible_conjunct, Conjoins, conjunct, conjunct_views, AreJoined, AreAppended,
+    condition_view, line_condition, or_yes, Dependencies, Visibles, EntryConditions}
 use Rattle.std.proofs.lemmas.List.{map-append, take_more}
 use Rattle.std.proofs.lemmas.List.Elements.{All-append, All-cons, All-nil}
-use Rattle.kc_expr.specs.between.Arena.{Exprs, Represents, node_expr, Grows}
-use Rattle.kc_expr.specs.Expr.{Expr}
-use Rattle.kc_expr.proofs.StoreLemmas.{represents_on}
-use Rattle.kc_statements.specs.between.StatementViews.{AttributeNodesExist, IfNodeExists, is_prompt, if_given, conjunct_given}
+use Rattle.kc_statements.specs.between.StatementViews.{IfNodeExists, if_given}
 use Rattle.kc_statements.specs.declared.statement.Attribute.{Attribute as CodeAttribute}
 use Rattle.kc_statements.specs.declared.statement.Attribute.TheVariants as attributes
-use Rattle.kc_statements.proofs.ArenaGrowth.{grows_on}
-use Rattle.kc_statements.proofs.GrownArenas.{node_held, node_same}
 use Rattle.kc_parser.specs.declared.listing.Line.{Line as CodeLine}
-use Rattle.kc_parser.specs.between.ListingView.{LineNodesExist}
-use Rattle.kc_tree_model.specs.Conditions.{conjunction_of, visible_conjunct}
-use Rattle.kc_conditions.specs.checker.Conjunctions.{Conjoins, conjunct}
-use Rattle.kc_conditions.specs.checker.Conjuncts.{conjunct_views, AreJoined, AreAppended, condition_view, line_condition}
-use Rattle.kc_conditions.specs.between.Walks.{or_yes}
 use Rattle.kc_statements.specs.declared.statement.Conjuncts.{Conjuncts}
-use Rattle.kc_statements.specs.declared.statement.Conjuncts.TheVariants.{Dependencies, Visibles}
-use Rattle.kc_conditions.specs.declared.conditions.EntryConditions.{EntryConditions}
 
 pub conjoins_on : (old new : Exprs) → Grows old new → (o : Option ℕ) (es : List Expr) → Conjoins old o es → Conjoins new o es
 conjoins_on old new g None es h = h

@@ -1,3 +1,4 @@
+pub mod Common
 pub mod ConjunctionLemmas
 pub mod GroupConditionLemmas
 pub mod Growth

@@ -1,37 +1,30 @@
 -- Steps of a walk through the groups.
-use Rattle.std.proofs.Common.{◌≡◌, inl, inr, ℕ, suc, ◌+◌, ◌-◌, ◌<◌, ◌≤◌, Bool, true, false, cond, List, [], ◌∷◌, ◌++◌, length, get_or, take, drop, map, reverse, Option, Some, None, refl, ap, sym, subst, ◌∙◌, arith, append-nil, length-append, length-drop, drop-cons, add-one}
-use Rattle.std.specs.Prelude.{All, IfSome, slice_get, slice_range, option_to_list, filter_map}
-use Rattle.std.proofs.lemmas.List.{reverse-append, take_all, take-append-le, drop-append-le}
+use Rattle.std.proofs.Common.{inl, inr, length-drop, drop-cons, add-one}
+use Rattle.std.specs.Prelude.{option_to_list, filter_map}
+use Rattle.std.proofs.lemmas.List.{reverse-append, take-append-le, drop-append-le}
 use Rattle.std.proofs.Math.Seq.{drop-append_seam}
-use Rattle.kc_tokens.specs.Languages.{is_linux_6_12}
-use Rattle.kc_tokens.specs.declared.language.Language.{Language}
-use Rattle.kc_expr.specs.between.Arena.{Exprs, Represents, node_expr, Grows}
-use Rattle.kc_expr.specs.Expr.{Expr}
-use Rattle.kc_statements.specs.between.StatementViews.{attribute_in, AttributeNodesExist, is_prompt, conjunct_given}
+use Rattle.kc_conditions.proofs.Common.{◌≡◌, ℕ, suc, ◌+◌, ◌-◌, ◌<◌, ◌≤◌, Bool, true, false, cond, List, [], ◌∷◌, ◌++◌, length, get_or, take, drop, map, reverse,
+    Option, Some, None, refl, ap, sym, subst, ◌∙◌, arith, append-nil, length-append, All, IfSome, slice_get, slice_range, take_all, is_linux_6_12, Language,
+    Exprs, Represents, node_expr, Grows, Expr, AttributeNodesExist, is_prompt, conjunct_given, LineNodesExist, RepresentsHead, line_in, node_held, node_same,
+    grows_same, choice, condition, Group, of_head, open_blocks, conjunction_of, visible_conjunct, dependencies_of, context, group_in_context, Conjoins, conjunct,
+    conjunct_views, AreJoined, AreAppended, condition_view, line_condition, first_prompt, RepresentsPrompt, GroupHeadNodesExist, or_yes, RepresentsEnclosing,
+    RepresentsConditions, RepresentsAllConditions, HasWalked, Dependencies, Visibles, EnclosingConditions, EntryConditions, GroupConditions, grows_on}
+use Rattle.kc_statements.specs.between.StatementViews.{attribute_in}
 use Rattle.kc_statements.specs.declared.statement.Attribute.{Attribute as CodeAttribute}
 use Rattle.kc_statements.specs.declared.statement.Attribute.TheVariants as attributes
 use Rattle.kc_parser.specs.declared.listing.Line.{Line as CodeLine}
 use Rattle.kc_parser.specs.declared.listing.GroupHead.{GroupHead as CodeHead}
 use Rattle.kc_parser.specs.declared.listing.GroupHead.TheVariants as codes
-use Rattle.kc_parser.specs.between.ListingView.{LineNodesExist, RepresentsHead, line_in}
-use Rattle.kc_statements.proofs.GrownArenas.{attribute_same, node_held, node_same}
-use Rattle.kc_parser.proofs.AppendSteps.{grows_same}
+use Rattle.kc_statements.proofs.GrownArenas.{attribute_same}
 use Rattle.kc_tree_model.specs.Trees as tree
-use Rattle.kc_tree_model.specs.Statements.{Attribute, choice, condition, menu, source, depends_of, visible_of, prompt_of}
-use Rattle.kc_tree_model.specs.Blocks.{Group, Line, Side, GroupHead, of_head, opening, closing, inside, side_of, open_blocks}
-use Rattle.kc_tree_model.specs.Conditions.{conjunction_of, visible_conjunct, attribute_values, dependencies_of, shown_condition, inside_menu, inside_choice, inner_context_of_group_head, Context, context, group_in_context}
+use Rattle.kc_tree_model.specs.Statements.{Attribute, menu, source, depends_of, visible_of, prompt_of}
+use Rattle.kc_tree_model.specs.Blocks.{Line, Side, GroupHead, opening, closing, inside, side_of}
+use Rattle.kc_tree_model.specs.Conditions.{attribute_values, shown_condition, inside_menu, inside_choice, inner_context_of_group_head, Context}
 use Rattle.kc_tree_model.specs.Contents.{menu_end_of}
 use Rattle.kc_tree_model.proofs.NestedTrees.OpenBlocks.{pushed, popped, open_inside}
-use Rattle.kc_conditions.specs.checker.Conjunctions.{Conjoins, conjunct}
-use Rattle.kc_conditions.specs.checker.Conjuncts.{conjunct_views, AreJoined, AreAppended, condition_view, line_condition}
-use Rattle.kc_conditions.specs.between.Firsts.{first_prompt, RepresentsPrompt, RepresentsInside, is_end, GroupHeadNodesExist}
-use Rattle.kc_conditions.specs.between.Walks.{condition_among, condition_at, or_yes, RepresentsEnd, RepresentsEnclosing, RepresentsEnclosings, innermost_enclosing, RepresentsConditions, RepresentsAllConditions, IsWalked, HasWalked}
-use Rattle.kc_statements.specs.declared.statement.Conjuncts.TheVariants.{Dependencies, Visibles}
-use Rattle.kc_conditions.specs.declared.conditions.EnclosingConditions.{EnclosingConditions}
-use Rattle.kc_conditions.specs.declared.conditions.EntryConditions.{EntryConditions}
-use Rattle.kc_conditions.specs.declared.group_walk.GroupConditions.{GroupConditions}
+use Rattle.kc_conditions.specs.between.Firsts.{RepresentsInside, is_end}
+use Rattle.kc_conditions.specs.between.Walks.{condition_among, condition_at, RepresentsEnd, RepresentsEnclosings, innermost_enclosing, IsWalked}
 use Rattle.kc_conditions.specs.declared.group_walk.GroupWalk.{GroupWalk}
-use Rattle.kc_statements.proofs.ArenaGrowth.{grows_on}
 use Rattle.kc_conditions.proofs.Growth.{conjoins_on, joined_on, represent_on, held_on, represents_all, condition_on}
 
 -- an attribute that is no prompt is passed over in the search for the first prompt

@@ -1,20 +1,17 @@
 -- The state of a configuration after a change.
-use Rattle.std.proofs.Common.{◌≡◌, inl, inr, ℕ, ◌<◌, IsTrue, List, [], ◌++◌, length, Option, Some, None, refl, sym, ◌∙◌, ap, subst, arith}
-use Rattle.std.specs.Prelude.{Contains, filter, is_none, replicate}
-use Rattle.kc_solver.specs.Changes.{changed_users}
-use Rattle.kc_solver.specs.Solutions.{user_of, UniquelySolves, FitsUsers, FitsValues}
-use Rattle.kc_rules_model.specs.declared.values.UserValue.{UserValue}
+use Rattle.kc_config.proofs.Common.{◌≡◌, inl, inr, ℕ, ◌<◌, IsTrue, List, [], ◌++◌, length, Option, Some, None, refl, sym, ◌∙◌, ap, subst, arith, Contains,
+    filter, is_none, changed_users, user_of, FitsUsers, UserValue, user_fits, tree_of_settled, empty_assignment, overlay, Configured, tree_in, FitsTree,
+    changes_of, users_of, units_of, clears_of, overs}
+use Rattle.std.specs.Prelude.{replicate}
+use Rattle.kc_solver.specs.Solutions.{UniquelySolves, FitsValues}
 use Rattle.kc_rules_model.specs.Rule.{rule}
-use Rattle.kc_rules_model.specs.Shapes.{user_fits, value_fits}
+use Rattle.kc_rules_model.specs.Shapes.{value_fits}
 use Rattle.kc_rules_model.specs.SettledTrees.{IsSettledTree}
 use Rattle.kc_rules_model.proofs.SolutionsFit.{all_solutions_fit}
 use Rattle.kc_rules.specs.declared.rules.Settled.{Settled}
-use Rattle.kc_rules.specs.between.SettledViews.{tree_of_settled, profile_of}
-use Rattle.kc_dotconfig_model.specs.ConfigFiles.{empty_assignment, overlay}
-use Rattle.kc_config.specs.ConfigStates.{Configured, tree_in, IsSolved}
-use Rattle.kc_dotconfig.specs.Fragments.{FitsTree, changes_of, users_of}
-use Rattle.kc_dotconfig.specs.checker.UserValueOrder.{units_of}
-use Rattle.kc_config.specs.checker.Configs.{clears_of, overs, IsSoundConfig}
+use Rattle.kc_rules.specs.between.SettledViews.{profile_of}
+use Rattle.kc_config.specs.ConfigStates.{IsSolved}
+use Rattle.kc_config.specs.checker.Configs.{IsSoundConfig}
 use Rattle.kc_config.proofs.MergedValues.{units_overs, lies_over}
 use Rattle.kc_config.proofs.UserValueUnits.{changed_both, cleared, given_or_had, none_held, units_within, in_front, in_back, in_either, in_filter, of_filter}
 

@@ -1,3 +1,4 @@
+pub mod Common
 pub mod UserValueUnits
 pub mod ConfigSolutions
 pub mod MissedMembers

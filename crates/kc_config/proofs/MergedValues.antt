@@ -1,25 +1,16 @@
 -- The user values of a list laid over those of an assignment.
-use Rattle.std.proofs.Common.{◌≡◌, inl, inr, ℕ, zero, suc, ◌+◌, ◌<◌, true, cond, IsTrue, List, [], ◌∷◌, ◌++◌, length, Option, Some, None, refl, sym, ◌∙◌, ap, subst, arith}
-use Rattle.std.specs.Prelude.{slice_get, slice_index}
-use Rattle.std.specs.Option.{option_or}
+use Rattle.std.proofs.Common.{◌+◌}
+use Rattle.std.specs.Prelude.{slice_index}
+use Rattle.kc_config.proofs.Common.{◌≡◌, inl, inr, ℕ, zero, suc, ◌<◌, true, cond, IsTrue, List, [], ◌∷◌, ◌++◌, length, Option, Some, None, refl, sym, ◌∙◌, ap,
+    subst, arith, slice_get, option_or, nat_cmp, cases_eq, Tree, changed_users, user_of, FitsUsers, UserValue, user_fits, over, overlay, empty_assignment,
+    FitsTree, changes_of, users_of, units_of, overs, length_changed, none_length}
 use Rattle.std.specs.BTreeMap.{is_at}
-use Rattle.std.specs.Ordering.{nat_cmp}
 use Rattle.std.specs.List.Sorted.{IsStrictlyIncreasing}
-use Rattle.std.proofs.lemmas.Bool.{cases_eq}
-use Rattle.kc_tree_model.specs.Trees.{Tree}
-use Rattle.kc_solver.specs.Changes.{changed_users}
-use Rattle.kc_solver.specs.Solutions.{user_of, FitsUsers}
-use Rattle.kc_rules_model.specs.declared.values.UserValue.{UserValue}
-use Rattle.kc_rules_model.specs.Shapes.{user_fits}
-use Rattle.kc_dotconfig_model.specs.ConfigFiles.{over, overlay, empty_assignment}
 use Rattle.kc_dotconfig_model.proofs.FittingFiles.{over_user_fits, held_fits}
-use Rattle.kc_dotconfig.specs.Fragments.{FitsTree, changes_of, users_of}
 use Rattle.kc_dotconfig.specs.checker.UserValueOrder.{AreAbove, IsAscending}
 use Rattle.kc_dotconfig.specs.checker.GatheredLines.{value_in}
-use Rattle.kc_dotconfig.specs.checker.UserValueOrder.{units_of}
-use Rattle.kc_config.specs.checker.Configs.{overs}
 use Rattle.kc_dotconfig.proofs.GatheredLines.{at_same, at_other, or_none, assigned_at, same_users}
-use Rattle.kc_dotconfig.proofs.Insertions.{above_less, length_changed, none_length, none_of_unit}
+use Rattle.kc_dotconfig.proofs.Insertions.{above_less, none_of_unit}
 
 -- the units stay the same
 pub units_overs : (users : List (Option UserValue)) (es : List (ℕ × UserValue)) → units_of (overs users es) ≡ units_of es

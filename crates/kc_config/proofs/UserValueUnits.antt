@@ -1,21 +1,13 @@
 -- The units that have user values after changes.
-use Rattle.std.proofs.Common.{◌≡◌, ◌≢◌, ◌⊎◌, inl, inr, ℕ, zero, suc, ◌<◌, Bool, true, false, cond, IsTrue, IfSome, List, [], ◌∷◌, ◌++◌, length, Option, Some, None, refl, sym, ◌∙◌, ap, subst, arith}
-use Rattle.std.specs.Prelude.{slice_get, slice_set, slice_index_or, replicate, Contains, filter}
-use Rattle.std.proofs.lemmas.Bool.{cases_eq}
-use Rattle.std.proofs.lemmas.List.{get_or-set_other, length-set}
-use Rattle.kc_tree_model.specs.Trees.{Tree}
-use Rattle.kc_solver.specs.Changes.{changed_users, FitsChanges}
-use Rattle.kc_solver.specs.Solutions.{user_of, FitsUsers}
+use Rattle.std.proofs.Common.{◌≢◌, ◌⊎◌, Bool, IfSome}
+use Rattle.std.specs.Prelude.{slice_set, slice_index_or, replicate}
+use Rattle.kc_config.proofs.Common.{◌≡◌, inl, inr, ℕ, zero, suc, ◌<◌, true, false, cond, IsTrue, List, [], ◌∷◌, ◌++◌, length, Option, Some, None, refl, sym, ◌∙◌,
+    ap, subst, arith, slice_get, Contains, filter, cases_eq, length-set, Tree, changed_users, FitsChanges, user_of, FitsUsers, UserValue, user_fits,
+    empty_assignment, overlay, FitsTree, changes_of, users_of, length_changed, none_length, units_of, clears_of}
+use Rattle.std.proofs.lemmas.List.{get_or-set_other}
 use Rattle.kc_solver.proofs.Lists.{none_fits}
 use Rattle.kc_solver.proofs.UserChanges.{changed_fits}
-use Rattle.kc_rules_model.specs.declared.values.UserValue.{UserValue}
-use Rattle.kc_rules_model.specs.Shapes.{user_fits}
-use Rattle.kc_dotconfig_model.specs.ConfigFiles.{empty_assignment, overlay}
 use Rattle.kc_dotconfig_model.proofs.Overlays.{over_none}
-use Rattle.kc_dotconfig.specs.Fragments.{FitsTree, changes_of, users_of}
-use Rattle.kc_dotconfig.proofs.Insertions.{length_changed, none_length}
-use Rattle.kc_dotconfig.specs.checker.UserValueOrder.{units_of}
-use Rattle.kc_config.specs.checker.Configs.{clears_of}
 
 pub changed_both : (a b : List (ℕ × Option UserValue)) (users : List (Option UserValue)) → changed_users (a ++ b) users
     ≡ changed_users b (changed_users a users)

@@ -1,22 +1,12 @@
 -- The lines of a file are gone over one after another.
-use Rattle.std.proofs.Common.{◌≡◌, ℕ, ◌+◌, true, List, [], ◌∷◌, Option, Some, None, refl, sym, ◌∙◌, ap, subst}
-use Rattle.std.specs.Prelude.{option_map}
-use Rattle.std.specs.List.{AllZip, list_all}
-use Rattle.std.specs.Option.{option_or}
-use Rattle.std.specs.Str.{is_utf8}
+use Rattle.kc_config_reasons.proofs.Common.{◌≡◌, ℕ, ◌+◌, true, List, [], ◌∷◌, Option, Some, None, refl, sym, ◌∙◌, ap, subst, option_map, AllZip, option_or,
+    is_utf8, Tree, unit_of, without_white_end, FileFormat, LineMeaning, Means, line_giving, said_to, user_by_line, AskingLine, FileLines, line_view, line_at,
+    later_line, line_kept, KeepsLines, AreBelow, NumbersBelow, Keeps}
+use Rattle.std.specs.List.{list_all}
 use Rattle.std.proofs.lemmas.Bool.{and_parts}
 use Rattle.kc_value.specs.Lines.{pieces}
-use Rattle.kc_tree_model.specs.Trees.{Tree}
-use Rattle.kc_tree_model.specs.TreeLookup.{unit_of}
-use Rattle.kc_tree_model.specs.LogicalLines.{without_white_end}
-use Rattle.kc_dotconfig_model.specs.Formats.{FileFormat}
-use Rattle.kc_dotconfig_model.specs.ConfigLines.{LineMeaning, Means}
 use Rattle.kc_dotconfig_model.specs.ConfigFiles.{has_utf8_lines, FileMeans}
-use Rattle.kc_reasons_model.specs.AssigningLines.{line_giving, said_to, user_by_line, assigning_line}
-use Rattle.kc_config_reasons.specs.declared.file_lines.AskingLine.{AskingLine}
-use Rattle.kc_config_reasons.specs.declared.file_lines.FileLines.{FileLines}
-use Rattle.kc_config_reasons.specs.between.FileLines.{line_view, line_at, later_line, line_kept, KeepsLines}
-use Rattle.kc_config_reasons.specs.checker.LineSteps.{AreBelow, NumbersBelow, Keeps}
+use Rattle.kc_reasons_model.specs.AssigningLines.{assigning_line}
 use Rattle.kc_config_reasons.proofs.OwnLines.{own_line}
 
 -- what is left of a file, after so many lines, and what is kept of these lines are together the file

@@ -1,24 +1,16 @@
 -- A line of a configuration file is kept over the earlier ones.
-use Rattle.std.proofs.Common.{◌≡◌, inl, inr, ℕ, ◌+◌, ◌<◌, Bool, true, false, cond, List, [], ◌∷◌, Option, Some, None, refl, sym, ◌∙◌, ap, subst, arith}
-use Rattle.std.specs.Prelude.{◌==◌, Result, Ok, Err, OnOk, option_map}
-use Rattle.std.specs.Option.{option_or}
+use Rattle.std.proofs.Common.{inl, inr}
+use Rattle.std.specs.Prelude.{◌==◌}
+use Rattle.kc_config_reasons.proofs.Common.{◌≡◌, ℕ, ◌+◌, ◌<◌, Bool, true, false, cond, List, [], ◌∷◌, Option, Some, None, refl, sym, ◌∙◌, ap, subst, arith,
+    Result, Ok, Err, OnOk, option_map, option_or, Tree, unit_of, UserValue, LineMeaning, assigns, assigns_escaped, Meaning, meaning_view, said_to, line_giving,
+    user_by_line, AskingLine, FileLines, line_view, line_at, later_line, line_kept, AreBelow, NumbersBelow, Keeps}
 use Rattle.std.specs.BTreeMap.{insert_entry}
 use Rattle.std.specs.Ordering.{nat_cmp}
 use Rattle.std.proofs.lemmas.Bool.{cases_eq, eqb-true, eqb-false, eq-eqb, lt-ltb, le-ltb}
-use Rattle.kc_tree_model.specs.Trees.{Tree}
-use Rattle.kc_tree_model.specs.TreeLookup.{unit_of}
 use Rattle.kc_rules_model.specs.declared.values.MemberLine.{MemberLine}
-use Rattle.kc_rules_model.specs.declared.values.UserValue.{UserValue}
 use Rattle.kc_rules_model.specs.declared.values.UserValue.TheVariants.{Text as TextUser, Lines as LinesUser}
-use Rattle.kc_dotconfig_model.specs.ConfigLines.{LineMeaning, assigns, assigns_escaped}
-use Rattle.kc_dotconfig.specs.declared.meanings.Meaning.{Meaning}
-use Rattle.kc_dotconfig.specs.between.MeaningViews.{meaning_view}
 use Rattle.kc_dotconfig.proofs.GatheredLines.{found_same, found_other}
-use Rattle.kc_reasons_model.specs.AssigningLines.{if_any, said_of, said_to, line_giving, user_by_line}
-use Rattle.kc_config_reasons.specs.declared.file_lines.AskingLine.{AskingLine}
-use Rattle.kc_config_reasons.specs.declared.file_lines.FileLines.{FileLines}
-use Rattle.kc_config_reasons.specs.between.FileLines.{line_view, line_at, later_line, line_kept}
-use Rattle.kc_config_reasons.specs.checker.LineSteps.{AreBelow, NumbersBelow, Keeps}
+use Rattle.kc_reasons_model.specs.AssigningLines.{if_any, said_of}
 
 -- of a line and those before it the line comes later
 newest_first : (a : AskingLine) (o : Option AskingLine) → ((l : AskingLine) → o ≡ Some l → l.number < a.number) → later_line (Some a) o ≡ Some a

@@ -1,3 +1,4 @@
+pub mod Common
 pub mod KeptLines
 pub mod OwnLines
 pub mod FileSteps

@@ -1,19 +1,11 @@
 -- The meaning of a line is the one that is read.
-use Rattle.std.proofs.Common.{◌≡◌, true, List, ℕ, Option, Some, None, sym, ◌∙◌, ap, subst}
-use Rattle.std.specs.Prelude.{Result, Ok, Err, OnOk, option_map}
-use Rattle.std.specs.Str.{IsUtf8, is_utf8}
+use Rattle.kc_config_reasons.proofs.Common.{◌≡◌, true, List, ℕ, Option, Some, None, sym, ◌∙◌, ap, subst, Result, Ok, Err, OnOk, option_map, is_utf8, Tree,
+    without_white_end, FileFormat, LineMeaning, Means, Meaning, meaning_view, FileLines, Keeps}
+use Rattle.std.specs.Str.{IsUtf8}
 use Rattle.std.proofs.lemmas.Str.{IsUtf8-from_is_utf8}
-use Rattle.kc_tree_model.specs.Trees.{Tree}
-use Rattle.kc_tree_model.specs.LogicalLines.{without_white_end}
-use Rattle.kc_dotconfig_model.specs.Formats.{FileFormat}
 use Rattle.kc_dotconfig_model.specs.PrefixGrammar.{is_name_prefix}
-use Rattle.kc_dotconfig_model.specs.ConfigLines.{LineMeaning, Means}
 use Rattle.kc_dotconfig_model.specs.between.LineMeanings.{line_meaning}
 use Rattle.kc_dotconfig_model.proofs.LineLaws.{line_read}
-use Rattle.kc_dotconfig.specs.declared.meanings.Meaning.{Meaning}
-use Rattle.kc_dotconfig.specs.between.MeaningViews.{meaning_view}
-use Rattle.kc_config_reasons.specs.declared.file_lines.FileLines.{FileLines}
-use Rattle.kc_config_reasons.specs.checker.LineSteps.{Keeps}
 
 module _ (format : FileFormat) (tree : Tree) (line text : List ℕ) (o : Option Meaning) (valid : is_name_prefix format.prefix ≡ true) (same : text ≡ line)
     (read : option_map meaning_view o ≡ line_meaning format tree (without_white_end text)) where

@@ -1,26 +1,20 @@
 -- The places of lines that files keep are those of the files' lines.
-use Rattle.std.proofs.Common.{◌≡◌, ℕ, zero, suc, ◌+◌, ◌<◌, Bool, true, false, not, cond, List, [], ◌∷◌, ◌++◌, map, drop, length, Option, Some, None, refl, sym, ◌∙◌, ap, arith, get_or, append_assoc}
+use Rattle.std.proofs.Common.{zero, not, append_assoc}
 use Rattle.std.specs.Global.{Vec}
-use Rattle.std.specs.Prelude.{Result, Ok, Err, IfOk, option_map, option_to_list, find, reverse}
+use Rattle.std.specs.Prelude.{option_to_list, find}
 use Rattle.std.specs.Borrow.{Bor}
-use Rattle.std.specs.Option.{option_or, option_copied}
-use Rattle.std.specs.List.{AllZip}
+use Rattle.kc_config_reasons.proofs.Common.{◌≡◌, ℕ, suc, ◌+◌, ◌<◌, Bool, true, false, cond, List, [], ◌∷◌, ◌++◌, map, drop, length, Option, Some, None, refl,
+    sym, ◌∙◌, ap, arith, get_or, Result, Ok, Err, IfOk, option_map, reverse, option_or, option_copied, AllZip, Tree, unit_of, UserValue, LineMeaning,
+    assigning_place, overridden, AskingLine, FileLines, line_view, line_kept, KeepsLines, place_view, file_numbers, place_kept, places_kept,
+    file_asking_otherwise}
 use Rattle.std.proofs.Math.Seq.{drop-cons, drop-length}
 use Rattle.std.proofs.lemmas.List.{map-append, reverse-append, length-map, length-drop}
-use Rattle.kc_tree_model.specs.Trees.{Tree}
-use Rattle.kc_tree_model.specs.TreeLookup.{unit_of}
-use Rattle.kc_rules_model.specs.declared.values.UserValue.{UserValue}
 use Rattle.kc_rules_model.specs.Equality.{same_user}
 use Rattle.kc_rules_model.specs.checker.EqualityLaws.{users_decided}
-use Rattle.kc_dotconfig_model.specs.ConfigLines.{LineMeaning}
-use Rattle.kc_reasons_model.specs.AssigningLines.{AssigningPlace, place_giving, assigning_place}
-use Rattle.kc_reasons_model.specs.OverriddenLines.{places_of, asks_otherwise, overriding, overridden}
-use Rattle.kc_config_reasons.specs.declared.file_lines.AskingLine.{AskingLine}
-use Rattle.kc_config_reasons.specs.declared.file_lines.FileLines.{FileLines}
+use Rattle.kc_reasons_model.specs.AssigningLines.{AssigningPlace, place_giving}
+use Rattle.kc_reasons_model.specs.OverriddenLines.{places_of, asks_otherwise, overriding}
 use Rattle.kc_config_reasons.specs.declared.places.Overridden.{Overridden}
-use Rattle.kc_config_reasons.specs.between.FileLines.{line_view, line_kept, KeepsLines}
-use Rattle.kc_config_reasons.specs.between.Places.{place_view, file_numbers}
-use Rattle.kc_config_reasons.specs.checker.PlaceSteps.{place_in, place_kept, places_kept, file_asking_otherwise, overridden_by}
+use Rattle.kc_config_reasons.specs.checker.PlaceSteps.{place_in, overridden_by}
 
 -- ---- by what files keep
 

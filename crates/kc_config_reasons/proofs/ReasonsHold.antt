@@ -1,14 +1,10 @@
 -- The reasons of a symbol hold of a configuration.
-use Rattle.std.proofs.Common.{◌≡◌, ℕ, ◌<◌, List, Option, Some, length, refl, sym, ◌∙◌, ap, subst}
-use Rattle.std.specs.Prelude.{Result, Ok, Err, IfOk, option_map, slice_get}
-use Rattle.kc_tree_model.specs.Trees.{Tree, Symbol}
-use Rattle.kc_tree_model.specs.TreeLookup.{unit_of}
+use Rattle.kc_config_reasons.proofs.Common.{◌≡◌, ℕ, ◌<◌, List, Option, Some, length, refl, sym, ◌∙◌, ap, subst, Result, Ok, Err, IfOk, option_map, Tree, Symbol,
+    unit_of, UserValue, TreeModel, profile_of, tree_model_of, tree_in}
+use Rattle.std.specs.Prelude.{slice_get}
 use Rattle.kc_rules_model.specs.declared.profile.Profile.{Profile}
 use Rattle.kc_rules_model.specs.declared.values.UnitValue.{UnitValue}
-use Rattle.kc_rules_model.specs.declared.values.UserValue.{UserValue}
-use Rattle.kc_tree.specs.TreeModel.{TreeModel}
-use Rattle.kc_rules.specs.between.SettledViews.{profile_of, tree_model_of}
-use Rattle.kc_config.specs.ConfigStates.{Configured, tree_in, IsSolved}
+use Rattle.kc_config.specs.ConfigStates.{Configured, IsSolved}
 use Rattle.kc_reasons_model.specs.PlainReasons.{PlainReasons, plain_reasons, plain_reasons_at}
 use Rattle.kc_reasons_model.proofs.CaseLaws.{cases_give}
 use Rattle.kc_reasons_model.proofs.ClaimLaws.{claims}

@@ -1,3 +1,4 @@
+pub mod Common
 pub mod Pushes
 pub mod Needs
 pub mod OrderedLists

@@ -1,12 +1,8 @@
 -- The symbol of a name that an arena holds.
-use Rattle.std.proofs.Common.{◌≡◌, ℕ, ◌∙◌, ap, List, [], Option, Some}
+use Rattle.kc_dependencies.proofs.Common.{◌≡◌, ℕ, ◌∙◌, ap, List, [], Option, Some, slice_get-get_or, Tree, symbol_named, symbol_of_name_id}
 use Rattle.std.specs.Prelude.{option_and_then}
-use Rattle.std.proofs.lemmas.Option.{slice_get-get_or}
 use Rattle.kc_expr.specs.Lookup.{index_of_name}
 use Rattle.kc_expr.proofs.Places.{place_there}
-use Rattle.kc_tree_model.specs.Trees.{Tree}
-use Rattle.kc_tree_model.specs.TreeLookup.{symbol_named}
-use Rattle.kc_tree.specs.between.Views.{symbol_of_name_id}
 
 pub found_as_named : (tree : Tree) (names : List (List ℕ)) (name : ℕ) (x : List ℕ) (r : Option ℕ) → index_of_name x names ≡ Some name
     → r ≡ symbol_of_name_id tree names name → r ≡ symbol_named tree x

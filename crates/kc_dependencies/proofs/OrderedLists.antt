@@ -1,7 +1,6 @@
 -- A list that ascends without repeats is determined by its elements.
-use Rattle.std.proofs.Common.{◌≡◌, inl, inr, ℕ, ◌<◌, ◌==◌, Bool, true, false, List, [], ◌∷◌, refl, sym, ap, subst, ◌∙◌, arith}
-use Rattle.std.specs.List.{AllByRecursion, list_any}
-use Rattle.std.proofs.lemmas.Bool.{false≢true, or_cases, or_left, or_right, eqb-true, eq-eqb}
+use Rattle.kc_dependencies.proofs.Common.{◌≡◌, inl, inr, ℕ, ◌<◌, ◌==◌, Bool, true, false, List, [], ◌∷◌, refl, sym, ap, subst, ◌∙◌, arith, AllByRecursion,
+    list_any, false≢true, or_cases, or_left, or_right, eqb-true, eq-eqb}
 
 abbrev pub Rises : List ℕ → Type 0
 Rises [] = Unit {0}

@@ -1,17 +1,13 @@
 -- Tests over lists: the elements that a visit appends.
-use Rattle.std.proofs.Common.{◌≡◌, ℕ, ◌+◌, ◌<◌, Bool, true, false, ◌||◌, ◌==◌, List, [], ◌∷◌, ◌++◌, length, map, get_or, take, Option, Some, None, IsSome, subst, refl, sym, ap, ◌∙◌}
-use Rattle.std.specs.List.{flat_map, filter_map, list_any, cons_option}
+use Rattle.std.proofs.Common.{IsSome}
+use Rattle.std.specs.List.{filter_map, cons_option}
 use Rattle.std.proofs.Math.Bool.{or_assoc}
 use Rattle.std.proofs.lemmas.List.Elements.{All-append, All-cons, All-nil}
-use Rattle.std.proofs.lemmas.Bool.{false≢true}
-use Rattle.std.proofs.lemmas.List.Folds.{list_any-append, list_any_more}
+use Rattle.kc_dependencies.proofs.Common.{◌≡◌, ℕ, ◌+◌, ◌<◌, Bool, true, false, ◌||◌, ◌==◌, List, [], ◌∷◌, ◌++◌, length, map, get_or, take, Option, Some, None,
+    subst, refl, sym, ap, ◌∙◌, flat_map, list_any, false≢true, list_any-append, operand_names, operand_or_empty, Tree, mentions, is_at, has, AreUnits}
+use Rattle.std.proofs.lemmas.List.Folds.{list_any_more}
 use Rattle.kc_expr.specs.Expr.{Expr, alone, related, negated, both, either, shown}
-use Rattle.kc_expr.specs.ExpressionNames.{operand_names}
 use Rattle.kc_expr.specs.between.Operand.{operand_alone}
-use Rattle.kc_tree.specs.between.Views.{operand_or_empty}
-use Rattle.kc_tree_model.specs.Trees.{Tree}
-use Rattle.kc_expr.specs.between.Visits.{mentions}
-use Rattle.kc_dependencies.specs.checker.Links.{is_at, has, AreUnits}
 
 -- whether `start` holds or one of the first `i` elements passes a test, or the element at `i` passes it, is the same for the
 -- first `i + 1` elements

@@ -1,14 +1,9 @@
 -- Lists of user values in ascending order of units.
-use Rattle.std.proofs.Common.{◌≡◌, ℕ, zero, suc, ◌-◌, ◌<◌, IsTrue, List, [], ◌∷◌, ◌++◌, length, take, get_or, Some, ◌⊎◌, inl, inr, refl, sym, ◌∙◌, ap, arith}
-use Rattle.std.specs.Prelude.{slice_get, nat_lt}
-use Rattle.std.specs.Cmp.{nat_cmp_is}
-use Rattle.std.specs.Ordering.{nat_cmp, match_ordering}
-use Rattle.std.specs.declared.cmp.Ordering.TheVariants.{Greater}
+use Rattle.kc_dotconfig.proofs.Common.{◌≡◌, ℕ, zero, suc, ◌-◌, ◌<◌, IsTrue, List, [], ◌∷◌, ◌++◌, length, take, get_or, Some, ◌⊎◌, inl, inr, refl, sym, ◌∙◌, ap,
+    arith, slice_get, nat_cmp_is, nat_cmp, match_ordering, Greater, insert_entry, UserValue, AreAbove, IsAscending, AreBelow}
+use Rattle.std.specs.Prelude.{nat_lt}
 use Rattle.std.proofs.lemmas.Bool.{ltb-true}
 use Rattle.std.proofs.lemmas.List.{length_push}
-use Rattle.std.specs.BTreeMap.{insert_entry}
-use Rattle.kc_rules_model.specs.declared.values.UserValue.{UserValue}
-use Rattle.kc_dotconfig.specs.checker.UserValueOrder.{AreAbove, IsAscending, AreBelow}
 
 same_unit : (p q : ℕ × UserValue) → Some p ≡ Some q → p.0 ≡ q.0
 same_unit p q e = let same : p ≡ q = cc in ap (λ (r : ℕ × UserValue). r.0) same

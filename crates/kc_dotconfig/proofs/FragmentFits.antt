@@ -1,13 +1,7 @@
 -- The fragments that fit a tree.
-use Rattle.std.proofs.Common.{◌≡◌, ◌⊎◌, inl, inr, ℕ, zero, suc, ◌+◌, ◌<◌, ◌≤◌, true, false, IsTrue, List, [], ◌∷◌, length, get_or, Some, refl, sym, ◌∙◌, ap, subst, arith}
-use Rattle.std.specs.Prelude.{slice_get, slice_index}
-use Rattle.std.specs.List.Sorted.{IsStrictlyIncreasing}
-use Rattle.std.proofs.lemmas.Bool.{cases_lt, false≢true}
-use Rattle.kc_tree_model.specs.Trees.{Tree}
-use Rattle.kc_rules_model.specs.declared.values.UserValue.{UserValue}
-use Rattle.kc_rules_model.specs.Shapes.{user_fits}
-use Rattle.kc_dotconfig.specs.Fragments.{FitsTree}
-use Rattle.kc_dotconfig.specs.checker.UserValueOrder.{units_of, next_at}
+use Rattle.kc_dotconfig.proofs.Common.{◌≡◌, ◌⊎◌, inl, inr, ℕ, zero, suc, ◌+◌, ◌<◌, ◌≤◌, true, false, IsTrue, List, [], ◌∷◌, length, get_or, Some, refl, sym, ◌∙◌,
+    ap, subst, arith, slice_get, slice_index, IsStrictlyIncreasing, false≢true, Tree, UserValue, user_fits, FitsTree, units_of, next_at}
+use Rattle.std.proofs.lemmas.Bool.{cases_lt}
 
 same_unit : (p q : ℕ × UserValue) → Some p ≡ Some q → p.0 ≡ q.0
 same_unit p q e = let same : p ≡ q = cc in ap (λ (r : ℕ × UserValue). r.0) same

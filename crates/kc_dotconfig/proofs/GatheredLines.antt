@@ -1,28 +1,13 @@
 -- Gathered assignments of members.
-use Rattle.std.proofs.Common.{◌≡◌, ◌≢◌, ◌⊎◌, inl, inr, ℕ, suc, ◌<◌, ◌≤◌, Bool, true, false, not, ◌||◌, ◌==◌, cond, filter, List, [], ◌∷◌, ◌++◌, length, Option, Some, None, refl, sym, ◌∙◌, ap, arith}
-use Rattle.std.specs.Global.{Vec}
-use Rattle.std.specs.Prelude.{is_some, slice_set}
-use Rattle.std.specs.Option.{option_map, option_or}
-use Rattle.std.specs.Map.{lookup}
-use Rattle.std.specs.BTreeMap.{is_at, insert_entry}
-use Rattle.std.specs.Ordering.{nat_cmp, is_eq, match_ordering}
-use Rattle.std.specs.Cmp.{nat_cmp_is}
-use Rattle.std.specs.declared.cmp.Ordering.{Ordering}
-use Rattle.std.specs.declared.cmp.Ordering.TheVariants.{Less, Equal, Greater}
-use Rattle.std.proofs.lemmas.Bool.{cases_eq, false≢true}
-use Rattle.std.proofs.lemmas.List.{get_or-set_same, get_or-set_other, length-set}
-use Rattle.kc_solver.specs.Changes.{changed_users}
-use Rattle.kc_solver.specs.Solutions.{user_of}
-use Rattle.kc_rules_model.specs.declared.values.MemberLine.{MemberLine}
-use Rattle.kc_rules_model.specs.declared.values.UserValue.{UserValue}
+use Rattle.std.proofs.Common.{◌||◌, filter}
+use Rattle.kc_dotconfig.proofs.Common.{◌≡◌, ◌≢◌, ◌⊎◌, inl, inr, ℕ, suc, ◌<◌, ◌≤◌, Bool, true, false, not, ◌==◌, cond, List, [], ◌∷◌, ◌++◌, length, Option, Some,
+    None, refl, sym, ◌∙◌, ap, arith, Vec, is_some, slice_set, option_or, lookup, is_at, insert_entry, nat_cmp, match_ordering, nat_cmp_is, Ordering, Less, Equal,
+    Greater, cases_eq, false≢true, get_or-set_same, get_or-set_other, length-set, changed_users, user_of, MemberLine, UserValue, is_listed, over, kept_last,
+    changes_of, AreAbove, IsAscending, AreBelow, lines_user, value_in, lines_in, held_in, with_unit, joined, split}
+use Rattle.std.specs.Option.{option_map}
+use Rattle.std.specs.Ordering.{is_eq}
 use Rattle.kc_rules_model.specs.declared.values.UserValue.TheVariants.{Lines as LinesUser}
-use Rattle.kc_rules_model.specs.MemberLines.{is_listed, laid_over}
-use Rattle.kc_dotconfig_model.specs.ConfigFiles.{over}
-use Rattle.kc_dotconfig_model.specs.OtherChoices.{kept_last}
-use Rattle.kc_dotconfig.specs.Fragments.{changes_of}
-use Rattle.kc_dotconfig.specs.checker.UserValueOrder.{AreAbove, IsAscending, AreBelow}
-use Rattle.kc_dotconfig.specs.checker.GatheredLines.{lines_user, value_in, lines_in, held_in, with_unit, joined}
-use Rattle.kc_dotconfig_model.proofs.Cuts.{split}
+use Rattle.kc_rules_model.specs.MemberLines.{laid_over}
 
 -- a list with one more assignment lists the member of this one too
 listed_push : (lines : List MemberLine) (l : MemberLine) (s : ℕ) → is_listed (lines ++ l ∷ []) s ≡ (is_listed lines s || (l.member == s))

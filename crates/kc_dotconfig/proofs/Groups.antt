@@ -1,11 +1,7 @@
 -- Items grouped by a number.
-use Rattle.std.proofs.Common.{◌≡◌, inl, inr, ℕ, ◌==◌, eq-eqb, cond, List, [], ◌∷◌, Some, None, sym, ◌∙◌, ap}
-use Rattle.std.specs.Global.{Vec}
+use Rattle.kc_dotconfig.proofs.Common.{◌≡◌, inl, inr, ℕ, ◌==◌, eq-eqb, cond, List, [], ◌∷◌, Some, None, sym, ◌∙◌, ap, Vec, lookup, is_at, insert_entry, nat_cmp,
+    cases_eq, ne_eqb}
 use Rattle.std.specs.Option.{option_map}
-use Rattle.std.specs.Map.{lookup}
-use Rattle.std.specs.BTreeMap.{is_at, insert_entry}
-use Rattle.std.specs.Ordering.{nat_cmp}
-use Rattle.std.proofs.lemmas.Bool.{cases_eq, ne_eqb}
 use Rattle.kc_dotconfig.specs.checker.Groups.{items_at, items_more}
 use Rattle.kc_dotconfig.proofs.GatheredLines.{found_same, found_other}
 

@@ -1,35 +1,19 @@
 -- A user value inserted into a sorted list is a change of the assignment.
-use Rattle.std.proofs.Common.{◌≡◌, ◌≢◌, inl, inr, Bool, true, false, cond, ◌==◌, eq-eqb, ℕ, zero, suc, ◌+◌, ◌<◌, List, [], ◌∷◌, ◌++◌, length, length-append, map, Option, Some, None, refl, sym, ◌∙◌, ap, subst, arith}
-use Rattle.std.specs.Global.{Vec}
-use Rattle.std.specs.Prelude.{slice_set, replicate, is_some}
-use Rattle.std.specs.Option.{option_map, option_or}
-use Rattle.std.specs.Cmp.{nat_cmp_is}
-use Rattle.std.specs.Ordering.{nat_cmp, match_ordering}
-use Rattle.std.specs.declared.cmp.Ordering.{Ordering}
-use Rattle.std.specs.declared.cmp.Ordering.TheVariants.{Less, Equal, Greater}
-use Rattle.std.specs.BTreeMap.{insert_entry}
-use Rattle.std.proofs.lemmas.Bool.{cases_eq, ne_eqb}
-use Rattle.std.proofs.lemmas.List.{set_comm, get_or-set_same, get_or-set_other, length-set}
-use Rattle.kc_solver.specs.Solutions.{user_of}
-use Rattle.kc_solver.specs.Changes.{changed_users}
-use Rattle.kc_rules_model.specs.declared.values.MemberLine.{MemberLine}
-use Rattle.kc_rules_model.specs.declared.values.UserValue.{UserValue}
+use Rattle.kc_dotconfig.proofs.Common.{◌≡◌, ◌≢◌, inl, inr, Bool, true, false, cond, ◌==◌, eq-eqb, ℕ, zero, suc, ◌+◌, ◌<◌, List, [], ◌∷◌, ◌++◌, length,
+    length-append, map, Option, Some, None, refl, sym, ◌∙◌, ap, subst, arith, Vec, slice_set, is_some, option_or, nat_cmp_is, nat_cmp, match_ordering, Ordering,
+    Less, Equal, Greater, insert_entry, cases_eq, ne_eqb, get_or-set_same, get_or-set_other, length-set, user_of, changed_users, MemberLine, UserValue,
+    changes_of, users_of, notice_pair, IsGathered, AreAbove, IsAscending, AreBelow, value_in, lines_in, lines_more, lines_user, held_in, with_unit, joined,
+    IsPlain, Tree, NoticeKind, Escape, Accumulator, LineMeaning, assigns, assigns_escaped, unchosen, notice, silent, over, empty_assignment, file_assignment,
+    choice_line_of, append-nil, split}
+use Rattle.std.specs.Prelude.{replicate}
+use Rattle.std.specs.Option.{option_map}
+use Rattle.std.proofs.lemmas.List.{set_comm}
 use Rattle.kc_rules_model.specs.declared.values.UserValue.TheVariants.{Tri as TriUser, Text as TextUser, Member as MemberUser, Lines as LinesUser}
-use Rattle.kc_dotconfig.specs.Fragments.{changes_of, users_of, notice_pair}
-use Rattle.kc_dotconfig.specs.checker.Accumulation.{IsGathered}
-use Rattle.kc_dotconfig.specs.checker.UserValueOrder.{AreAbove, IsAscending, AreBelow}
-use Rattle.kc_dotconfig.specs.checker.GatheredLines.{value_in, lines_in, lines_more, lines_user, held_in, with_unit, joined, IsPlain}
 use Rattle.kc_dotconfig.proofs.GatheredLines.{lines_over, found_same, found_other, or_none, value_joined, below_of_none, none_above, assigned_at, same_users}
-use Rattle.kc_tree_model.specs.Trees.{Tree}
 use Rattle.kc_dotconfig_model.specs.declared.notice.Notice.{Notice}
-use Rattle.kc_dotconfig_model.specs.declared.notice.NoticeKind.{NoticeKind}
-use Rattle.kc_dotconfig_model.specs.declared.notice.NoticeKind.TheVariants.{Escape}
-use Rattle.kc_dotconfig.specs.declared.accumulator.Accumulator.{Accumulator}
-use Rattle.kc_dotconfig_model.specs.ConfigLines.{LineMeaning, assigns, assigns_escaped, unchosen, notice, silent}
-use Rattle.kc_dotconfig_model.specs.ConfigFiles.{over, assigned, assigned_over, empty_assignment, file_assignment, notices_from}
-use Rattle.kc_dotconfig_model.specs.OtherChoices.{choice_line_of, choice_lines_from}
-use Rattle.std.proofs.lemmas.List.{append-nil, append_assoc}
-use Rattle.kc_dotconfig_model.proofs.Cuts.{split}
+use Rattle.kc_dotconfig_model.specs.ConfigFiles.{assigned, assigned_over, notices_from}
+use Rattle.kc_dotconfig_model.specs.OtherChoices.{choice_lines_from}
+use Rattle.std.proofs.lemmas.List.{append_assoc}
 
 pub above_less : (u w : ℕ) (es : List (ℕ × UserValue)) → u < w → AreAbove w es → AreAbove u es
 above_less u w [] h a = tt

@@ -1,3 +1,4 @@
+pub mod Common
 pub mod Insertions
 pub mod LineAccumulation
 pub mod ReadingSteps

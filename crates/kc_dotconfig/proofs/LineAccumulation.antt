@@ -1,27 +1,11 @@
 -- The meaning of a line of a configuration file is added to the accumulator.
-use Rattle.std.proofs.Common.{◌≡◌, ℕ, ◌+◌, ◌==◌, true, cond, List, [], ◌∷◌, ◌++◌, length, Option, Some, None, sym, ◌∙◌, ap, subst}
-use Rattle.std.specs.Prelude.{Result, Ok, Err, OnOk, IfSome, option_map}
-use Rattle.std.specs.BTreeMap.{insert_entry}
-use Rattle.std.specs.Ordering.{nat_cmp}
-use Rattle.kc_tree_model.specs.Trees.{Tree}
-use Rattle.kc_rules_model.specs.declared.values.MemberLine.{MemberLine}
-use Rattle.kc_rules_model.specs.declared.values.UserValue.{UserValue}
+use Rattle.kc_dotconfig.proofs.Common.{◌≡◌, ℕ, ◌+◌, ◌==◌, true, cond, List, [], ◌∷◌, ◌++◌, length, Option, Some, None, sym, ◌∙◌, ap, subst, Result, Ok, Err,
+    OnOk, IfSome, option_map, insert_entry, nat_cmp, Tree, MemberLine, UserValue, Accumulator, FileFormat, NoticeKind, Escape, Meaning, is_name_prefix,
+    LineMeaning, assigns, unchosen, Means, IsMalformed, choice_line_of, append-nil, without_white_end, meaning_view, IsWithin, IsGathered, lines_in, lines_more,
+    IsPlain}
 use Rattle.kc_rules_model.specs.declared.values.UserValue.TheVariants.{Text as TextUser}
-use Rattle.kc_dotconfig.specs.declared.accumulator.Accumulator.{Accumulator}
-use Rattle.kc_dotconfig_model.specs.Formats.{FileFormat}
-use Rattle.kc_dotconfig_model.specs.declared.notice.NoticeKind.{NoticeKind}
-use Rattle.kc_dotconfig_model.specs.declared.notice.NoticeKind.TheVariants.{Escape}
-use Rattle.kc_dotconfig.specs.declared.meanings.Meaning.{Meaning}
 use Rattle.kc_dotconfig.specs.declared.meanings.Meaning.TheVariants.{Escaped, Unchosen, Line, Noted, Nothing}
-use Rattle.kc_dotconfig_model.specs.PrefixGrammar.{is_name_prefix}
-use Rattle.kc_dotconfig_model.specs.ConfigLines.{LineMeaning, assigns, unchosen, Means, IsMalformed}
-use Rattle.kc_dotconfig_model.specs.OtherChoices.{choice_line_of}
-use Rattle.std.proofs.lemmas.List.{append-nil}
-use Rattle.kc_tree_model.specs.LogicalLines.{without_white_end}
 use Rattle.kc_dotconfig_model.specs.between.LineMeanings.{line_meaning}
-use Rattle.kc_dotconfig.specs.between.MeaningViews.{meaning_view, IsWithin}
-use Rattle.kc_dotconfig.specs.checker.Accumulation.{IsGathered}
-use Rattle.kc_dotconfig.specs.checker.GatheredLines.{lines_in, lines_more, IsPlain}
 use Rattle.kc_dotconfig.proofs.Insertions.{gathers_user, gathers_escaped, gathers_unchosen, gathers_line, gathers_nothing, gathers_notice}
 use Rattle.kc_dotconfig_model.proofs.LineLaws.{line_read}
 

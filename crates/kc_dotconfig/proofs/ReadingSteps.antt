@@ -1,24 +1,16 @@
 -- The steps of reading a configuration file, over plain values.
-use Rattle.std.proofs.Common.{◌≡◌, ◌⊎◌, inl, inr, ℕ, zero, suc, ◌+◌, ◌-◌, ◌<◌, ◌≤◌, Bool, true, false, not, ◌==◌, List, [], ◌∷◌, ◌++◌, length, take, drop, refl, sym, ◌∙◌, ap, subst, append_assoc, length-append, arith}
-use Rattle.std.specs.Prelude.{Result, Ok, Err, IfErr, OnOk, OnErr, Some, None, slice_index}
+use Rattle.kc_dotconfig.proofs.Common.{◌≡◌, ◌⊎◌, inl, inr, ℕ, zero, suc, ◌+◌, ◌-◌, ◌<◌, ◌≤◌, Bool, true, false, not, ◌==◌, List, [], ◌∷◌, ◌++◌, length, take,
+    drop, refl, sym, ◌∙◌, ap, subst, append_assoc, length-append, arith, Result, Ok, Err, IfErr, OnOk, slice_index, append-nil, common_steps, Tree, FileFormat,
+    LoadKind, Malformed, NotUtf8, LineTooLong, TooManyLines, OutOfMemory, TooLarge, Accumulator, LineMeaning, Means, IsMalformed, without_white_end, FileMeans,
+    MAX_CONFIG_BYTES, MAX_CONFIG_LINES, MAX_LINE_BYTES, complete, IsFirstFault, IsGathered, Holds, AcceptsBytes, EndsWell, EndsBadly}
+use Rattle.std.specs.Prelude.{OnErr, Some, None}
 use Rattle.std.specs.Str.{IsUtf8}
 use Rattle.std.proofs.lemmas.Bool.{and_from, and_parts, eqb-true}
-use Rattle.std.proofs.lemmas.List.{append-nil, take-append-drop, length-take-le}
-use Rattle.std.proofs.lemmas.Grind.{common_steps}
+use Rattle.std.proofs.lemmas.List.{take-append-drop, length-take-le}
 use Rattle.bstr.specs.Find.{IsFirstByte, is_byte}
-use Rattle.kc_tree_model.specs.Trees.{Tree}
-use Rattle.kc_dotconfig_model.specs.Formats.{FileFormat}
-use Rattle.kc_dotconfig_model.specs.declared.fault.LoadKind.{LoadKind}
-use Rattle.kc_dotconfig_model.specs.declared.fault.LoadKind.TheVariants.{Malformed, NotUtf8, LineTooLong, TooManyLines, OutOfMemory, TooLarge}
-use Rattle.kc_dotconfig.specs.declared.accumulator.Accumulator.{Accumulator}
 use Rattle.kc_value.specs.Lines.{has_no_byte}
-use Rattle.kc_dotconfig_model.specs.ConfigLines.{LineMeaning, Means, IsMalformed}
-use Rattle.kc_tree_model.specs.LogicalLines.{without_white_end}
-use Rattle.kc_dotconfig_model.specs.ConfigFiles.{FileMeans}
-use Rattle.kc_value.specs.declared.limits.TheConstants.{MAX_CONFIG_BYTES, MAX_CONFIG_LINES, MAX_LINE_BYTES}
-use Rattle.kc_dotconfig_model.specs.LoadFaults.{complete, IsFirstFault}
 use Rattle.kc_dotconfig_model.specs.between.PartialFiles.{IsSound, IsCutFile}
-use Rattle.kc_dotconfig.specs.checker.Accumulation.{IsGathered, Holds, GoesOn, StopsIn, AcceptsBytes, Refuses, EndsWell, EndsBadly}
+use Rattle.kc_dotconfig.specs.checker.Accumulation.{GoesOn, StopsIn, Refuses}
 use Rattle.kc_dotconfig_model.proofs.FaultsAtCuts.{too_many, too_long, too_large, not_utf8, malformed, held, line_ended, accepted, file_means}
 
 no_bytes : (line : List ℕ) → (0 < length line → ⊥) → line ≡ []

@@ -1,24 +1,11 @@
 -- The user values accumulated from an accepted file fit the tree.
-use Rattle.std.proofs.Common.{◌≡◌, ℕ, zero, suc, ◌+◌, ◌<◌, true, IsTrue, IfSome, List, [], ◌∷◌, length, Option, Some, None, sym, ◌∙◌, ap, subst, arith}
-use Rattle.std.specs.Prelude.{slice_get, slice_set, slice_index}
-use Rattle.std.specs.List.Sorted.{IsStrictlyIncreasing}
-use Rattle.std.proofs.lemmas.List.{get_or-set_same, length-set}
-use Rattle.kc_tree_model.specs.Trees.{Tree}
-use Rattle.kc_tree_model.specs.TreeLookup.{IsConsistent}
-use Rattle.kc_solver.specs.Changes.{changed_users}
-use Rattle.kc_solver.specs.Solutions.{user_of}
-use Rattle.kc_rules_model.specs.declared.values.UserValue.{UserValue}
-use Rattle.kc_rules_model.specs.Shapes.{user_fits}
-use Rattle.kc_dotconfig_model.specs.Formats.{FileFormat}
-use Rattle.kc_dotconfig_model.specs.PrefixGrammar.{is_name_prefix}
-use Rattle.kc_dotconfig_model.specs.ConfigLines.{LineMeaning}
-use Rattle.kc_dotconfig_model.specs.ConfigFiles.{FileMeans, file_assignment, empty_assignment}
+use Rattle.std.proofs.Common.{IfSome}
+use Rattle.kc_dotconfig.proofs.Common.{◌≡◌, ℕ, zero, suc, ◌+◌, ◌<◌, true, IsTrue, List, [], ◌∷◌, length, Option, Some, None, sym, ◌∙◌, ap, subst, arith,
+    slice_get, slice_set, slice_index, IsStrictlyIncreasing, get_or-set_same, length-set, Tree, IsConsistent, changed_users, user_of, UserValue, user_fits,
+    FileFormat, is_name_prefix, LineMeaning, FileMeans, file_assignment, empty_assignment, FitsTree, changes_of, users_of, IsAscending, AreBelow, units_of}
 use Rattle.kc_dotconfig_model.specs.LoadFaults.{IsAccepted}
 use Rattle.kc_dotconfig_model.proofs.AcceptedLines.{accepted_utf8}
 use Rattle.kc_dotconfig_model.proofs.FittingFiles.{file_fits}
-use Rattle.kc_dotconfig.specs.Fragments.{FitsTree, changes_of, users_of}
-use Rattle.kc_dotconfig.specs.checker.UserValueOrder.{IsAscending, AreBelow}
-use Rattle.kc_dotconfig.specs.checker.UserValueOrder.{units_of}
 use Rattle.kc_dotconfig.proofs.Insertions.{length_changed, later_set, none_length}
 
 same_pair : (p q : ℕ × UserValue) → Some p ≡ Some q → p ≡ q

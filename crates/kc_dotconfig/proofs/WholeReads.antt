@@ -1,27 +1,20 @@
 -- A configuration file read to its end, a block at a time.
-use Rattle.std.proofs.Common.{true, ◌≡◌, ◌⊎◌, inl, inr, ℕ, ◌+◌, ◌-◌, ◌^◌, ◌<◌, ◌≤◌, map, List, [], ◌∷◌, ◌++◌, length, take, refl, sym, ◌∙◌, ap, subst, append_assoc, length-append, arith}
-use Rattle.std.specs.Prelude.{Option, Some, None, Result, Ok, Err, IfOk, IfErr, OnOk}
-use Rattle.kc_dotconfig_model.specs.Formats.{FileFormat}
+use Rattle.std.proofs.Common.{◌^◌}
+use Rattle.std.specs.Prelude.{Option, Some, None}
+use Rattle.kc_dotconfig.proofs.Common.{true, ◌≡◌, ◌⊎◌, inl, inr, ℕ, ◌+◌, ◌-◌, ◌<◌, ◌≤◌, map, List, [], ◌∷◌, ◌++◌, length, take, refl, sym, ◌∙◌, ap, subst,
+    append_assoc, length-append, arith, Result, Ok, Err, IfOk, IfErr, OnOk, FileFormat, append-nil, Tree, LoadKind, Malformed, NotUtf8, LineTooLong,
+    TooManyLines, OutOfMemory, TooLarge, Accumulator, MAX_CONFIG_BLOCK_BYTES, MAX_CONFIG_BYTES, MAX_CONFIG_LINES, complete, IsFirstFault, IsConsistent,
+    is_name_prefix, FitsTree, users_of, notice_pair, joined, Holds, AcceptsBytes, EndsWell, EndsBadly, IsGathered, IsAscending, AreBelow}
 use Rattle.kc_dotconfig_model.specs.declared.fault.LoadFault.{LoadFault}
 use Rattle.std.specs.Io.KnownBytes.{Consumes, Keeps, IsAtEnd}
-use Rattle.std.proofs.lemmas.List.{append-nil}
-use Rattle.kc_tree_model.specs.Trees.{Tree}
 use Rattle.kc_value.specs.Streams.{one_failure_more}
-use Rattle.kc_dotconfig_model.specs.declared.fault.LoadKind.{LoadKind}
-use Rattle.kc_dotconfig_model.specs.declared.fault.LoadKind.TheVariants.{Malformed, NotUtf8, LineTooLong, TooManyLines, Read, OutOfMemory, TooLarge}
-use Rattle.kc_dotconfig.specs.declared.accumulator.Accumulator.{Accumulator}
+use Rattle.kc_dotconfig_model.specs.declared.fault.LoadKind.TheVariants.{Read}
 use Rattle.kc_dotconfig.specs.declared.fragment.Fragment.{Fragment}
-use Rattle.kc_value.specs.declared.limits.TheConstants.{MAX_CONFIG_BLOCK_BYTES, MAX_CONFIG_BYTES, MAX_CONFIG_LINES}
-use Rattle.kc_dotconfig_model.specs.LoadFaults.{complete, IsFirstFault, OccursAt}
-use Rattle.kc_tree_model.specs.TreeLookup.{IsConsistent}
-use Rattle.kc_dotconfig_model.specs.PrefixGrammar.{is_name_prefix}
-use Rattle.kc_dotconfig.specs.Fragments.{FitsTree, users_of, notice_pair}
+use Rattle.kc_dotconfig_model.specs.LoadFaults.{OccursAt}
 use Rattle.kc_dotconfig.proofs.UserValueFits.{fragment_fits}
 use Rattle.kc_dotconfig.specs.ReadResults.{IsReadAs, IsFileRefused, IsCutShort, ReportsFault}
-use Rattle.kc_dotconfig.specs.checker.GatheredLines.{joined}
 use Rattle.kc_dotconfig.proofs.Insertions.{whole_users, whole_rises, whole_below}
-use Rattle.kc_dotconfig.specs.checker.Accumulation.{fault_line, Holds, AcceptsBytes, EndsWell, EndsBadly, IsGathered, IsFragmentOf}
-use Rattle.kc_dotconfig.specs.checker.UserValueOrder.{IsAscending, AreBelow}
+use Rattle.kc_dotconfig.specs.checker.Accumulation.{fault_line, IsFragmentOf}
 use Rattle.kc_dotconfig_model.proofs.FirstFaults.{failed_reads}
 use Rattle.kc_dotconfig_model.proofs.FaultsAtCuts.{clean, known_newlines, empty_cut}
 

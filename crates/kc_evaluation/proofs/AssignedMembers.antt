@@ -1,16 +1,15 @@
 -- Lists of members to which something is assigned.
-use Rattle.std.proofs.Common.{◌≡◌, ℕ, zero, suc, ◌+◌, ◌<◌, ◌≤◌, inl, inr, Bool, true, ◌&&◌, ◌||◌, ◌==◌, cond, List, [], ◌∷◌, length, map, get_or, Some, None, Result, Ok, Err, drop, refl, sym, ap, ◌∙◌, arith}
+use Rattle.std.proofs.Common.{zero, suc, ◌≤◌, Bool, ◌&&◌, ◌||◌, get_or, Result, Ok, Err}
 use Rattle.std.specs.Prelude.{find, is_ok, MatchResult}
-use Rattle.std.specs.List.{list_any}
+use Rattle.kc_evaluation.proofs.Common.{◌≡◌, ℕ, ◌+◌, ◌<◌, inl, inr, true, ◌==◌, cond, List, [], ◌∷◌, length, map, Some, None, drop, refl, sym, ap, ◌∙◌, arith,
+    list_any, cases_lt, false_from_ne_true, eqb-true, list_any_none, MemberLine, is_listed, last_y}
 use Rattle.std.specs.List.Sorted.{IsNonDecreasing, IsBinarySearchResult, IsPermutation}
 use Rattle.std.specs.Option.{option_or}
 use Rattle.std.specs.Ordering.{nat_cmp}
-use Rattle.std.proofs.lemmas.Bool.{cases_lt, false_from_ne_true, eqb-true, eq-eqb}
+use Rattle.std.proofs.lemmas.Bool.{eq-eqb}
 use Rattle.std.proofs.lemmas.List.Sorted.{searched, list_any-IsPermutation}
 use Rattle.std.proofs.lemmas.List.{at_drop_more, get_or_default}
-use Rattle.std.proofs.lemmas.List.Folds.{list_any_none, list_any_at}
-use Rattle.kc_rules_model.specs.declared.values.MemberLine.{MemberLine}
-use Rattle.kc_rules_model.specs.MemberLines.{is_listed, last_y}
+use Rattle.std.proofs.lemmas.List.Folds.{list_any_at}
 
 -- what is last in the rest of a list is last in the whole
 last_kept : (seen : ℕ → Bool) (lines : List MemberLine) (i s : ℕ) → last_y seen (drop i lines) ≡ Some s → last_y seen lines ≡ Some s

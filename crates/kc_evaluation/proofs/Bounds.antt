@@ -1,15 +1,13 @@
 -- Bounds of ranges.
-use Rattle.std.proofs.Common.{◌≡◌, ℕ, List, [], ◌∷◌, pos, unwrap_or, refl, sym, ap}
+use Rattle.std.proofs.Common.{pos, unwrap_or}
 use Rattle.std.specs.Fmt.{digits}
 use Rattle.kc_value.specs.declared.value.Kind.{Kind}
 use Rattle.kc_value.specs.declared.value.Kind.TheVariants.{Bool as Boolean, Tristate, Text, Int, Hex}
 use Rattle.kc_value.specs.Number.{number_of_text, number_spelling, IsPrintable}
-use Rattle.kc_expr.specs.Expr.{Expr, alone, related, negated, both, either, shown, operand_text}
-use Rattle.kc_tree_model.specs.Trees.{Tree}
+use Rattle.kc_expr.specs.Expr.{alone, related, negated, both, either, shown, operand_text}
+use Rattle.kc_evaluation.proofs.Common.{◌≡◌, ℕ, List, [], ◌∷◌, refl, sym, ap, Expr, Tree, UnitValue, environment}
 use Rattle.kc_tree.specs.between.Views.{operand_or_empty}
-use Rattle.kc_rules_model.specs.declared.values.UnitValue.{UnitValue}
 use Rattle.kc_rules_model.specs.Rule.{expression_text}
-use Rattle.kc_rules_model.specs.SymbolValues.{environment}
 use Rattle.kc_rules_model.specs.checker.PrintableBounds.{int_bound, hex_bound}
 use Rattle.kc_evaluation.specs.checker.Texts.{IsNumber}
 

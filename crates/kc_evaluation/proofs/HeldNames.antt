@@ -1,18 +1,16 @@
 -- The values that an arena's names are given are the values of all names.
-use Rattle.std.proofs.Common.{◌≡◌, ℕ, List, [], ◌∷◌, Option, Some, None, refl, sym, ap, ◌∙◌}
+use Rattle.kc_evaluation.proofs.Common.{◌≡◌, ℕ, List, [], ◌∷◌, Option, Some, None, refl, sym, ap, ◌∙◌, Expr, Tree, environment, UnitValue}
 use Rattle.std.specs.Prelude.{option_and_then}
 use Rattle.std.specs.List.{AllByRecursion}
 use Rattle.std.proofs.lemmas.Option.{slice_get-get_or}
-use Rattle.kc_expr.specs.Expr.{Expr, value}
+use Rattle.kc_expr.specs.Expr.{value}
 use Rattle.kc_expr.specs.Lookup.{environment_of, index_of_name}
 use Rattle.kc_expr.specs.ExpressionNames.{names_in}
 use Rattle.kc_expr.proofs.Places.{place_there}
-use Rattle.kc_tree_model.specs.Trees.{Tree}
 use Rattle.kc_tree_model.specs.TreeLookup.{symbol_named}
 use Rattle.kc_rules_model.specs.checker.Agreement.{value_agrees}
 use Rattle.kc_evaluation.specs.checker.SymbolValueViews.{symbol_value_at}
-use Rattle.kc_rules_model.specs.SymbolValues.{environment, value_of_symbol, condition}
-use Rattle.kc_rules_model.specs.declared.values.UnitValue.{UnitValue}
+use Rattle.kc_rules_model.specs.SymbolValues.{value_of_symbol, condition}
 
 every : {X : Type 0} (P : X → Type 0) → ((x : X) → P x) → (xs : List X) → AllByRecursion P xs
 every P f [] = tt

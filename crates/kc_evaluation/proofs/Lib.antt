@@ -1,3 +1,4 @@
+pub mod Common
 pub mod Evaluations
 pub mod Bounds
 pub mod HeldNames

@@ -1,6 +1,5 @@
 -- The words of a case, one after the other.
-use Rattle.std.proofs.Common.{◌≡◌, ◌++◌, refl}
-use Rattle.std.proofs.lemmas.List.{append-nil}
+use Rattle.kc_explanation.proofs.Common.{◌≡◌, ◌++◌, refl, append-nil}
 use Rattle.kc_reasons_model.specs.declared.cases.Case.{Case}
 use Rattle.kc_reasons_model.specs.declared.cases.Case.TheVariants.{Tri, Text, Choice}
 use Rattle.kc_explanation.specs.Explained.{text_case_text, choice_case_text, case_text}

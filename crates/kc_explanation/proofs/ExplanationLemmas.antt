@@ -1,12 +1,10 @@
 -- The text of a symbol's reasons, line after line.
-use Rattle.std.proofs.Common.{◌≡◌, ℕ, zero, suc, ◌<◌, List, [], ◌∷◌, ◌++◌, length, Some, refl, ap, sym, ◌∙◌, append_assoc, arith}
-use Rattle.std.specs.Prelude.{slice_get, option_map, unwrap_or}
-use Rattle.kc_tree_model.specs.Trees.{Tree, Symbol}
-use Rattle.kc_rules_model.specs.declared.values.UnitValue.{UnitValue}
-use Rattle.kc_dotconfig_model.specs.declared.format.Strings.{Strings}
+use Rattle.std.proofs.Common.{zero, suc, ◌<◌, length}
+use Rattle.std.specs.Prelude.{option_map, unwrap_or}
+use Rattle.kc_explanation.proofs.Common.{◌≡◌, ℕ, List, [], ◌∷◌, ◌++◌, Some, refl, ap, sym, ◌∙◌, append_assoc, arith, slice_get, Tree, Symbol, UnitValue, Strings,
+    Position}
 use Rattle.kc_reasons_model.specs.PlainReasons.{PlainReasons}
 use Rattle.kc_reasons_model.specs.SymbolLines.{SymbolLines}
-use Rattle.kc_tree_model.specs.Blocks.{Position}
 use Rattle.kc_located_reasons.specs.LocatedNeeds.{LocatedPart}
 use Rattle.kc_explanation.specs.Explained.{hindrance_line, explained, explained_at}
 use Rattle.kc_explanation.specs.Located.{ReasonPlaces, located_first_line, located_details, located_details_at, located_explained, located_explained_at, located_unmet, located_unmet_at}

@@ -1,3 +1,4 @@
+pub mod Common
 pub mod SpellingLemmas
 pub mod ExplanationLemmas
 pub mod PartLines

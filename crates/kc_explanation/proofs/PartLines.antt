@@ -1,23 +1,17 @@
 -- Lines of parts of conditions, and of selects and implies.
-use Rattle.std.proofs.Common.{◌≡◌, ℕ, List, [], ◌∷◌, ◌++◌, map, cond, Option, Some, None, refl, ap, ◌∙◌, append_assoc}
-use Rattle.std.specs.Prelude.{codes, slice_get}
+use Rattle.std.proofs.Common.{cond, Option, None}
+use Rattle.kc_explanation.proofs.Common.{◌≡◌, ℕ, List, [], ◌∷◌, ◌++◌, map, Some, refl, ap, ◌∙◌, append_assoc, codes, slice_get, append-nil, Exprs, Tree, Symbol,
+    Position, UnitValue, environment, Strings, located_alternatives_view, located_forcing_lines, joined_parts, part_lines, needed_lines}
 use Rattle.std.specs.Global.{Vec}
-use Rattle.std.proofs.lemmas.List.{append-nil}
 use Rattle.kc_expr.specs.Expr.{Environment}
-use Rattle.kc_expr.specs.between.Arena.{Exprs}
-use Rattle.kc_tree_model.specs.Trees.{Tree, Symbol, ReverseDependency}
-use Rattle.kc_tree_model.specs.Blocks.{Position}
-use Rattle.kc_rules_model.specs.declared.values.UnitValue.{UnitValue}
-use Rattle.kc_rules_model.specs.SymbolValues.{environment}
-use Rattle.kc_dotconfig_model.specs.declared.format.Strings.{Strings}
+use Rattle.kc_tree_model.specs.Trees.{ReverseDependency}
 use Rattle.kc_reasons.specs.declared.low_parts.LowPart.{LowPart}
 use Rattle.kc_reasons.specs.between.Parts.{part_view, parts_view, alternatives_view}
 use Rattle.kc_located_reasons.specs.declared.located_parts.LocatedPart.{LocatedPart}
-use Rattle.kc_located_reasons.specs.between.PartsView.{located_part_view, located_parts_view, located_alternatives_view}
+use Rattle.kc_located_reasons.specs.between.PartsView.{located_part_view, located_parts_view}
 use Rattle.kc_reasons_model.specs.declared.cases.Hindrance.{Hindrance}
 use Rattle.kc_explanation.specs.Explained.{inner_line, low_part_text, low_parts_text, alternative_lines, needs_lines, is_without_prompt, forcing_text, forcing_line, forcing_lines}
-use Rattle.kc_explanation.specs.Located.{located_part_text, located_parts_text, located_alternative_lines, located_needs_lines, located_forcing_line, located_forcing_lines}
-use Rattle.kc_explanation.specs.checker.PartLines.{joined_parts, part_lines, needed_lines}
+use Rattle.kc_explanation.specs.Located.{located_part_text, located_parts_text, located_alternative_lines, located_needs_lines, located_forcing_line}
 
 module _ (strings : Strings) (names : Environment) (exprs : Exprs) where
   abbrev pub low_texts : List LowPart → List (List ℕ)

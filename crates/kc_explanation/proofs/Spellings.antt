@@ -1,8 +1,7 @@
 -- The spelling of a value, by its type.
-use Rattle.std.proofs.Common.{◌≡◌, ℕ, List, refl}
+use Rattle.kc_explanation.proofs.Common.{◌≡◌, ℕ, List, refl, Strings}
 use Rattle.kc_value.specs.declared.value.Kind.{Kind}
 use Rattle.kc_value.specs.declared.value.Kind.TheVariants.{Bool as Boolean, Tristate, Text, Int, Hex}
-use Rattle.kc_dotconfig_model.specs.declared.format.Strings.{Strings}
 use Rattle.kc_minimal_model.specs.SymbolLine.{spelled}
 use Rattle.kc_reasons_model.specs.Reasons.{text_of_kind}
 

@@ -1,3 +1,4 @@
+pub mod Common
 pub mod LocatedLaws
 pub mod PartLemmas
 pub mod Searches

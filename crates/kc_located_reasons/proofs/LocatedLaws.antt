@@ -1,21 +1,20 @@
 -- The located needs and places are those of a symbol's reasons.
-use Rattle.std.proofs.Common.{◌≡◌, Bool, true, false, cond, ◌||◌, List, [], ◌∷◌, ◌++◌, map, refl, ap, sym, ◌∙◌}
+use Rattle.std.proofs.Common.{true, false, ◌||◌}
 use Rattle.std.specs.Prelude.{flat_map}
 use Rattle.std.specs.List.{list_any}
-use Rattle.std.proofs.lemmas.List.{map-append}
-use Rattle.kc_value.specs.declared.tri.Tri.{Tri}
+use Rattle.kc_located_reasons.proofs.Common.{◌≡◌, Bool, cond, List, [], ◌∷◌, ◌++◌, map, refl, ap, sym, ◌∙◌, map-append, Tri, Part, lacking, at_place, lacking_at,
+    located_lacking}
 use Rattle.kc_tree_model.specs.Trees.{Symbol}
 use Rattle.kc_tree_model.specs.Blocks.{Position}
 use Rattle.kc_rules_model.specs.Rule.{selected, is_from_environment}
 use Rattle.kc_rules_model.specs.Reports.{is_unmet_symbol}
-use Rattle.kc_reasons_model.specs.Conjuncts.{Part, lacking}
 use Rattle.kc_reasons_model.specs.Places.{LocatedExpr, wanted_of}
 use Rattle.kc_reasons_model.specs.declared.cases.Case.{Case}
 use Rattle.kc_reasons_model.specs.declared.cases.Case.TheVariants as cases
 use Rattle.kc_reasons_model.specs.declared.cases.TriCase.TheVariants as tri
 use Rattle.kc_reasons_model.specs.declared.cases.TextCase.TheVariants as text
 use Rattle.kc_reasons_model.specs.Reasons.{ExplainedRun, LowPart, low_part, low_parts, names_of, is_empty, unless_one_lacks_nothing}
-use Rattle.kc_located_reasons.specs.LocatedNeeds.{LocatedPart, at_place, lacking_at, located_lacking}
+use Rattle.kc_located_reasons.specs.LocatedNeeds.{LocatedPart}
 use Rattle.kc_located_reasons.specs.Laws.{told, NeedsAreLocated, UnmetAreLocated, GivenPlacesAreTold}
 
 module _ (run : ExplainedRun) where

@@ -1,21 +1,13 @@
 -- Parts with their places.
-use Rattle.std.proofs.Common.{◌≡◌, ℕ, ◌+◌, ◌<◌, length, get_or, drop, append_assoc, add-one, drop-cons, List, [], ◌∷◌, ◌++◌, map, refl, ap, sym, ◌∙◌}
-use Rattle.std.specs.Prelude.{All}
-use Rattle.std.proofs.lemmas.List.{map-append}
-use Rattle.kc_value.specs.declared.tri.Tri.{Tri}
+use Rattle.std.proofs.Common.{ℕ, ◌<◌, get_or, append_assoc, add-one, drop-cons}
+use Rattle.kc_located_reasons.proofs.Common.{◌≡◌, ◌+◌, length, drop, List, [], ◌∷◌, ◌++◌, map, refl, ap, sym, ◌∙◌, All, map-append, Tri, Part, parts_view,
+    position_view, located_view, all_located, at_place, lacking_at, located_lacking, LocatedPart, located_part_view, located_parts_view, part_at}
 use Rattle.kc_expr.specs.Expr.{Environment}
 use Rattle.kc_expr.specs.between.Arena.{Exprs}
-use Rattle.kc_reasons_model.specs.Conjuncts.{Part}
 use Rattle.kc_reasons.specs.declared.low_parts.LowPart.{LowPart}
-use Rattle.kc_reasons.specs.between.Parts.{parts_view}
 use Rattle.kc_symbol_lines.specs.declared.located.Position.{Position}
 use Rattle.kc_symbol_lines.specs.declared.located.LocatedExpr.{LocatedExpr}
-use Rattle.kc_symbol_lines.specs.between.LinesView.{position_view, located_view, all_located}
 use Rattle.kc_located_reasons.specs.LocatedNeeds as model
-use Rattle.kc_located_reasons.specs.LocatedNeeds.{at_place, lacking_at, located_lacking}
-use Rattle.kc_located_reasons.specs.declared.located_parts.LocatedPart.{LocatedPart}
-use Rattle.kc_located_reasons.specs.between.PartsView.{located_part_view, located_parts_view}
-use Rattle.kc_located_reasons.specs.checker.PartLists.{part_at}
 
 parts_placed : (exprs : Exprs) (at : Position) (low : List LowPart) → located_parts_view exprs (map (part_at at) low) ≡ map (at_place (position_view at)) (parts_view exprs low)
 parts_placed exprs at [] = refl

@@ -1,22 +1,13 @@
 -- Bytes between quotes, written item by item.
-use Rattle.std.proofs.Common.{◌≡◌, ℕ, true, List, [], ◌∷◌, ◌++◌, Some, refl, sym, ap, ◌∙◌, append_assoc}
-use Rattle.std.proofs.lemmas.List.{append-nil}
-use Rattle.kc_macros_model.specs.Programs.{Place, Fault, Program, returns, fails, ◌>>=◌}
-use Rattle.kc_macros_model.specs.References.{Item, reference, item_bytes, items}
-use Rattle.kc_macros_model.specs.Variables.{Value, joined_values, Bindings}
-use Rattle.kc_macros_model.specs.Expansion.{text_value}
-use Rattle.kc_macros_model.specs.WrittenTokens.{WrittenQuotedText, WrittenToken, token_of_body, body_of, body_of_value, joined_bodies, written_item, written_items}
-use Rattle.kc_macros_model.specs.Worlds.{returned}
-use Rattle.kc_macros.specs.declared.stop.Stop.{Stop}
-use Rattle.kc_answers.specs.RunStates.{RunState}
-use Rattle.kc_macros.specs.Runs.{ends, end_of_stop, Runs}
+use Rattle.kc_macro_lines.proofs.Common.{◌≡◌, ℕ, true, List, [], ◌∷◌, ◌++◌, Some, refl, sym, ap, ◌∙◌, append_assoc, append-nil, Place, Program, returns, ◌>>=◌,
+    Item, reference, item_bytes, items, Value, Bindings, text_value, WrittenToken, token_of_body, body_of, joined_bodies, written_items, returned, Stop,
+    RunState, ends, end_of_stop, Runs, bodies_left, quoted_written, Leads, then_runs, stops_early, runs_nothing, returns_as, then_returns, then_then, then_same,
+    runs_same, leads_same, leads_then, leads_on, fails_so}
+use Rattle.kc_macros_model.specs.Programs.{Fault, fails}
+use Rattle.kc_macros_model.specs.Variables.{joined_values}
+use Rattle.kc_macros_model.specs.WrittenTokens.{WrittenQuotedText, body_of_value, written_item}
 use Rattle.kc_macros.specs.between.Stops.{FailsWith}
-use Rattle.kc_macro_lines.specs.checker.Bodies.{bodies_left, quoted_written}
-use Rattle.kc_macros.specs.checker.ProgramSteps.{Leads}
-use Rattle.kc_macros.proofs.RunLemmas.{then_runs, stops_early, runs_nothing, returns_as}
-use Rattle.kc_macros.proofs.ProgramLemmas.{then_returns, then_then, then_same, runs_same, leads_same, leads_then, leads_on}
 use Rattle.kc_macros.proofs.PartialValueLemmas.{joined_three, joined_nothing, nothing_joined}
-use Rattle.kc_macros.proofs.ExpansionLemmas.{fails_so}
 
 same_body : (bytes bytes2 : List ℕ) (v v2 : Value) → bytes ≡ bytes2 → v ≡ v2 → (let a : WrittenQuotedText = record { bytes = bytes; meaning = v } in
     let b : WrittenQuotedText = record { bytes = bytes2; meaning = v2 } in a ≡ b)

@@ -1,15 +1,11 @@
 -- Texts without their first bytes, and the assignments that they make.
-use Rattle.std.proofs.Common.{◌≡◌, ℕ, zero, suc, ◌+◌, ◌-◌, ◌<◌, ◌≤◌, Bool, true, false, ◌&&◌, cond, List, [], ◌∷◌, length, take, drop, get_or, Option, None, refl, sym, ap, ◌∙◌, arith, length-drop}
-use Rattle.std.specs.Prelude.{◌==◌, not, option_map}
-use Rattle.std.proofs.lemmas.Bool.{eqb-true}
-use Rattle.std.specs.List.{list_any, prefix_len}
-use Rattle.kc_tokens.specs.Token.{is_white_byte}
-use Rattle.kc_macros_model.specs.LineTokens.{LineToken, run, token_bytes, line_tokens, bytes_of_tokens}
-use Rattle.kc_macros_model.specs.WrittenTokens.{is_keyword, WrittenToken}
-use Rattle.kc_macros_model.specs.Assignments.{AssignedText, assigned, without_front, is_blank_byte, operator_at, assignment_to, is_gap_token, is_unknown, is_open_front}
-use Rattle.kc_macro_lines.specs.checker.LineTexts.{first_token_of, has_token}
+use Rattle.kc_macro_lines.proofs.Common.{◌≡◌, ℕ, zero, suc, ◌+◌, ◌-◌, ◌<◌, ◌≤◌, Bool, true, false, ◌&&◌, cond, List, [], ◌∷◌, length, take, drop, get_or, Option,
+    None, refl, sym, ap, ◌∙◌, arith, length-drop, ◌==◌, not, option_map, eqb-true, list_any, prefix_len, is_white_byte, LineToken, run, token_bytes, line_tokens,
+    bytes_of_tokens, WrittenToken, AssignedText, assigned, without_front, operator_at, assignment_to, is_gap_token, is_unknown, is_open_front, first_token_of,
+    has_token, rest_is}
+use Rattle.kc_macros_model.specs.WrittenTokens.{is_keyword}
+use Rattle.kc_macros_model.specs.Assignments.{is_blank_byte}
 use Rattle.kc_macro_lines.proofs.LineTokenLemmas.{row_of_tokens, tokens_first, token_fits, any_token}
-use Rattle.kc_macros.proofs.PieceLemmas.{rest_is}
 
 -- an assignment without the blanks before its text
 abbrev pub without_blanks : AssignedText → AssignedText

@@ -1,3 +1,4 @@
+pub mod Common
 pub mod TokenLemmas
 pub mod WrittenTokenLemmas
 pub mod BodyLemmas

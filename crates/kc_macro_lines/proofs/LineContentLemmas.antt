@@ -1,25 +1,19 @@
 -- The content of a line, token by token.
-use Rattle.std.proofs.Common.{◌≡◌, ℕ, ◌<◌, Bool, true, false, ◌&&◌, List, [], ◌∷◌, ◌++◌, length, Option, Some, None, refl, sym, ap, ◌∙◌, subst, append_assoc, arith}
-use Rattle.std.proofs.lemmas.List.{map-append, append-nil}
-use Rattle.kc_macros_model.specs.Programs.{Place, Program, returns, stops, ◌>>=◌}
-use Rattle.kc_macros_model.specs.Variables.{Value, Bindings}
-use Rattle.kc_macros_model.specs.LineTokens.{LineToken, run, token_bytes}
-use Rattle.kc_macros_model.specs.WrittenTokens.{WrittenToken, token_of_text, run_value, written_token}
-use Rattle.kc_macros_model.specs.Assignments.{AssignedText, assigned, LineContent, assigns, tokens, with_token, is_gap, is_open_front, assignment_to, assignment_at, assignment_or, line_content}
-use Rattle.kc_macros_model.specs.Worlds.{returned, stopped}
+use Rattle.kc_macro_lines.proofs.Common.{◌≡◌, ℕ, ◌<◌, Bool, true, false, ◌&&◌, List, [], ◌∷◌, ◌++◌, length, Option, Some, None, refl, sym, ap, ◌∙◌, subst,
+    append_assoc, arith, append-nil, Place, Program, returns, stops, ◌>>=◌, Value, Bindings, LineToken, run, token_bytes, WrittenToken, token_of_text, run_value,
+    written_token, AssignedText, assigned, LineContent, tokens, with_token, is_gap, is_open_front, assignment_to, assignment_at, assignment_or, line_content,
+    returned, Stop, RunState, ends, end_of_stop, Runs, token_of, tokens_of, Leads, then_runs, stops_early, runs_nothing, then_returns, then_then, then_same,
+    runs_same, leads_same, leads_then, leads_on}
+use Rattle.std.proofs.lemmas.List.{map-append}
+use Rattle.kc_macros_model.specs.Assignments.{assigns}
+use Rattle.kc_macros_model.specs.Worlds.{stopped}
 use Rattle.kc_macro_forms.specs.declared.written_tokens.WrittenToken.{WrittenToken as CodeToken}
 use Rattle.kc_macros.specs.declared.assignments.Assignment.{Assignment}
 use Rattle.kc_macro_lines.specs.declared.line_content.LineFront.{LineFront}
 use Rattle.kc_macro_lines.specs.declared.line_content.ContentStep.{ContentStep}
 use Rattle.kc_macro_lines.specs.declared.line_content.ContentStep.TheVariants as steps
-use Rattle.kc_macros.specs.declared.stop.Stop.{Stop}
-use Rattle.kc_answers.specs.RunStates.{RunState}
-use Rattle.kc_macros.specs.Runs.{ends, end_of_stop, Runs}
-use Rattle.kc_macro_forms.specs.between.WrittenTokens.{token_of, tokens_of}
-use Rattle.kc_macros.specs.checker.ProgramSteps.{Leads}
 use Rattle.kc_macro_lines.specs.checker.LineFronts.{with_tokens, content_left, step_left}
-use Rattle.kc_macros.proofs.RunLemmas.{then_runs, stops_early, runs_nothing, runs_stop}
-use Rattle.kc_macros.proofs.ProgramLemmas.{then_returns, then_then, then_same, runs_same, leads_same, leads_then, leads_on}
+use Rattle.kc_macros.proofs.RunLemmas.{runs_stop}
 
 with_none : (c : LineContent) → with_tokens [] c ≡ c
 with_none (tokens ts) = refl

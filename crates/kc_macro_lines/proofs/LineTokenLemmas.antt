@@ -1,15 +1,9 @@
 -- A line is its tokens in a row.
-use Rattle.std.proofs.Common.{◌≡◌, ℕ, zero, suc, ◌-◌, ◌<◌, ◌≤◌, Bool, true, false, ◌||◌, cond, List, [], ◌∷◌, ◌++◌, length, take, drop, get_or, refl, sym, ap, ◌∙◌, subst, arith, length-append}
-use Rattle.std.specs.Prelude.{◌==◌, pred, not, nat_lt}
-use Rattle.std.specs.List.{list_any}
-use Rattle.std.proofs.lemmas.List.{append-nil, drop_all}
-use Rattle.std.proofs.lemmas.Bool.{eqb-true, ltb-true}
-use Rattle.kc_tokens.specs.Token.{is_white_byte}
-use Rattle.kc_macros_model.specs.References.{item_bytes, first_item, items, is_unterminated}
-use Rattle.kc_macros_model.specs.LineTokens.{LineToken, gap, run, quoted, other, broken, token_bytes, extent, is_run_byte, run_token, quoted_token, first_token, line_tokens, bytes_of_tokens}
-use Rattle.kc_macros_model.specs.Assignments.{is_gap_token}
-use Rattle.kc_macro_lines.specs.checker.LineTexts.{first_token_of, has_token}
-use Rattle.kc_macros.proofs.PieceLemmas.{rest_is}
+use Rattle.kc_macro_lines.proofs.Common.{◌≡◌, ℕ, zero, suc, ◌-◌, ◌<◌, ◌≤◌, Bool, true, false, ◌||◌, cond, List, [], ◌∷◌, ◌++◌, length, take, drop, get_or, refl,
+    sym, ap, ◌∙◌, subst, arith, length-append, ◌==◌, pred, not, nat_lt, list_any, append-nil, drop_all, eqb-true, is_white_byte, item_bytes, first_item, items,
+    is_unterminated, LineToken, gap, run, quoted, other, broken, token_bytes, extent, is_run_byte, run_token, quoted_token, first_token, line_tokens,
+    bytes_of_tokens, is_gap_token, first_token_of, has_token, rest_is}
+use Rattle.std.proofs.lemmas.Bool.{ltb-true}
 
 -- where an extent stops
 extent_stops : (q : Bool) (ends : ℕ → Bool) (skip : ℕ) (s : List ℕ) → extent q ends skip s < length s → ends (get_or s (extent q ends skip s) 0) ≡ true

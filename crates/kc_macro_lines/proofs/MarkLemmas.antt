@@ -1,13 +1,12 @@
 -- A `$` or a byte that isn't ASCII among the bytes that are looked at together.
-use Rattle.std.proofs.Common.{◌≡◌, ℕ, zero, suc, ◌+◌, ◌*◌, ◌%◌, ◌^◌, ◌≤◌, eqb, leb, Bool, true, false, not, ◌||◌, ◌==◌, cond, bit_or, Fits, w8, List, [], ◌∷◌, ◌++◌, length, take, drop, map, get_or, refl, sym, ap, ap₂, ◌∙◌, arith, length-drop}
-use Rattle.std.specs.Prelude.{nat_le}
-use Rattle.std.specs.List.{list_any}
-use Rattle.std.proofs.lemmas.Bool.{agree_below, agree_below_at, eqb-true}
+use Rattle.std.proofs.Common.{◌*◌, ◌%◌, ◌^◌, eqb, not, ◌==◌, bit_or, Fits, w8, map, ap₂}
+use Rattle.kc_macro_lines.proofs.Common.{◌≡◌, ℕ, zero, suc, ◌+◌, ◌≤◌, leb, Bool, true, false, ◌||◌, cond, List, [], ◌∷◌, ◌++◌, length, take, drop, get_or, refl,
+    sym, ap, ◌∙◌, arith, length-drop, nat_le, list_any, eqb-true, length-chunk, chunk, has_dollar_or_wide}
+use Rattle.std.proofs.lemmas.Bool.{agree_below, agree_below_at}
 use Rattle.std.proofs.lemmas.List.{take-append-drop, take-take, drop-take, take_all, length-map}
 use Rattle.std.proofs.lemmas.List.Folds.{list_any-append}
-use Rattle.std.proofs.lemmas.Simd.{map-map, mask_l-mod, length-chunk, chunk-fits}
-use lib.Lanes.{Each1, chunk, mask_l, top}
-use Rattle.kc_macro_lines.specs.checker.QuietLines.{has_dollar_or_wide}
+use Rattle.std.proofs.lemmas.Simd.{map-map, mask_l-mod, chunk-fits}
+use lib.Lanes.{Each1, mask_l, top}
 
 -- two tests that agree at each byte find one among the same bytes
 any_same : (p q : ℕ → Bool) → agree_below p q 256 ≡ true → (xs : List ℕ) → Each1 (Fits w8) xs → list_any p xs ≡ list_any q xs

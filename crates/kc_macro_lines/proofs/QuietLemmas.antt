@@ -1,26 +1,19 @@
 -- Lines without `$`: their words, and the tests that most words and bytes fail.
-use Rattle.std.proofs.Common.{◌≡◌, ◌≢◌, ℕ, zero, suc, ◌<◌, Bool, true, false, ◌||◌, cond, List, [], ◌∷◌, ◌++◌, length, take, drop, get_or, refl, sym, ap, ◌∙◌, subst, arith}
-use Rattle.std.specs.Prelude.{◌==◌, not, pred, nat_le, bytes_eq, codes, take_while}
+use Rattle.std.proofs.Common.{◌≢◌}
+use Rattle.std.specs.Prelude.{take_while}
 use Rattle.std.specs.List.{All, list_all}
-use Rattle.std.specs.Str.{is_utf8}
+use Rattle.kc_macro_lines.proofs.Common.{◌≡◌, ℕ, zero, suc, ◌<◌, Bool, true, false, ◌||◌, cond, List, [], ◌∷◌, ◌++◌, length, take, drop, get_or, refl, sym, ap,
+    ◌∙◌, subst, arith, ◌==◌, not, pred, nat_le, bytes_eq, codes, is_utf8, drop_all, is_white_byte, is_in_list, Place, returns, ◌>>=◌, Bindings, body_of,
+    joined_bodies, written_items, byte, escaped, item_bytes, first_item, items, LineToken, gap, run, broken, other, token_bytes, extent, is_run_byte, run_token,
+    quoted_token, first_token, line_tokens, without_front, prompt_words, source_words, help_words, has_dollar_or_backslash, is_acting_word, has_dollar_or_wide,
+    IsQuiet}
 use Rattle.std.proofs.lemmas.Bool.{and_parts, leb-false}
-use Rattle.std.proofs.lemmas.List.{drop_all}
 use Rattle.std.proofs.lemmas.List.Elements.{All-nil, All-cons}
 use Rattle.std.proofs.lemmas.List.Sums.{take_while-cons}
 use Rattle.std.proofs.lemmas.Slice.Eq.{bytes_eq-Decides}
 use Rattle.std.proofs.lemmas.Str.{is_utf8-from_IsUtf8, IsUtf8-from_ascii}
 use Rattle.std.proofs.lemmas.Str.Ascii.{IsAscii-from_all}
-use Rattle.kc_tokens.specs.Token.{is_white_byte}
-use Rattle.kc_tree_model.specs.Limits.{is_in_list}
-use Rattle.kc_macros_model.specs.Programs.{Place, returns, ◌>>=◌}
-use Rattle.kc_macros_model.specs.Variables.{Bindings}
-use Rattle.kc_macros_model.specs.WrittenTokens.{body_of, joined_bodies, written_items}
-use Rattle.kc_macros_model.specs.References.{byte, escaped, item_bytes, first_item, items}
-use Rattle.kc_macros_model.specs.LineTokens.{LineToken, gap, run, broken, other, token_bytes, extent, is_run_byte, run_token, quoted_token, first_token, line_tokens}
-use Rattle.kc_macros_model.specs.Assignments.{without_front}
-use Rattle.kc_macros_model.specs.LineForms.{prompt_words, source_words, help_words}
-use Rattle.kc_macro_lines.specs.checker.Bodies.{has_dollar_or_backslash}
-use Rattle.kc_macro_lines.specs.checker.QuietLines.{ends_acting, is_acting_word, may_begin_prompt, has_dollar_or_wide, IsQuiet}
+use Rattle.kc_macro_lines.specs.checker.QuietLines.{ends_acting, may_begin_prompt}
 use Rattle.kc_macro_lines.proofs.LineTokenLemmas.{tokens_skip}
 use Rattle.kc_macro_lines.proofs.CopiedLineLemmas.{has_dollar, all_terminated, either_false, first_plain, rest_plain, take_plain, first_is, passed_dropped, failed_stays, quiet_front, quiet_by}
 

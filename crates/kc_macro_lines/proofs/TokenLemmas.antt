@@ -1,14 +1,13 @@
 -- Items and extents of a text, item by item.
-use Rattle.std.proofs.Common.{◌≡◌, ℕ, zero, suc, ◌+◌, ◌-◌, ◌<◌, ◌≤◌, Bool, true, false, ◌&&◌, ◌||◌, cond, List, [], ◌∷◌, ◌++◌, length, take, drop, get_or, Option, Some, None, refl, sym, ap, ◌∙◌, arith, length-append, length-drop, inl, inr}
-use Rattle.std.specs.Prelude.{◌==◌, ◌⊎◌, pred, is_some, not, nat_lt, slice_get}
-use Rattle.std.proofs.lemmas.Bool.{lt-ltb, le-ltb, cases_lt}
-use Rattle.std.specs.List.{list_any}
+use Rattle.std.proofs.Common.{inl, inr}
+use Rattle.std.specs.Prelude.{◌⊎◌, slice_get}
+use Rattle.std.proofs.lemmas.Bool.{lt-ltb, cases_lt}
+use Rattle.kc_macro_lines.proofs.Common.{◌≡◌, ℕ, zero, suc, ◌+◌, ◌-◌, ◌<◌, ◌≤◌, Bool, true, false, ◌&&◌, ◌||◌, cond, List, [], ◌∷◌, ◌++◌, length, take, drop,
+    get_or, Option, Some, None, refl, sym, ap, ◌∙◌, arith, length-append, length-drop, ◌==◌, pred, is_some, not, nat_lt, le-ltb, list_any, Item, byte, escaped,
+    reference, unterminated, item_bytes, reference_of, first_item, items, is_unterminated, is_reference, is_plain_dollar, inside_length, extent, first_item_of,
+    rest_is}
 use Rattle.std.specs.Cmp.{first_so}
-use Rattle.kc_macros_model.specs.References.{Item, byte, escaped, reference, unterminated, item_bytes, reference_of, first_item, items, is_unterminated, is_reference, is_plain_dollar, inside_length}
 use Rattle.kc_macros_model.specs.ExpansionRules.{begins_reference}
-use Rattle.kc_macros_model.specs.LineTokens.{extent}
-use Rattle.kc_macro_lines.specs.checker.LineTexts.{first_item_of}
-use Rattle.kc_macros.proofs.PieceLemmas.{rest_is}
 
 items_skip : (q : Bool) (n : ℕ) (s : List ℕ) → items q n s ≡ items q 0 (drop n s)
 items_skip q zero s = refl

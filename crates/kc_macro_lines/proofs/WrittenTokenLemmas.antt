@@ -1,19 +1,8 @@
 -- How runs are written.
-use Rattle.std.proofs.Common.{◌≡◌, ℕ, Bool, true, false, List, [], Some, refl, ap, ◌∙◌}
-use Rattle.std.specs.Prelude.{◌==◌}
-use Rattle.std.specs.List.{list_any}
-use Rattle.kc_macros_model.specs.Programs.{Place, Program, returns, ◌>>=◌}
-use Rattle.kc_macros_model.specs.References.{items, is_reference, is_plain_dollar}
-use Rattle.kc_macros_model.specs.Variables.{Value, Bindings}
-use Rattle.kc_macros_model.specs.Expansion.{text_value}
-use Rattle.kc_macros_model.specs.declared.token_sort.TokenSort.TheVariants.{Word, Other}
-use Rattle.kc_macros_model.specs.WrittenTokens.{WrittenToken, written_as, token_of_value, run_value, written_run}
-use Rattle.kc_macros_model.specs.Worlds.{returned}
-use Rattle.kc_macros.specs.declared.stop.Stop.{Stop}
-use Rattle.kc_answers.specs.RunStates.{RunState}
-use Rattle.kc_macros.specs.Runs.{ends, end_of_stop, Runs}
-use Rattle.kc_macros.proofs.RunLemmas.{then_runs, stops_early, runs_nothing, returns_as}
-use Rattle.kc_macros.proofs.ProgramLemmas.{runs_same}
+use Rattle.kc_macro_lines.proofs.Common.{◌≡◌, ℕ, Bool, true, false, List, [], Some, refl, ap, ◌∙◌, ◌==◌, list_any, Place, Program, returns, ◌>>=◌, items,
+    is_reference, is_plain_dollar, Value, Bindings, text_value, Word, Other, WrittenToken, written_as, run_value, returned, Stop, RunState, ends, end_of_stop,
+    Runs, then_runs, stops_early, runs_nothing, returns_as, runs_same}
+use Rattle.kc_macros_model.specs.WrittenTokens.{token_of_value, written_run}
 
 module _ (at : Place) (b : Bindings) (s : List ℕ) where
   pub plain_run : list_any (λ c. c == 36) s ≡ false → run_value at b s ≡ returns (Some s)

@@ -1,19 +1,12 @@
 -- The steps of an assignment.
-use Rattle.std.proofs.Common.{◌≡◌, ℕ, ◌<◌, List, [], ◌∷◌, Option, Some, refl, sym, ap, subst}
-use Rattle.kc_value.specs.declared.limits.TheConstants.{MAX_TEXT_BYTES}
-use Rattle.kc_macros_model.specs.Programs.{Place, Program, returns, fails, ◌>>=◌}
-use Rattle.kc_macros_model.specs.Variables.{Value, value_length, joined_values, Variable, simple, Bindings, with_variable}
+use Rattle.kc_macros.proofs.Common.{◌≡◌, ℕ, ◌<◌, List, [], ◌∷◌, Option, Some, refl, sym, ap, subst, MAX_TEXT_BYTES, Place, Program, returns, fails, ◌>>=◌, Value,
+    value_length, joined_values, simple, Bindings, with_variable, returned, Stop, RunState, RunEnd, ends, end_of_stop, Runs, spent, too_long}
+use Rattle.kc_macros_model.specs.Variables.{Variable}
 use Rattle.kc_macros_model.specs.Expansion.{text_value}
 use Rattle.kc_macros_model.specs.declared.operator.Operator.{Operator}
 use Rattle.kc_macros_model.specs.declared.operator.Operator.TheVariants.{SetsNow, Appends}
 use Rattle.kc_macros_model.specs.Assignments.{stored, stored_simple, variable_assigned}
-use Rattle.kc_macros_model.specs.Worlds.{returned}
-use Rattle.kc_macros.specs.declared.stop.Stop.{Stop}
-use Rattle.kc_answers.specs.RunStates.{RunState}
-use Rattle.kc_macros.specs.Runs.{RunEnd, ends, end_of_stop, Runs}
 use Rattle.kc_macros.specs.between.AssignmentViews.{bindings_assigned}
-use Rattle.kc_macros.specs.checker.Events.{spent}
-use Rattle.kc_macros.specs.checker.PartialValues.{too_long}
 use Rattle.kc_macros.specs.checker.StoredBytes.{stored_bytes}
 use Rattle.kc_macros.proofs.RunLemmas.{then_runs, stops_early, runs_nothing, returns_as}
 use Rattle.kc_macros.proofs.ProgramLemmas.{runs_same}

@@ -1,15 +1,10 @@
 -- Variables by names, through the map that holds them.
-use mathlib.Core.Path.{fun_ext}
-use Rattle.std.proofs.Common.{◌≡◌, ℕ, Bool, true, false, cond, List, [], ◌∷◌, map, Option, Some, None, refl, ap, ◌∙◌}
-use Rattle.std.specs.Prelude.{Vec, bytes_eq, option_map}
-use Rattle.std.specs.declared.alloc.Global.{Global}
+use Rattle.kc_macros.proofs.Common.{fun_ext, ◌≡◌, ℕ, Bool, true, false, cond, List, [], ◌∷◌, map, Option, Some, None, refl, ap, ◌∙◌, Vec, bytes_eq, option_map,
+    Global, Bor, with_variable, variable_of, entry_of, bindings_of}
 use Rattle.indexmap.specs.IndexMap.{insert_entry}
-use Rattle.std.specs.Borrow.{Bor}
 use Rattle.std.specs.Option.{option_copied}
 use Rattle.std.specs.Map.{lookup}
-use Rattle.kc_macros_model.specs.Variables.{with_variable}
 use Rattle.kc_macros.specs.declared.variable.Variable.{Variable as CodeVariable}
-use Rattle.kc_macros.specs.between.Variables.{variable_of, entry_of, bindings_of}
 use Rattle.kc_answers.proofs.TableLemmas.{bytes_eq_turned}
 use Rattle.kc_answers.proofs.EntryLemmas.{inserted_at}
 

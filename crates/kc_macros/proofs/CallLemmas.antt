@@ -1,23 +1,14 @@
 -- The steps of a reference.
-use Rattle.std.proofs.Common.{◌≡◌, ℕ, suc, ◌+◌, ◌-◌, ◌<◌, ◌≤◌, Bool, true, false, List, [], ◌∷◌, ◌++◌, length, take, drop, get_or, Some, None, refl, sym, ap, ◌∙◌, append_assoc, arith}
-use Rattle.std.specs.Prelude.{bytes_eq, ◌||◌}
-use Rattle.std.specs.Borrow.{Bor}
-use Rattle.kc_macros.specs.between.SliceTexts.{texts_of_slices}
+use Rattle.kc_macros.proofs.Common.{◌≡◌, ℕ, suc, ◌+◌, ◌-◌, ◌<◌, ◌≤◌, Bool, true, false, List, [], ◌∷◌, ◌++◌, length, take, drop, get_or, Some, None, refl, sym,
+    ap, ◌∙◌, append_assoc, arith, bytes_eq, Bor, texts_of_slices, le-leb, lt-leb, append-nil, take_all, at_drop_more, Arguments, Place, Program, returns, fails,
+    ◌>>=◌, reference, pieces, Value, recursive, Bindings, item_value, piece_values, call_value, named_value, pieces_left, returned, Stop, RunState, ends,
+    end_of_stop, Runs, Leads}
+use Rattle.std.specs.Prelude.{◌||◌}
 use Rattle.std.specs.List.{list_any}
-use Rattle.std.proofs.lemmas.Bool.{le-leb, lt-leb}
-use Rattle.std.proofs.lemmas.List.{append-nil, take_all, at_drop_more}
-use Rattle.kc_macros_model.specs.declared.fault.MacroKind.TheVariants.{Recursion, Arguments}
+use Rattle.kc_macros_model.specs.declared.fault.MacroKind.TheVariants.{Recursion}
 use Rattle.kc_value.specs.declared.limits.TheConstants.{MAX_PIECES}
-use Rattle.kc_macros_model.specs.Programs.{Place, Program, returns, fails, ◌>>=◌}
-use Rattle.kc_macros_model.specs.References.{reference, pieces}
-use Rattle.kc_macros_model.specs.Variables.{Value, recursive, Bindings, argument_of}
-use Rattle.kc_macros_model.specs.Expansion.{Expander, item_value, piece_values, call_value, named_value, reference_value, is_recursion}
-use Rattle.kc_macros.specs.checker.Pieces.{pieces_left}
-use Rattle.kc_macros_model.specs.Worlds.{returned}
-use Rattle.kc_macros.specs.declared.stop.Stop.{Stop}
-use Rattle.kc_answers.specs.RunStates.{RunState}
-use Rattle.kc_macros.specs.Runs.{ends, end_of_stop, Runs}
-use Rattle.kc_macros.specs.checker.ProgramSteps.{Leads}
+use Rattle.kc_macros_model.specs.Variables.{argument_of}
+use Rattle.kc_macros_model.specs.Expansion.{Expander, reference_value, is_recursion}
 use Rattle.kc_macros.proofs.RunLemmas.{stops_early, runs_nothing}
 use Rattle.kc_macros.proofs.ProgramLemmas.{then_returns, then_then, then_same, runs_same, leads_same, leads_then, leads_on}
 

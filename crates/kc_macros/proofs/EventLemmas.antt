@@ -1,21 +1,13 @@
 -- Runs of programs of one event.
-use Rattle.std.proofs.Common.{◌≡◌, ℕ, ◌-◌, ◌<◌, ◌≤◌, Bool, true, false, cond, List, [], ◌∷◌, ◌++◌, Option, Some, None, Ok, Err, refl, sym, ap, ◌∙◌, subst}
-use Rattle.std.specs.Prelude.{nat_lt}
-use Rattle.std.proofs.lemmas.Bool.{lt-ltb, le-ltb}
-use Rattle.std.proofs.lemmas.List.{append-nil}
+use Rattle.kc_macros.proofs.Common.{◌≡◌, ℕ, ◌-◌, ◌<◌, ◌≤◌, Bool, true, false, cond, List, [], ◌∷◌, ◌++◌, Option, Some, None, Ok, Err, refl, sym, ap, ◌∙◌, subst,
+    nat_lt, lt-ltb, le-ltb, append-nil, Place, Fault, Notice, Program, returns, fails, Value, value_of_answer, asked_value, reported, World, Ending, returned,
+    failed, Outcome, outcome, Stop, RunState, with_question, after_outcome, ends, end_of_stop, HasAnswers, Runs, cut_short, FailsWith, spent}
 use Rattle.kc_tree_model.specs.Keywords.{keyword_in_table}
 use Rattle.kc_macros_model.specs.declared.fault.MacroKind.TheVariants.{Unanswered, TooMany}
 use Rattle.kc_macros_model.specs.declared.fault.MacroNoticeKind.{MacroNoticeKind}
-use Rattle.kc_macros_model.specs.Programs.{Place, Fault, Notice, Answer, spend, Program, returns, fails}
-use Rattle.kc_macros_model.specs.Variables.{Value, value_of_answer}
-use Rattle.kc_macros_model.specs.Expansion.{asked_value, reported}
-use Rattle.kc_macros_model.specs.Worlds.{World, unless_unanswered, unless_fault, Ending, returned, failed, Outcome, outcome, after_event}
-use Rattle.kc_macros.specs.declared.stop.Stop.{Stop}
+use Rattle.kc_macros_model.specs.Programs.{Answer, spend}
+use Rattle.kc_macros_model.specs.Worlds.{unless_unanswered, unless_fault, after_event}
 use Rattle.kc_macros.specs.declared.stop.Stop.TheVariants as kinds
-use Rattle.kc_answers.specs.RunStates.{RunState, with_question, after_outcome}
-use Rattle.kc_macros.specs.Runs.{ends, end_of_stop, HasAnswers, Runs, cut_short}
-use Rattle.kc_macros.specs.between.Stops.{FailsWith}
-use Rattle.kc_macros.specs.checker.Events.{spent}
 use Rattle.kc_macros.proofs.RunLemmas.{RunsIn, in_each_world, runs_fault}
 
 -- a state with no notice more

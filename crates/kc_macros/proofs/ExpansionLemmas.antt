@@ -1,22 +1,13 @@
 -- The steps of an expansion.
-use Rattle.std.proofs.Common.{◌≡◌, ℕ, suc, ◌+◌, ◌-◌, ◌<◌, ◌≤◌, Result, Ok, Err, Bool, true, false, ◌&&◌, List, [], ◌∷◌, ◌++◌, length, map, Some, sym, ap, ◌∙◌, subst, arith, length-append}
-use Rattle.std.specs.Prelude.{is_some, OnOk, IfErr}
+use Rattle.kc_macros.proofs.Common.{◌≡◌, ℕ, suc, ◌+◌, ◌-◌, ◌<◌, ◌≤◌, Result, Ok, Err, Bool, true, false, ◌&&◌, List, [], ◌∷◌, ◌++◌, length, map, Some, sym, ap,
+    ◌∙◌, subst, arith, length-append, is_some, MAX_TEXT_BYTES, Place, Fault, Program, returns, fails, ◌>>=◌, Item, byte, items, Value, value_length, Bindings,
+    unless_too_long, item_value, item_values, returned, Stop, RunState, ends, end_of_stop, Runs, cut_short, FailsWith, spent, paid, known_bytes, value_if_known,
+    too_long, values_left, Leads, Steps}
+use Rattle.std.specs.Prelude.{OnOk, IfErr}
 use Rattle.kc_macros_model.specs.declared.fault.MacroKind.TheVariants.{TooDeep}
-use Rattle.kc_value.specs.declared.limits.TheConstants.{MAX_TEXT_BYTES}
-use Rattle.kc_macros_model.specs.Programs.{Place, Fault, Program, returns, fails, ◌>>=◌}
-use Rattle.kc_macros_model.specs.References.{Item, byte, items}
-use Rattle.kc_macros_model.specs.Variables.{Value, value_length, Bindings}
-use Rattle.kc_macros_model.specs.Expansion.{unless_too_long, item_value, item_values, expanded}
-use Rattle.kc_macros_model.specs.Worlds.{returned}
-use Rattle.kc_macros.specs.declared.stop.Stop.{Stop}
+use Rattle.kc_macros_model.specs.Expansion.{expanded}
 use Rattle.kc_macros.specs.declared.stop.Stop.TheVariants as kinds
-use Rattle.kc_answers.specs.RunStates.{RunState}
-use Rattle.kc_macros.specs.Runs.{ends, end_of_stop, Runs, cut_short}
-use Rattle.kc_macros.specs.between.Stops.{FailsWith}
-use Rattle.kc_macros.specs.checker.Events.{FailsIf, spent}
-use Rattle.kc_macros.specs.checker.Frames.{paid}
-use Rattle.kc_macros.specs.checker.PartialValues.{known_bytes, value_if_known, too_long, values_left}
-use Rattle.kc_macros.specs.checker.ProgramSteps.{Leads, Steps}
+use Rattle.kc_macros.specs.checker.Events.{FailsIf}
 use Rattle.kc_macros.proofs.RunLemmas.{then_runs, stops_early, runs_nothing}
 use Rattle.kc_macros.proofs.EventLemmas.{runs_failed}
 use Rattle.kc_macros.proofs.ProgramLemmas.{runs_same, leads_same, leads_then, leads_on}

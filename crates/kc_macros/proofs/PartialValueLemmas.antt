@@ -1,14 +1,9 @@
 -- The value of a text so far, item by item.
-use Rattle.std.proofs.Common.{◌≡◌, ℕ, ◌+◌, ◌<◌, ◌≤◌, Bool, true, false, ◌&&◌, List, [], ◌∷◌, ◌++◌, length, map, Some, None, refl, sym, ap, ◌∙◌, append_assoc, arith, length-append, inl, inr}
-use Rattle.std.specs.Prelude.{nat_le, is_some, ◌⊎◌}
-use Rattle.std.proofs.lemmas.List.{append-nil}
-use Rattle.std.proofs.lemmas.Bool.{le-leb, lt-leb, cases_lt}
-use Rattle.kc_value.specs.declared.limits.TheConstants.{MAX_TEXT_BYTES}
-use Rattle.kc_macros_model.specs.Programs.{Place, Program, returns, fails, ◌>>=◌}
-use Rattle.kc_macros_model.specs.References.{Item, byte}
-use Rattle.kc_macros_model.specs.Variables.{Value, value_length, joined_values}
-use Rattle.kc_macros_model.specs.Expansion.{unless_too_long, item_values}
-use Rattle.kc_macros.specs.checker.PartialValues.{known_bytes, value_if_known, too_long, values_left}
+use Rattle.kc_macros.proofs.Common.{◌≡◌, ℕ, ◌+◌, ◌<◌, ◌≤◌, Bool, true, false, ◌&&◌, List, [], ◌∷◌, ◌++◌, length, map, Some, None, refl, sym, ap, ◌∙◌,
+    append_assoc, arith, length-append, inl, inr, is_some, ◌⊎◌, append-nil, le-leb, lt-leb, MAX_TEXT_BYTES, Place, Program, returns, fails, ◌>>=◌, Item, byte,
+    Value, value_length, joined_values, unless_too_long, item_values, known_bytes, value_if_known, too_long, values_left}
+use Rattle.std.specs.Prelude.{nat_le}
+use Rattle.std.proofs.lemmas.Bool.{cases_lt}
 use Rattle.kc_macros.proofs.ProgramLemmas.{then_returns, then_then, then_same}
 
 pub joined_three : (u v w : Value) → joined_values u (joined_values v w) ≡ joined_values (joined_values u v) w

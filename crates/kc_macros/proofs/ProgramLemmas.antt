@@ -1,14 +1,8 @@
 -- Programs one after another, as equations, and what is left of a run.
-use mathlib.Core.Path.{fun_ext}
-use Rattle.std.proofs.Common.{◌≡◌, Result, Ok, Err, refl, sym, ap, subst}
-use Rattle.std.specs.Prelude.{IsErrAnd}
-use Rattle.kc_macros_model.specs.Programs.{Program, returns, fails, stops, does, ◌>>=◌}
-use Rattle.kc_macros_model.specs.Worlds.{returned}
-use Rattle.kc_macros.specs.declared.stop.Stop.{Stop}
+use Rattle.kc_macros.proofs.Common.{fun_ext, ◌≡◌, Result, Ok, Err, refl, sym, ap, subst, IsErrAnd, Program, returns, fails, stops, ◌>>=◌, returned, Stop,
+    RunState, RunEnd, ends, end_of_stop, Runs, cut_short, Leads, Steps}
+use Rattle.kc_macros_model.specs.Programs.{does}
 use Rattle.kc_macros.specs.declared.stop.Stop.TheVariants as kinds
-use Rattle.kc_answers.specs.RunStates.{RunState}
-use Rattle.kc_macros.specs.Runs.{RunEnd, ends, end_of_stop, Runs, cut_short}
-use Rattle.kc_macros.specs.checker.ProgramSteps.{Leads, Steps}
 use Rattle.kc_macros.proofs.RunLemmas.{then_runs}
 
 pub then_returns : {A : Type 0} (p : Program A) → p >>= returns ≡ p

@@ -1,15 +1,13 @@
 -- Runs of programs one after another.
-use Rattle.std.proofs.Common.{◌≡◌, ℕ, List, [], ◌∷◌, ◌++◌, Result, Ok, Err, refl, sym, ap, ◌∙◌, subst, append_assoc}
-use Rattle.std.specs.Prelude.{IsErrAnd}
-use Rattle.std.proofs.lemmas.List.{append-nil}
-use Rattle.kc_macros_model.specs.Programs.{Fault, Program, returns, fails, stops, ◌>>=◌}
-use Rattle.kc_macros_model.specs.Worlds.{World, Ending, returned, failed, stopped, Outcome, outcome}
+use Rattle.kc_macros.proofs.Common.{◌≡◌, ℕ, List, [], ◌∷◌, ◌++◌, Result, Ok, Err, refl, sym, ap, ◌∙◌, subst, append_assoc, IsErrAnd, append-nil, Fault, Program,
+    returns, fails, stops, ◌>>=◌, World, Ending, returned, failed, Outcome, outcome, Stop, RunState, with_question, after_outcome, RunEnd, ends, end_of_stop,
+    end_of, HasAnswers, Runs, cut_short}
+use Rattle.kc_macros_model.specs.Worlds.{stopped}
 use Rattle.kc_macros_model.proofs.Outcomes.{continued_by, composed}
 use Rattle.kc_macros_model.specs.AnswerFiles.{RecordedAnswers}
-use Rattle.kc_macros.specs.declared.stop.Stop.{Stop}
 use Rattle.kc_macros.specs.declared.stop.Stop.TheVariants as kinds
-use Rattle.kc_answers.specs.RunStates.{RunState, with_question, with_questions, after_outcome}
-use Rattle.kc_macros.specs.Runs.{RunEnd, ends, out_of_memory, end_of_stop, end_of, HasAnswers, Runs, ran, cut_short, fault_of}
+use Rattle.kc_answers.specs.RunStates.{with_questions}
+use Rattle.kc_macros.specs.Runs.{out_of_memory, ran, fault_of}
 
 with_questions_append : (seen xs ys : List (List ℕ)) → with_questions seen (xs ++ ys) ≡ with_questions (with_questions seen xs) ys
 with_questions_append seen [] ys = refl

@@ -1,12 +1,12 @@
 -- Lines of members, grouped by the units of their choices.
-use Rattle.std.proofs.Common.{◌≡◌, ◌≢◌, inl, inr, ℕ, zero, suc, ◌+◌, ◌<◌, ◌≤◌, Bool, true, false, ◌==◌, cond, List, [], ◌∷◌, ◌++◌, length, map, take, drop, get_or, Option, Some, None, Result, IfOk, refl, sym, ◌∙◌, ap, arith}
-use Rattle.std.specs.Global.{Vec}
+use Rattle.std.proofs.Common.{◌≢◌, ◌==◌, Result, IfOk}
+use Rattle.kc_minimal.proofs.Common.{◌≡◌, inl, inr, ℕ, zero, suc, ◌+◌, ◌<◌, ◌≤◌, Bool, true, false, cond, List, [], ◌∷◌, ◌++◌, length, map, take, drop, get_or,
+    Option, Some, None, refl, sym, ◌∙◌, ap, arith, Vec, IfOk-weaker, unwrap_or, slice_get, lines_at, by_group, filter_map, range_with_len, cons_option,
+    option_map, append-nil, map-append, filter-append, Tree, UnitValue, ChoiceLine, has_no_version, placed_from, lines_of, last_line, other_places, place_of}
 use Rattle.std.specs.declared.alloc.AllocError.{AllocError}
-use Rattle.std.proofs.lemmas.Result.{IfOk-weaker}
-use Rattle.std.specs.Prelude.{unwrap_or, slice_get}
 use Rattle.std.proofs.lemmas.Bool.{cases_eq}
-use Rattle.kc_minimal.specs.checker.LineGroups.{lines_at, line_from, by_group}
-use Rattle.std.specs.List.{filter_map, range_with_len, cons_option, AllByRecursion}
+use Rattle.kc_minimal.specs.checker.LineGroups.{line_from}
+use Rattle.std.specs.List.{AllByRecursion}
 use Rattle.std.specs.List.Sorted.{IsStrictlySortedBy}
 use Rattle.std.specs.Map.{lookup, keys_of}
 use Rattle.std.specs.BTreeMap.{is_at}
@@ -15,17 +15,14 @@ use Rattle.std.specs.declared.cmp.Ordering.TheVariants.{Less}
 use Rattle.std.proofs.lemmas.Cmp.{ranked}
 use Rattle.std.proofs.lemmas.Map.Keys.{sorted_head, sorted_tail}
 use Rattle.std.proofs.lemmas.Option.{slice_get_past}
-use Rattle.std.specs.Option.{option_map, option_or, option_and_then}
-use Rattle.std.proofs.lemmas.List.{append-nil, append_assoc, take_more, map-append, at_drop_more}
-use Rattle.std.proofs.lemmas.List.Elements.{filter-append}
+use Rattle.std.specs.Option.{option_or, option_and_then}
+use Rattle.std.proofs.lemmas.List.{append_assoc, take_more, at_drop_more}
 use Rattle.kc_dotconfig.proofs.GatheredLines.{at_same, at_other}
 use Rattle.kc_solver.proofs.Lists.{get-some}
-use Rattle.kc_tree_model.specs.Trees.{Tree, Choice}
+use Rattle.kc_tree_model.specs.Trees.{Choice}
 use Rattle.kc_tree_model.specs.declared.ids.Unit.{Unit as TreeUnit}
 use Rattle.kc_tree_model.specs.declared.ids.Unit.TheVariants.{Symbol as of_symbol, Choice as of_choice}
-use Rattle.kc_rules_model.specs.declared.values.UnitValue.{UnitValue}
-use Rattle.kc_dotconfig_model.specs.declared.choice_line.ChoiceLine.{ChoiceLine}
-use Rattle.kc_dotconfig_model.specs.OtherChoices.{has_no_version, placed_from, lines_of, last_line, noticed_line, other_line, other_line_of_unit, other_places, place_of, other_choices_of}
+use Rattle.kc_dotconfig_model.specs.OtherChoices.{noticed_line, other_line, other_line_of_unit, other_choices_of}
 
 -- files with one more
 pub placed_more : (f : ℕ) (files : List (List ChoiceLine)) (lines : List ChoiceLine)

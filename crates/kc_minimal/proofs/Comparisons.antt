@@ -1,21 +1,12 @@
 -- The differences of two configurations.
-use Rattle.std.proofs.Common.{◌≡◌, ◌↔◌, true, IsTrue, List, [], ◌∷◌, length, map, refl, sym, ◌∙◌, ap, subst}
-use Rattle.kc_tree_model.specs.Trees.{Tree}
-use Rattle.kc_solver.specs.Solutions.{UniquelySolves, FitsUsers}
-use Rattle.kc_rules_model.specs.declared.profile.Profile.{Profile}
-use Rattle.kc_rules_model.specs.Rule.{rule}
+use Rattle.std.proofs.Common.{◌↔◌, IsTrue}
+use Rattle.kc_minimal.proofs.Common.{◌≡◌, true, List, [], ◌∷◌, length, map, refl, sym, ◌∙◌, ap, subst, Tree, UniquelySolves, Profile, rule, UnitValue, Settled,
+    tree_of_settled, profile_of, FileFormat, is_name_prefix, Configured, tree_in, IsSolved, minimal_file, difference_view}
+use Rattle.kc_solver.specs.Solutions.{FitsUsers}
 use Rattle.kc_rules_model.specs.Shapes.{user_fits}
-use Rattle.kc_rules_model.specs.declared.values.UnitValue.{UnitValue}
-use Rattle.kc_rules.specs.declared.rules.Settled.{Settled}
-use Rattle.kc_rules.specs.between.SettledViews.{tree_of_settled, profile_of}
-use Rattle.kc_dotconfig_model.specs.Formats.{FileFormat}
-use Rattle.kc_dotconfig_model.specs.PrefixGrammar.{is_name_prefix}
-use Rattle.kc_config.specs.ConfigStates.{Configured, tree_in, IsSolved}
-use Rattle.kc_minimal_model.specs.MinimalFile.{minimal_file}
 use Rattle.kc_minimal_model.specs.Differences.{Difference, differences}
 use Rattle.kc_minimal_model.specs.Headline.{DifferencesDecideMinimalFiles}
 use Rattle.kc_minimal.specs.declared.difference.Difference.{Difference as DifferenceOfCode}
-use Rattle.kc_minimal.specs.between.DifferenceViews.{difference_view}
 
 -- a list whose image is empty is empty
 no_difference : (ds : List Difference) → map difference_view ds ≡ [] → ds ≡ []

@@ -1,22 +1,18 @@
 -- A full file, entry by entry.
-use Rattle.std.proofs.Common.{◌≡◌, inl, inr, ℕ, suc, ◌<◌, ◌+◌, Bool, true, false, not, ◌&&◌, ◌||◌, cond, List, [], ◌∷◌, ◌++◌, length, drop, replicate, Some, refl, sym, ◌∙◌, ap, append_assoc, arith}
-use Rattle.std.specs.Prelude.{nat_eq, slice_get, slice_index_or, slice_set, unwrap_or}
+use Rattle.std.proofs.Common.{◌||◌, append_assoc}
+use Rattle.std.specs.Prelude.{nat_eq, slice_index_or, slice_set}
 use Rattle.std.specs.List.{list_any}
 use Rattle.std.proofs.lemmas.Bool.{cases_Bool, eqb-true, eq-eqb, false≢true}
-use Rattle.std.proofs.lemmas.List.{get_or-set_same, get_or-set_other, get_or-replicate, append-nil}
+use Rattle.std.proofs.lemmas.List.{get_or-set_same, get_or-set_other, get_or-replicate}
 use Rattle.std.proofs.lemmas.Option.{slice_get_within, unwrap_or-slice_get}
 use Rattle.std.proofs.Math.Seq.{drop-cons}
 use Rattle.kc_expr.specs.Expr.{Expr}
-use Rattle.kc_tree_model.specs.Trees.{Tree, Entry, definition, menu_begins, menu_ends, comment}
-use Rattle.kc_rules_model.specs.declared.values.UnitValue.{UnitValue}
-use Rattle.kc_rules_model.specs.Reports.{is_written}
-use Rattle.kc_minimal_model.specs.SymbolLine.{ended_line}
-use Rattle.kc_minimal_model.specs.FullFile.{heading, end_line, applies, full_file}
+use Rattle.kc_tree_model.specs.Trees.{Entry, definition, menu_begins, menu_ends, comment}
+use Rattle.kc_minimal.proofs.Common.{◌≡◌, inl, inr, ℕ, suc, ◌<◌, ◌+◌, Bool, true, false, not, ◌&&◌, cond, List, [], ◌∷◌, ◌++◌, length, drop, replicate, Some,
+    refl, sym, ◌∙◌, ap, arith, slice_get, unwrap_or, append-nil, Tree, UnitValue, is_written, ended_line, full_file, Draft, IsDraft, FileFormat}
+use Rattle.kc_minimal_model.specs.FullFile.{heading, end_line, applies}
 use Rattle.kc_minimal_model.specs.between.EntryTexts.{entry_texts}
 use Rattle.kc_minimal_model.proofs.EntryTexts.{full_file_by_entry}
-use Rattle.kc_minimal.specs.declared.full.Draft.{Draft}
-use Rattle.kc_minimal.specs.checker.Drafts.{IsDraft}
-use Rattle.kc_dotconfig_model.specs.Formats.{FileFormat}
 
 -- a text that an entry adds if it is shown, with the text of the entries after it, is the same whether it is joined before or
 -- after the test

@@ -1,19 +1,12 @@
 -- The minimal and the full file of the values that a configuration has.
-use Rattle.std.proofs.Common.{◌≡◌, ◌≤◌, ℕ, true, List, length, sym, ◌∙◌, ap, subst}
-use Rattle.kc_rules_model.specs.declared.values.UnitValue.{UnitValue}
-use Rattle.kc_rules.specs.declared.rules.Settled.{Settled}
-use Rattle.kc_rules.specs.between.SettledViews.{tree_of_settled, profile_of}
-use Rattle.kc_dotconfig_model.specs.Formats.{FileFormat}
-use Rattle.kc_dotconfig_model.specs.PrefixGrammar.{is_name_prefix}
+use Rattle.kc_minimal.proofs.Common.{◌≡◌, ◌≤◌, ℕ, true, List, length, sym, ◌∙◌, ap, subst, UnitValue, Settled, tree_of_settled, profile_of, FileFormat,
+    is_name_prefix, Configured, tree_in, IsSolved, full_file, Loads, minimal_file, IsCanonicalText}
 use Rattle.kc_dotconfig_model.specs.ConfigFiles.{file_lines}
 use Rattle.kc_value.specs.declared.limits.TheConstants.{MAX_CONFIG_BYTES, MAX_CONFIG_LINES}
-use Rattle.kc_config.specs.ConfigStates.{Configured, tree_in, IsSolved}
 use Rattle.kc_minimal_model.specs.FileLimits.{ReadFilesAreAccepted}
-use Rattle.kc_minimal_model.specs.FullFile.{full_file}
 use Rattle.kc_minimal_model.specs.FullFileLaws.{FullFilesLeadBack, IsUnlifted}
-use Rattle.kc_minimal_model.specs.FileValues.{ReadsTo, Loads, has_short_lines}
-use Rattle.kc_minimal_model.specs.MinimalFile.{minimal_file}
-use Rattle.kc_minimal_model.specs.CanonicalText.{IsCanonicalText, MinimalTextsAreCanonical}
+use Rattle.kc_minimal_model.specs.FileValues.{ReadsTo, has_short_lines}
+use Rattle.kc_minimal_model.specs.CanonicalText.{MinimalTextsAreCanonical}
 
 module _ (format : FileFormat) (valid : is_name_prefix format.prefix ≡ true) (held : Configured) (solved : IsSolved held) (settled : Settled)
     (values : List UnitValue) (same : settled ≡ held.system) (same_values : values ≡ held.values) (text : List ℕ) where

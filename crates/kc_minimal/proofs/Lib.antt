@@ -1,3 +1,4 @@
+pub mod Common
 pub mod RangeLines
 pub mod SymbolLines
 pub mod DraftSteps

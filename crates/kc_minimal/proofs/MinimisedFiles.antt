@@ -1,19 +1,12 @@
 -- A file that was read is minimised, whole or in part.
-use Rattle.std.proofs.Common.{◌≡◌, ℕ, ◌<◌, ◌-◌, ◌^◌, true, List, Option, length, take, subst}
+use Rattle.std.proofs.Common.{◌^◌}
 use Rattle.std.specs.Io.KnownBytes.{Appends}
-use Rattle.kc_tree_model.specs.Trees.{Tree}
-use Rattle.kc_solver.specs.Solutions.{UniquelySolves}
-use Rattle.kc_rules_model.specs.declared.profile.Profile.{Profile}
-use Rattle.kc_rules_model.specs.declared.values.UnitValue.{UnitValue}
-use Rattle.kc_rules_model.specs.Rule.{rule}
-use Rattle.kc_dotconfig_model.specs.Formats.{FileFormat}
-use Rattle.kc_dotconfig_model.specs.PrefixGrammar.{is_name_prefix}
+use Rattle.kc_minimal.proofs.Common.{◌≡◌, ℕ, ◌<◌, ◌-◌, true, List, Option, length, take, subst, Tree, UniquelySolves, Profile, UnitValue, rule, FileFormat,
+    is_name_prefix, IsCanonicalText, Loads}
 use Rattle.kc_dotconfig_model.proofs.AcceptedLines.{accepted_utf8}
 use Rattle.kc_dotconfig.specs.declared.fragment.Fragment.{Fragment}
 use Rattle.kc_dotconfig.specs.Fragments.{users_of}
 use Rattle.kc_dotconfig.specs.ReadResults.{IsReadAs}
-use Rattle.kc_minimal_model.specs.CanonicalText.{IsCanonicalText}
-use Rattle.kc_minimal_model.specs.FileValues.{Loads}
 use Rattle.kc_minimal.specs.Minimisation.{IsMinimised, IsCutOff}
 
 module _ (format : FileFormat) (valid : is_name_prefix format.prefix ≡ true) (profile : Profile) (tree : Tree)

@@ -1,13 +1,8 @@
 -- The line of a symbol that a tree has.
-use Rattle.std.proofs.Common.{◌≡◌, ℕ, List, Option, Some, None, ap, ◌∙◌}
-use Rattle.std.specs.Prelude.{slice_get}
-use Rattle.std.specs.Option.{option_map}
+use Rattle.kc_minimal.proofs.Common.{◌≡◌, ℕ, List, Option, Some, None, ap, ◌∙◌, slice_get, option_map, Tree, UnitValue, value_of_symbol, FileFormat}
 use Rattle.kc_expr.specs.Expr.{SymbolValue}
-use Rattle.kc_tree_model.specs.Trees.{Tree, Symbol}
-use Rattle.kc_rules_model.specs.declared.values.UnitValue.{UnitValue}
-use Rattle.kc_rules_model.specs.SymbolValues.{value_of_symbol}
+use Rattle.kc_tree_model.specs.Trees.{Symbol}
 use Rattle.kc_minimal_model.specs.SymbolLine.{line_with, line_of_value, symbol_line}
-use Rattle.kc_dotconfig_model.specs.Formats.{FileFormat}
 
 by_symbol : (format : FileFormat) (o : Option Symbol) (q : Option SymbolValue) (name : List ℕ) (seen : SymbolValue)
     → option_map (λ (t : Symbol). t.name) o ≡ Some name → q ≡ Some seen → line_of_value format o q ≡ line_with format name seen

@@ -1,14 +1,10 @@
 -- Values that fit units, for places not solved yet.
-use Rattle.std.proofs.Common.{◌≡◌, ℕ, true, false, IsTrue, [], Some, None, refl, ap, ◌∙◌}
-use Rattle.std.specs.Prelude.{slice_get}
-use Rattle.std.proofs.lemmas.Str.{is_utf8-from_IsUtf8}
+use Rattle.kc_rules.proofs.Common.{◌≡◌, ℕ, true, false, IsTrue, [], Some, None, refl, ap, ◌∙◌, slice_get, is_utf8-from_IsUtf8, Tree, Symbol, is_tri_kind}
 use Rattle.kc_value.specs.declared.tri.Tri.TheVariants.{N}
 use Rattle.kc_value.specs.declared.value.Kind.{Kind}
 use Rattle.kc_value.specs.declared.value.Kind.TheVariants.{Bool as Boolean, Tristate, Text, Int, Hex}
-use Rattle.kc_tree_model.specs.Trees.{Tree, Symbol}
 use Rattle.kc_tree_model.specs.declared.ids.Unit.TheVariants.{Symbol as of_symbol, Choice as of_choice}
 use Rattle.kc_rules_model.specs.declared.values.UnitValue.TheVariants.{Tri as TriValue, Text as TextValue, Member as MemberValue}
-use Rattle.kc_value.specs.Kinds.{is_tri_kind}
 use Rattle.kc_rules_model.specs.Shapes.{value_fits, unit_value_fits, symbol_value_fits, tri_fits, text_fits}
 
 no_tri : (kind : Kind) → is_tri_kind kind ≡ true → tri_fits kind N ≡ true

@@ -1,7 +1,6 @@
 -- Lists of assignments of members.
-use Rattle.std.proofs.Common.{◌≡◌, Bool, true, false, ◌&&◌, List, [], ◌∷◌, length, refl, ap, ◌∙◌, arith}
-use Rattle.kc_rules_model.specs.declared.values.MemberLine.{MemberLine}
-use Rattle.kc_rules_model.specs.Equality.{same_line, same_lines}
+use Rattle.kc_rules.proofs.Common.{◌≡◌, Bool, true, false, ◌&&◌, List, [], ◌∷◌, length, refl, ap, ◌∙◌, arith, MemberLine, same_lines}
+use Rattle.kc_rules_model.specs.Equality.{same_line}
 
 -- lists of other lengths aren't equal
 pub lengths_differ : (a b : List MemberLine) → (length a ≡ length b → ⊥) → same_lines a b ≡ false

@@ -1,21 +1,15 @@
 -- A text or member that a unit wouldn't have without its user value is its user value.
-use Rattle.std.proofs.Common.{◌≡◌, ◌≢◌, ℕ, Bool, true, false, ◌&&◌, cond, List, [], ◌∷◌, Option, Some, None, slice_get, refl, sym, ◌∙◌, ap, unwrap_or, pos}
-use Rattle.std.specs.Option.{option_map, option_and_then}
-use Rattle.std.proofs.lemmas.Bool.{true≢false}
-use Rattle.kc_value.specs.declared.value.Kind.{Kind}
-use Rattle.kc_value.specs.declared.value.Kind.TheVariants.{Bool as Boolean, Tristate, Text, Int, Hex}
-use Rattle.kc_tree_model.specs.Trees.{Tree, Symbol, Choice}
+use Rattle.std.proofs.Common.{◌≢◌}
+use Rattle.kc_rules_model.proofs.Common.{◌≡◌, ℕ, Bool, true, false, ◌&&◌, cond, List, [], ◌∷◌, Option, Some, None, slice_get, refl, sym, ◌∙◌, ap, unwrap_or, pos,
+    option_map, option_and_then, true≢false, Kind, Tristate, Text, Int, Hex, Tree, Symbol, Choice, Profile, UnitValue, UserValue, is_linux_6_12, is_number,
+    number_of_text, rule_of_unit, rule_of_symbol, rule_of_choice, symbol_rule, string_rule, number_rule, choice_rule, is_visible, default_text, number_default,
+    user_number, is_within, active_range, is_shown, is_visible_member, default_member}
+use Rattle.kc_value.specs.declared.value.Kind.TheVariants.{Bool as Boolean}
 use Rattle.kc_tree_model.specs.declared.ids.Unit.{Unit as TreeUnit}
 use Rattle.kc_tree_model.specs.declared.ids.Unit.TheVariants.{Symbol as of_symbol, Choice as of_choice}
-use Rattle.kc_rules_model.specs.declared.profile.Profile.{Profile}
-use Rattle.kc_rules_model.specs.declared.values.UnitValue.{UnitValue}
 use Rattle.kc_rules_model.specs.declared.values.UnitValue.TheVariants.{Text as TextValue, Member as MemberValue}
-use Rattle.kc_rules_model.specs.declared.values.UserValue.{UserValue}
 use Rattle.kc_rules_model.specs.declared.values.UserValue.TheVariants.{Tri as TriUser, Text as TextUser, Member as MemberUser, Lines as LinesUser}
-use Rattle.kc_tokens.specs.Languages.{is_linux_6_12}
-use Rattle.kc_value.specs.Kinds.{is_number}
-use Rattle.kc_value.specs.Number.{number_of_text}
-use Rattle.kc_rules_model.specs.Rule.{rule, rule_of_unit, rule_of_symbol, rule_of_choice, symbol_rule, string_rule, number_rule, choice_rule, as_user, is_visible, default_text, number_default, user_number, is_within, active_range, is_shown, is_visible_member, default_member}
+use Rattle.kc_rules_model.specs.Rule.{rule, as_user}
 use Rattle.kc_rules_model.specs.checker.RestoreLaw.{text_kept, number_kept, member_kept, older, no_text, no_number}
 use Rattle.kc_rules_model.specs.RuleLaws.{is_tri_value, moves_user_values, TextsAreAssigned}
 

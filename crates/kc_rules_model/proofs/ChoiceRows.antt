@@ -1,9 +1,6 @@
 -- Choices.
-use Rattle.std.proofs.Common.{◌≡◌, ℕ, [], ◌∷◌, Option, Some, None, refl}
-use Rattle.kc_rules_model.specs.declared.profile.Profile.TheVariants.{Present}
-use Rattle.kc_rules_model.specs.declared.values.UnitValue.{UnitValue}
+use Rattle.kc_rules_model.proofs.Common.{◌≡◌, ℕ, [], ◌∷◌, Option, Some, None, refl, Present, UnitValue, UserValue}
 use Rattle.kc_rules_model.specs.declared.values.UnitValue.TheVariants.{Member as MemberValue}
-use Rattle.kc_rules_model.specs.declared.values.UserValue.{UserValue}
 use Rattle.kc_rules_model.specs.declared.values.UserValue.TheVariants.{Member as MemberUser}
 use Rattle.kc_rules_model.specs.Rule.{rule}
 use Rattle.kc_rules_model.proofs.RowTrees.{by_rules, n, tree_pick, tree_optional_pick}

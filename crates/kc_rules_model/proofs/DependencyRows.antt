@@ -1,9 +1,5 @@
 -- Dependencies, and a cycle among them.
-use Rattle.std.proofs.Common.{◌≡◌, false, [], ◌∷◌, Some, refl}
-use Rattle.std.specs.Prelude.{codes}
-use Rattle.kc_tokens.specs.declared.language.Language.TheVariants.{Strict}
-use Rattle.kc_expr.specs.Expr.{shown, both}
-use Rattle.kc_tree_model.specs.Trees.{Tree, choice_begins, definition}
+use Rattle.kc_rules_model.proofs.Common.{◌≡◌, false, [], ◌∷◌, Some, refl, codes, Strict, shown, both, Tree, choice_begins, definition}
 use Rattle.kc_tree_model.specs.declared.ids.Unit.TheVariants.{Choice as of_choice}
 use Rattle.kc_rules_model.specs.Dependencies.{dependencies}
 use Rattle.kc_rules_model.proofs.RowTrees.{always, name, member, tree_imply}

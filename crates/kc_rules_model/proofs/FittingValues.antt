@@ -1,45 +1,39 @@
 -- The value that a rule gives fits its unit, over a consistent tree.
-use Rattle.std.proofs.Common.{◌≡◌, inl, inr, ℕ, ◌<◌, Bool, true, false, not, ◌&&◌, ◌||◌, ◌==◌, cond, IsTrue, IfSome, List, [], ◌∷◌, Option, Some, None, ℤ, pos, find, length, unwrap_or, int_lt, refl, sym, ◌∙◌, ap, arith}
-use Rattle.std.specs.Prelude.{slice_get, is_some, is_none, nat_lt}
-use Rattle.std.specs.Option.{option_map, option_and_then, option_or}
-use Rattle.std.specs.List.{list_any, list_all}
-use Rattle.std.proofs.lemmas.Bool.{eq-eqb, false≢true, and_parts, and_from, or_cases, or_left, or_right, eqb-true, ltb-true}
-use Rattle.std.proofs.lemmas.Str.{IsUtf8-nil, is_utf8-from_IsUtf8}
+use Rattle.std.proofs.Common.{int_lt}
+use Rattle.std.specs.Prelude.{slice_get}
+use Rattle.kc_rules_model.proofs.Common.{◌≡◌, inl, inr, ℕ, ◌<◌, Bool, true, false, not, ◌&&◌, ◌||◌, ◌==◌, cond, IsTrue, IfSome, List, [], ◌∷◌, Option, Some,
+    None, ℤ, pos, find, length, unwrap_or, refl, sym, ◌∙◌, ap, arith, is_some, is_none, nat_lt, option_map, option_and_then, option_or, list_any, list_all,
+    false≢true, and_parts, and_from, or_cases, eqb-true, ltb-true, IsUtf8-nil, is_utf8-from_IsUtf8, Tri, N, M, Y, Kind, Tristate, Text, Int, Hex, number_of_text,
+    Expr, alone, both, shown, constant, named, quoted, Tree, Symbol, Choice, Default, IsConsistent, FitsValues, Profile, UnitValue, UserValue, MemberLine, is_n,
+    is_tristate, is_number, rule_of_unit, rule_of_symbol, rule_of_choice, symbol_rule, string_rule, number_rule, choice_rule, default_text, number_default,
+    user_number, default_member, active_range, is_within, is_visible, is_visible_member, is_shown, modules_value, unit_value_fits, symbol_value_fits, text_fits,
+    is_listed, last_y, first_listed, selected_without_y, selected_by_lines, is_linux_6_12}
+use Rattle.std.proofs.lemmas.Bool.{eq-eqb, or_left, or_right}
 use Rattle.std.specs.Str.{IsUtf8, is_utf8}
 use Rattle.kc_value.proofs.UnquotedUtf8.{ascii_then}
 use Rattle.std.proofs.lemmas.Option.{slice_get-get_or}
-use Rattle.kc_value.specs.declared.tri.Tri.{Tri}
-use Rattle.kc_value.specs.declared.tri.Tri.TheVariants.{N, M, Y}
-use Rattle.kc_value.specs.declared.value.Kind.{Kind}
-use Rattle.kc_value.specs.declared.value.Kind.TheVariants.{Bool as Boolean, Tristate, Text, Int, Hex}
-use Rattle.kc_value.specs.Number.{number_of_text, number_spelling}
+use Rattle.kc_value.specs.declared.value.Kind.TheVariants.{Bool as Boolean}
+use Rattle.kc_value.specs.Number.{number_spelling}
 use Rattle.kc_value.proofs.NumberSpelling.{spelling_read_back}
-use Rattle.kc_expr.specs.Expr.{Expr, alone, related, negated, both, either, shown, constant, named, quoted, Operand, SymbolValue, letter, symbol_text, operand_text}
-use Rattle.kc_tree_model.specs.Trees.{Tree, Symbol, Choice, Default, Range, MemberDefault}
+use Rattle.kc_expr.specs.Expr.{related, negated, either, Operand, SymbolValue, letter, symbol_text, operand_text}
+use Rattle.kc_tree_model.specs.Trees.{Range, MemberDefault}
 use Rattle.kc_tree_model.specs.declared.ids.Unit.{Unit as TreeUnit}
 use Rattle.kc_tree_model.specs.declared.ids.Unit.TheVariants.{Symbol as of_symbol, Choice as of_choice}
 use Rattle.kc_value.specs.Lines.{has_newline}
-use Rattle.kc_tree_model.specs.TreeLookup.{IsConsistent, own_text, unit_of, symbol_named}
-use Rattle.kc_solver.specs.Solutions.{FitsValues}
-use Rattle.kc_rules_model.specs.declared.profile.Profile.{Profile}
-use Rattle.kc_rules_model.specs.declared.values.UnitValue.{UnitValue}
+use Rattle.kc_tree_model.specs.TreeLookup.{own_text, unit_of, symbol_named}
 use Rattle.kc_rules_model.specs.declared.values.UnitValue.TheVariants.{Tri as TriValue, Text as TextValue, Member as MemberValue}
-use Rattle.kc_rules_model.specs.declared.values.UserValue.{UserValue}
 use Rattle.kc_rules_model.specs.declared.values.UserValue.TheVariants.{Tri as TriUser, Text as TextUser, Member as MemberUser, Lines as LinesUser}
-use Rattle.kc_rules_model.specs.declared.values.MemberLine.{MemberLine}
-use Rattle.kc_rules_model.specs.Kinds.{is_n}
-use Rattle.kc_value.specs.Kinds.{is_tri_kind, is_tristate, is_number}
+use Rattle.kc_value.specs.Kinds.{is_tri_kind}
 use Rattle.kc_rules_model.specs.SymbolValues.{value_in_unit, tri_symbol_value, value_of_symbol, environment, condition, tri_of, text_of}
-use Rattle.kc_rules_model.specs.Rule.{rule, rule_of_unit, rule_of_symbol, rule_of_choice, symbol_rule, string_rule, number_rule, choice_rule, expression_text, default_text, number_default, clamped, bound, bound_text, user_number, is_upside_down, text_without_number, default_member, shown_choice_rule, assigned_lines, active_range, active_default, is_within, is_visible, is_visible_member, is_shown, assigned_text, assigned_member, modules_value, leaves_no_m}
-use Rattle.kc_rules_model.specs.Shapes.{user_fits, value_fits, unit_user_fits, unit_value_fits, symbol_user_fits, symbol_value_fits, choice_user_fits, choice_value_fits, user_text_fits, text_fits, is_line}
+use Rattle.kc_rules_model.specs.Rule.{rule, expression_text, clamped, bound, bound_text, is_upside_down, text_without_number, shown_choice_rule, assigned_lines,
+    active_default, assigned_text, assigned_member, leaves_no_m}
+use Rattle.kc_rules_model.specs.Shapes.{user_fits, value_fits, unit_user_fits, symbol_user_fits, choice_user_fits, choice_value_fits, user_text_fits, is_line}
 use Rattle.kc_rules_model.specs.checker.RestoreLaw.{fits_promoted, given_again, last_passes, first_passes}
 use Rattle.kc_rules_model.specs.RuleLaws.{RulesFit}
 use Rattle.kc_tree_model.proofs.Lookups.{inside, unit_is}
 use Rattle.kc_rules_model.proofs.Ink.{is_ink, isn't}
 use Rattle.kc_rules_model.proofs.Numbers.{number_ink}
 use Rattle.kc_rules_model.specs.checker.PrintableBounds.{bound_read_back, zero_printable}
-use Rattle.kc_rules_model.specs.MemberLines.{is_listed, last_y, first_listed, selected_without_y, selected_by_lines}
-use Rattle.kc_tokens.specs.Languages.{is_linux_6_12}
 
 -- bytes below 128 are UTF-8
 low_utf8 : (text : List ℕ) → list_all (λ b. nat_lt b 128) text ≡ true → IsUtf8 text

@@ -1,15 +1,10 @@
 -- A symbol with an `option env` is never visible, and no full file has it.
-use Rattle.std.proofs.Common.{◌≡◌, Bool, true, false, not, ◌&&◌, ◌||◌, cond, List, [], refl, ap, ◌∙◌}
-use Rattle.std.specs.Prelude.{is_none}
-use Rattle.kc_value.specs.declared.tri.Tri.{Tri}
-use Rattle.kc_value.specs.declared.tri.Tri.TheVariants.{N}
+use Rattle.kc_rules_model.proofs.Common.{◌≡◌, Bool, true, false, not, ◌&&◌, ◌||◌, cond, List, [], refl, ap, ◌∙◌, is_none, Tri, N, is_tristate, is_linux_6_12,
+    Tree, Symbol, UnitValue, is_n, modules_value, is_visible}
 use Rattle.kc_value.specs.Tri.{y_for_m}
-use Rattle.kc_value.specs.Kinds.{is_bool, is_tristate}
-use Rattle.kc_tokens.specs.Languages.{is_linux_6_12}
-use Rattle.kc_tree_model.specs.Trees.{Tree, Symbol}
-use Rattle.kc_rules_model.specs.declared.values.UnitValue.{UnitValue}
-use Rattle.kc_rules_model.specs.Kinds.{is_n, largest}
-use Rattle.kc_rules_model.specs.Rule.{is_from_environment, conditions, promoted, modules_value, is_visible, selected, implied, direct_dependency}
+use Rattle.kc_value.specs.Kinds.{is_bool}
+use Rattle.kc_rules_model.specs.Kinds.{largest}
+use Rattle.kc_rules_model.specs.Rule.{is_from_environment, conditions, promoted, selected, implied, direct_dependency}
 use Rattle.kc_rules_model.specs.Reports.{has_default, is_unselected, is_written_symbol}
 
 -- `n` stays `n`

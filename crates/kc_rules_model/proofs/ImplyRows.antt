@@ -1,12 +1,6 @@
 -- The value that `imply` gives, where the two profiles differ.
-use Rattle.std.proofs.Common.{◌≡◌, [], ◌∷◌, Option, None, refl}
-use Rattle.kc_value.specs.declared.tri.Tri.{Tri}
-use Rattle.kc_value.specs.declared.tri.Tri.TheVariants.{N, M, Y}
-use Rattle.kc_rules_model.specs.declared.profile.Profile.{Profile}
-use Rattle.kc_rules_model.specs.declared.profile.Profile.TheVariants.{Present, Classic}
-use Rattle.kc_rules_model.specs.declared.values.UnitValue.{UnitValue}
+use Rattle.kc_rules_model.proofs.Common.{◌≡◌, [], ◌∷◌, Option, None, refl, Tri, N, M, Y, Profile, Present, Classic, UnitValue, UserValue}
 use Rattle.kc_rules_model.specs.declared.values.UnitValue.TheVariants.{Tri as TriValue}
-use Rattle.kc_rules_model.specs.declared.values.UserValue.{UserValue}
 use Rattle.kc_rules_model.specs.Rule.{rule}
 use Rattle.kc_rules_model.proofs.RowTrees.{n, m, y, sets, tree_imply}
 

@@ -1,3 +1,4 @@
+pub mod Common
 pub mod Ink
 pub mod Numbers
 pub mod FittingValues

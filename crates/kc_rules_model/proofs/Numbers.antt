@@ -1,15 +1,14 @@
 -- Texts of numbers have no white byte and no newline.
-use Rattle.std.proofs.Common.{◌≡◌, inl, inr, ℕ, ◌-◌, ◌^◌, ◌<◌, ◌≤◌, Bool, true, false, ◌&&◌, ◌==◌, cond, List, [], ◌∷◌, Option, Some, None, ℤ, pos, length, refl, sym, ◌∙◌, ap, arith}
-use Rattle.std.specs.Prelude.{is_some, neg_ℤ, option_map, nat_lt, nat_le}
-use Rattle.std.specs.List.{list_all}
+use Rattle.std.proofs.Common.{◌-◌, ◌^◌}
+use Rattle.std.specs.Prelude.{neg_ℤ, option_map, nat_le}
+use Rattle.kc_rules_model.proofs.Common.{◌≡◌, inl, inr, ℕ, ◌<◌, ◌≤◌, Bool, true, false, ◌&&◌, ◌==◌, cond, List, [], ◌∷◌, Option, Some, None, ℤ, pos, length,
+    refl, sym, ◌∙◌, ap, arith, is_some, nat_lt, list_all, false≢true, eqb-true, and_parts, and_from, ltb-true, Kind, Tristate, Text, Int, Hex, number_of_text}
 use Rattle.std.specs.Char.{is_digit}
 use Rattle.std.specs.Str.Parse.{digits_value}
-use Rattle.std.proofs.lemmas.Bool.{false≢true, eqb-true, and_parts, and_from, ltb-true, cases_lt, lt-ltb}
+use Rattle.std.proofs.lemmas.Bool.{cases_lt, lt-ltb}
 use Rattle.std.proofs.lemmas.Bool.Decides.{nat_tests}
-use Rattle.kc_value.specs.declared.value.Kind.{Kind}
-use Rattle.kc_value.specs.declared.value.Kind.TheVariants.{Bool as Boolean, Tristate, Text, Int, Hex}
+use Rattle.kc_value.specs.declared.value.Kind.TheVariants.{Bool as Boolean}
 use Rattle.kc_value.specs.Number.{int_text, hex_text, signed_text, magnitude, without_prefix}
-use Rattle.kc_value.specs.Number.{number_of_text}
 use Rattle.kc_rules_model.proofs.Ink.{is_ink, ink_of, all_weaker}
 
 -- a text has one byte or more, all below 128, and none of them is white or a newline

@@ -1,7 +1,5 @@
 -- The units of a settled tree have an order.
-use Rattle.std.proofs.Common.{ℕ, List, length}
-use Rattle.kc_tree_model.specs.Trees.{Tree}
-use Rattle.kc_tree_model.specs.TreeLookup.{IsConsistent}
+use Rattle.kc_rules_model.proofs.Common.{ℕ, List, length, Tree, IsConsistent}
 use Rattle.kc_solver.specs.Dependencies.{IsOrder}
 use Rattle.kc_solver.proofs.AcyclicOrders.{order_of_acyclic}
 use Rattle.kc_rules_model.specs.Dependencies.{dependencies}

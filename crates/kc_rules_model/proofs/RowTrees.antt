@@ -1,21 +1,12 @@
 -- Small trees, written by hand, on which the definitions are computed. In their comments / separates the lines of the Kconfig
 -- file.
-use Rattle.std.proofs.Common.{ℕ, true, false, List, [], ◌∷◌, Option, Some, None, length, map}
-use Rattle.std.specs.Prelude.{codes}
+use Rattle.kc_rules_model.proofs.Common.{ℕ, true, false, List, [], ◌∷◌, Option, Some, None, length, map, codes, Tri, N, M, Y, Kind, Tristate, Text, Int, Strict,
+    Expr, alone, both, shown, constant, named, quoted, Tree, Symbol, Default, definition, choice_begins, user_of, Profile, UnitValue, UserValue}
 use Rattle.std.specs.List.{range_with_len}
-use Rattle.kc_value.specs.declared.tri.Tri.{Tri}
-use Rattle.kc_value.specs.declared.tri.Tri.TheVariants.{N, M, Y}
-use Rattle.kc_value.specs.declared.value.Kind.{Kind}
-use Rattle.kc_value.specs.declared.value.Kind.TheVariants.{Bool as Boolean, Tristate, Text, Int}
-use Rattle.kc_tokens.specs.declared.language.Language.TheVariants.{Strict}
-use Rattle.kc_expr.specs.Expr.{Expr, alone, both, shown, constant, named, quoted}
-use Rattle.kc_tree_model.specs.Trees.{Tree, Symbol, Default, definition, choice_begins, menu_begins, menu_ends, comment}
+use Rattle.kc_value.specs.declared.value.Kind.TheVariants.{Bool as Boolean}
+use Rattle.kc_tree_model.specs.Trees.{menu_begins, menu_ends, comment}
 use Rattle.kc_tree_model.specs.declared.ids.Unit.TheVariants.{Symbol as of_symbol, Choice as of_choice}
-use Rattle.kc_solver.specs.Solutions.{user_of}
-use Rattle.kc_rules_model.specs.declared.profile.Profile.{Profile}
-use Rattle.kc_rules_model.specs.declared.values.UnitValue.{UnitValue}
 use Rattle.kc_rules_model.specs.declared.values.UnitValue.TheVariants.{Tri as TriValue, Text as TextValue}
-use Rattle.kc_rules_model.specs.declared.values.UserValue.{UserValue}
 use Rattle.kc_rules_model.specs.declared.values.UserValue.TheVariants.{Tri as TriUser, Text as TextUser}
 use Rattle.kc_rules_model.specs.Rule.{rule}
 

@@ -1,16 +1,12 @@
 -- What assignments of members select.
-use Rattle.std.proofs.Common.{◌≡◌, inl, inr, ℕ, Bool, true, false, not, ◌&&◌, ◌||◌, ◌==◌, cond, List, [], ◌∷◌, ◌++◌, Option, Some, None, find, filter, refl, sym, ◌∙◌, ap}
-use Rattle.std.specs.Option.{option_map, option_and_then, option_or}
-use Rattle.std.specs.List.{list_any, list_all, All}
-use Rattle.std.proofs.lemmas.Bool.{false≢true, true≢false, cases_Bool, and_parts, and_from, or_cases}
+use Rattle.std.proofs.Common.{◌++◌, filter}
+use Rattle.kc_rules_model.proofs.Common.{◌≡◌, inl, inr, ℕ, Bool, true, false, not, ◌&&◌, ◌||◌, ◌==◌, cond, List, [], ◌∷◌, Option, Some, None, find, refl, sym,
+    ◌∙◌, ap, option_map, option_and_then, option_or, list_any, list_all, false≢true, true≢false, cases_Bool, and_parts, and_from, or_cases, Tree, Choice,
+    MemberLine, UnitValue, is_listed, last_y, first_listed, selected_without_y, selected_by_lines, is_shown, is_visible_member, default_member}
+use Rattle.std.specs.List.{All}
 use Rattle.std.proofs.lemmas.List.Elements.{All-head, All-tail}
-use Rattle.kc_tree_model.specs.Trees.{Tree, Choice}
-use Rattle.kc_rules_model.specs.declared.values.MemberLine.{MemberLine}
-use Rattle.kc_rules_model.specs.declared.values.UnitValue.{UnitValue}
 use Rattle.kc_rules_model.specs.declared.values.UserValue.TheVariants.{Member as MemberUser}
-use Rattle.kc_rules_model.specs.MemberLines.{is_listed, last_y, first_listed, selected_without_y, selected_by_lines}
 use Rattle.kc_rules_model.specs.MemberLineLaws.{ListsAreTwoLists, RulesAgreeWithoutN, FirstUnsetIsSelected}
-use Rattle.kc_rules_model.specs.Rule.{is_shown, is_visible_member, default_member}
 use Rattle.kc_rules_model.specs.checker.RestoreLaw.{none_listed}
 
 or_none : (o : Option ℕ) → option_or o None ≡ o

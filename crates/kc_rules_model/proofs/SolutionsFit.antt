@@ -1,25 +1,20 @@
 -- The values of a fitting assignment fit their units.
-use Rattle.std.proofs.Common.{◌≡◌, ℕ, zero, suc, ◌+◌, ◌<◌, ◌≤◌, true, IsTrue, IfSome, List, [], Option, Some, None, length, map, set, refl, ◌∙◌, ap, arith, slice_get, subst}
+use Rattle.std.proofs.Common.{zero, suc, ◌+◌, set, subst}
 use Rattle.std.proofs.lemmas.Option.{slice_get-map}
 use Rattle.std.proofs.lemmas.List.{length-map}
-use Rattle.std.proofs.lemmas.Str.{IsUtf8-nil, is_utf8-from_IsUtf8}
-use Rattle.std.specs.Option.{option_map}
-use Rattle.kc_value.specs.declared.tri.Tri.TheVariants.{N}
-use Rattle.kc_value.specs.declared.value.Kind.{Kind}
-use Rattle.kc_value.specs.declared.value.Kind.TheVariants.{Bool as Boolean, Tristate, Text, Int, Hex}
-use Rattle.kc_tree_model.specs.Trees.{Tree, Symbol}
+use Rattle.kc_rules_model.proofs.Common.{◌≡◌, ℕ, ◌<◌, ◌≤◌, true, IsTrue, IfSome, List, [], Option, Some, None, length, map, refl, ◌∙◌, ap, arith, slice_get,
+    IsUtf8-nil, is_utf8-from_IsUtf8, option_map, N, Kind, Tristate, Text, Int, Hex, Tree, Symbol, user_of, FitsValues, Profile, UnitValue, UserValue,
+    unit_value_fits, symbol_value_fits, text_fits}
+use Rattle.kc_value.specs.declared.value.Kind.TheVariants.{Bool as Boolean}
 use Rattle.kc_tree_model.specs.declared.ids.Unit.{Unit as TreeUnit}
 use Rattle.kc_tree_model.specs.declared.ids.Unit.TheVariants.{Symbol as of_symbol, Choice as of_choice}
-use Rattle.kc_solver.specs.Solutions.{user_of, Solves, FitsUsers, FitsValues}
+use Rattle.kc_solver.specs.Solutions.{Solves, FitsUsers}
 use Rattle.kc_solver.proofs.Lists.{get-some, each_set}
 use Rattle.kc_solver.proofs.OneSolution as solving
-use Rattle.kc_rules_model.specs.declared.profile.Profile.{Profile}
-use Rattle.kc_rules_model.specs.declared.values.UnitValue.{UnitValue}
 use Rattle.kc_rules_model.specs.declared.values.UnitValue.TheVariants.{Tri as TriValue, Text as TextValue, Member as MemberValue}
-use Rattle.kc_rules_model.specs.declared.values.UserValue.{UserValue}
 use Rattle.kc_rules_model.specs.Rule.{rule}
 use Rattle.kc_rules_model.specs.Dependencies.{dependencies}
-use Rattle.kc_rules_model.specs.Shapes.{user_fits, value_fits, unit_value_fits, symbol_value_fits, text_fits, tri_fits}
+use Rattle.kc_rules_model.specs.Shapes.{user_fits, value_fits, tri_fits}
 use Rattle.kc_rules_model.specs.checker.FrameLaw.{rules_frame}
 use Rattle.kc_rules_model.proofs.FittingValues.{rules_fit}
 use Rattle.kc_rules_model.proofs.OrderedTrees.{IsOrderedTree, ordered_tree}

@@ -1,9 +1,7 @@
 -- Ints: a range, and the text of a value. An `option env`: its text is the value, and no file has it.
-use Rattle.std.proofs.Common.{◌≡◌, false, [], ◌∷◌, refl}
-use Rattle.std.specs.Prelude.{codes}
+use Rattle.kc_rules_model.proofs.Common.{◌≡◌, false, [], ◌∷◌, refl, codes, Present}
 use Rattle.std.specs.Fmt.{digits}
 use Rattle.kc_value.specs.Number.{int_text}
-use Rattle.kc_rules_model.specs.declared.profile.Profile.TheVariants.{Present}
 use Rattle.kc_rules_model.specs.Rule.{rule}
 use Rattle.kc_rules_model.specs.Reports.{is_written}
 use Rattle.kc_rules_model.proofs.RowTrees.{by_rules, text, writes, tree_int, tree_from_environment}

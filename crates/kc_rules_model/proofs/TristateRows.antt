@@ -1,7 +1,5 @@
 -- Bools and tristates: a default above its visibility, and a select.
-use Rattle.std.proofs.Common.{◌≡◌, [], ◌∷◌, None, refl}
-use Rattle.kc_value.specs.declared.tri.Tri.TheVariants.{M, Y}
-use Rattle.kc_rules_model.specs.declared.profile.Profile.TheVariants.{Present, Classic}
+use Rattle.kc_rules_model.proofs.Common.{◌≡◌, [], ◌∷◌, None, refl, M, Y, Present, Classic}
 use Rattle.kc_rules_model.specs.Rule.{rule}
 use Rattle.kc_rules_model.specs.Reports.{unmet}
 use Rattle.kc_rules_model.proofs.RowTrees.{by_rules, m, y, sets, tree_lifted, tree_select}

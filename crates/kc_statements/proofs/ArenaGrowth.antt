@@ -1,8 +1,7 @@
 -- Growth of an arena: in two steps, and in none.
-use Rattle.std.proofs.Common.{◌≡◌, List, length, take, drop, ◌++◌, ap, sym, ◌∙◌, append_assoc}
-use Rattle.std.proofs.lemmas.List.{take-append-drop}
-use Rattle.std.proofs.Math.Seq.{take-append_seam, take-length}
-use Rattle.kc_expr.specs.between.Arena.{Exprs, Grows}
+use Rattle.std.proofs.Common.{append_assoc}
+use Rattle.kc_statements.proofs.Common.{◌≡◌, List, length, take, drop, ◌++◌, ap, sym, ◌∙◌, take-append-drop, take-length, Exprs, Grows}
+use Rattle.std.proofs.Math.Seq.{take-append_seam}
 
 front_parts : {X : Type 0} (xs ys : List X) → take (length xs) ys ≡ xs → ys ≡ xs ++ drop (length xs) ys
 front_parts xs ys e = sym (take-append-drop (length xs) ys) ∙ ap (λ zs. zs ++ drop (length xs) ys) e

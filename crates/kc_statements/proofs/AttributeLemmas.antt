@@ -1,14 +1,10 @@
 -- Types and defaults, by their parts.
-use Rattle.std.proofs.Common.{◌≡◌, ◌+◌, ◌≤◌, ◌<◌, Bool, true, false, ◌==◌, ◌||◌, ◌&&◌, cond, List, [], ◌∷◌, length, drop, refl, ap, ◌∙◌, arith, Result, Ok, Err}
+use Rattle.kc_statements.proofs.Common.{◌≡◌, ◌+◌, ◌≤◌, ◌<◌, Bool, true, false, ◌==◌, ◌||◌, ◌&&◌, cond, List, [], ◌∷◌, length, drop, refl, ap, ◌∙◌, arith, Result,
+    Ok, Err, Lexeme, lexemes_of, ExprKind, Expr, extent, is_operand_kind, TreeKind, ParsedExpr, prompt_line, type_line, default_line, optional_if, kind_of_fault,
+    ◌>>=◌, Statement, Attribute, DefaultAttribute, attribute, typed_prompt}
 use Rattle.kc_value.specs.declared.value.Kind.{Kind}
-use Rattle.kc_tokens.specs.Token.{Lexeme, lexemes_of}
 use Rattle.kc_tokens.specs.declared.token.Token.{Token as CodeToken}
-use Rattle.kc_tokens.specs.declared.fault.ExprKind.{ExprKind}
-use Rattle.kc_expr.specs.Expr.{Expr}
-use Rattle.kc_expr.specs.Grammar.{extent, read_expr, is_operand_kind, is_close}
-use Rattle.kc_tree_model.specs.declared.fault.TreeKind.{TreeKind}
-use Rattle.kc_tree_model.specs.Forms.{ParsedExpr, prompt_line, type_line, default_line, optional_if, kind_of_fault, ◌>>=◌}
-use Rattle.kc_tree_model.specs.Statements.{Statement, Attribute, DefaultAttribute, attribute, typed_prompt}
+use Rattle.kc_expr.specs.Grammar.{read_expr, is_close}
 use Rattle.kc_statements.proofs.FormLemmas.{stepped}
 
 pub type_is : (k : Kind) (ts : List CodeToken) → 0 < length ts → type_line k (lexemes_of ts) ≡ prompt_line (typed_prompt k) (lexemes_of ts)

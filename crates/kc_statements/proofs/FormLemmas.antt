@@ -1,27 +1,19 @@
 -- The forms of lines, step by step: conditions, first tokens and results.
-use Rattle.std.proofs.Common.{◌≡◌, inl, inr, ℕ, suc, zero, ◌+◌, ◌<◌, ◌≤◌, ◌⊎◌, Bool, true, false, List, [], ◌∷◌, length, drop, refl, ap, sym, ◌∙◌, arith, rules, Some, Result, Ok, Err, length-drop, map, ◌==◌}
+use Rattle.std.proofs.Common.{zero, ◌⊎◌, map}
 use Rattle.std.proofs.lemmas.List.{drop-map, drop_more}
-use Rattle.std.specs.Prelude.{codes, slice_index_or, take, IfOk}
-use Rattle.std.proofs.lemmas.Bool.{false≢true}
-use Rattle.std.proofs.lemmas.Bool.Decides.{nat_tests}
-use Rattle.kc_tokens.specs.Token.{Lexeme, lexeme_of, lexemes_of}
+use Rattle.std.specs.Prelude.{take}
+use Rattle.kc_statements.proofs.Common.{◌≡◌, inl, inr, ℕ, suc, ◌+◌, ◌<◌, ◌≤◌, Bool, true, false, List, [], ◌∷◌, length, drop, refl, ap, sym, ◌∙◌, arith, rules,
+    Some, Result, Ok, Err, length-drop, ◌==◌, codes, slice_index_or, IfOk, false≢true, nat_tests, Lexeme, lexeme_of, lexemes_of, Word, Expr, extent, ExprKind,
+    TreeKind, Malformed, OutOfMemory, last_condition, optional_if, no_more, kind_of_fault, ParsedExpr, ◌>>=◌, is_the_word, Statement, ReturnsOrFails}
 use Rattle.kc_expr.specs.between.ParseResults.{RefusesExpr, expr_tokens, expr_end}
 use Rattle.kc_tokens.specs.declared.fault.ExprFault.{ExprFault}
 use Rattle.kc_tokens.specs.MemoryFaults.{IsOutOfMemory}
 use Rattle.kc_tokens.specs.declared.token.Token.{Token as CodeToken}
-use Rattle.kc_tokens.specs.declared.token.TokenKind.TheVariants.{Word}
-use Rattle.kc_expr.specs.Expr.{Expr, conditional}
-use Rattle.kc_expr.specs.Grammar.{extent, read_expr, fault_of}
-use Rattle.kc_tokens.specs.declared.fault.ExprKind.{ExprKind}
-use Rattle.kc_tree_model.specs.declared.fault.TreeKind.{TreeKind}
-use Rattle.kc_tree_model.specs.declared.fault.TreeKind.TheVariants.{Malformed, OutOfMemory}
-use Rattle.kc_tree_model.specs.Forms.{last_condition, optional_if, no_more, kind_of_fault, ParsedExpr, ◌>>=◌}
-use Rattle.kc_tree_model.specs.Keywords.{is_the_word}
+use Rattle.kc_expr.specs.Expr.{conditional}
+use Rattle.kc_expr.specs.Grammar.{read_expr, fault_of}
 use Rattle.kc_expr.proofs.FirstFaults.{fault_read}
 use Rattle.kc_tree_model.specs.Forms.{statement_of}
 use Rattle.kc_tree_model.specs.declared.keyword.Keyword.{Keyword}
-use Rattle.kc_tree_model.specs.Statements.{Statement}
-use Rattle.kc_statements.specs.between.StatementViews.{ReturnsOrFails}
 
 more : {A : Type 0} (x : A) (ts : List Lexeme) → 0 < length ts → no_more x ts ≡ Err Malformed
 more x [] h = absurd (omega arith)

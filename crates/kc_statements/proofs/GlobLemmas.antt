@@ -1,18 +1,13 @@
 -- A quoted path is a pattern where its token's text has one of the bytes of patterns.
-use Rattle.std.proofs.Common.{◌≡◌, ℕ, suc, ◌+◌, ◌-◌, Bool, true, false, ◌==◌, ◌||◌, ◌&&◌, nat_le, List, [], ◌∷◌, length, get_or, take, refl, ap, sym, ◌∙◌, arith, rules, cond}
-use Rattle.std.specs.List.{list_any}
+use Rattle.std.proofs.Common.{◌-◌, nat_le}
+use Rattle.kc_statements.proofs.Common.{◌≡◌, ℕ, suc, ◌+◌, Bool, true, false, ◌==◌, ◌||◌, ◌&&◌, List, [], ◌∷◌, length, get_or, take, refl, ap, sym, ◌∙◌, arith,
+    rules, cond, list_any, take-length, false≢true, nat_tests, is_operand_kind, Lexeme, TokenKind, Word, Quoted, Relation, Not, And, Or, Open, Close,
+    is_glob_path}
 use Rattle.std.proofs.Math.Bool.{or-false}
-use Rattle.std.proofs.Math.Seq.{take-length}
-use Rattle.std.proofs.lemmas.Bool.{false≢true}
-use Rattle.std.proofs.lemmas.Bool.Decides.{nat_tests}
 use Rattle.std.proofs.lemmas.List.Folds.{list_any_more}
 use Rattle.kc_value.specs.QuotedTexts.{unescaped}
 use Rattle.kc_tokens.specs.QuotedTexts.{between_quotes}
-use Rattle.kc_expr.specs.Grammar.{is_operand_kind}
-use Rattle.kc_tokens.specs.Token.{is_quote, Lexeme}
-use Rattle.kc_tokens.specs.declared.token.TokenKind.{TokenKind}
-use Rattle.kc_tokens.specs.declared.token.TokenKind.TheVariants.{Word, Quoted, Relation, Not, And, Or, Open, Close}
-use Rattle.kc_tree_model.specs.Placement.{is_glob_path}
+use Rattle.kc_tokens.specs.Token.{is_quote}
 
 -- whether a byte makes a path a pattern: `*`, `?` or `[`
 abbrev pub is_pattern_byte : ℕ → Bool

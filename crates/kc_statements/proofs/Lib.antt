@@ -1,3 +1,4 @@
+pub mod Common
 pub mod FormLemmas
 pub mod RangeLemmas
 pub mod TitleLemmas

@@ -1,18 +1,14 @@
 -- The definitions of lines, by their first tokens.
-use Rattle.std.proofs.Common.{◌≡◌, ℕ, ◌<◌, Bool, true, false, ◌==◌, not, List, [], ◌∷◌, length, drop, refl, ap, sym, ◌∙◌, arith, Option, Some, None, Result, Ok, Err}
-use Rattle.std.specs.Prelude.{slice_index_or}
+use Rattle.std.proofs.Common.{not}
+use Rattle.kc_statements.proofs.Common.{◌≡◌, ℕ, ◌<◌, Bool, true, false, ◌==◌, List, [], ◌∷◌, length, drop, refl, ap, sym, ◌∙◌, arith, Option, Some, None, Result,
+    Ok, Err, slice_index_or, Exprs, Grows, Expr, Lexeme, lexeme_of, lexemes_of, TreeKind, Malformed, condition_line, prompt_line, last_condition, optional_if,
+    no_more, is_the_word, Attribute, TargetAttribute, Statement, attribute, head, if_in, target_in, IfNodeExists}
 use Rattle.std.specs.Bool.{if◌then◌else◌}
-use Rattle.kc_expr.specs.between.Arena.{Exprs, Grows}
-use Rattle.kc_expr.specs.Expr.{Expr}
-use Rattle.kc_tokens.specs.Token.{Lexeme, lexeme_of, lexemes_of}
 use Rattle.kc_tokens.specs.declared.token.Token.{Token as CodeToken}
-use Rattle.kc_tree_model.specs.declared.fault.TreeKind.{TreeKind}
-use Rattle.kc_tree_model.specs.declared.fault.TreeKind.TheVariants.{Malformed}
-use Rattle.kc_tree_model.specs.Forms.{condition_line, prompt_line, target_line, config_line, source_line, last_condition, optional_if, no_more, path_of}
-use Rattle.kc_tree_model.specs.Keywords.{is_the_word, is_name, is_quoted_kind}
+use Rattle.kc_tree_model.specs.Forms.{target_line, config_line, source_line, path_of}
+use Rattle.kc_tree_model.specs.Keywords.{is_name, is_quoted_kind}
 use Rattle.kc_tree_model.specs.Placement.{first_is}
-use Rattle.kc_tree_model.specs.Statements.{Attribute, TargetAttribute, Statement, attribute, head, config, source}
-use Rattle.kc_statements.specs.between.StatementViews.{if_in, target_in, IfNodeExists}
+use Rattle.kc_tree_model.specs.Statements.{config, source}
 use Rattle.kc_statements.proofs.FormLemmas.{first_of, none_there, stepped}
 use Rattle.kc_statements.proofs.GrownArenas.{if_same}
 

@@ -1,13 +1,8 @@
 -- The lines of options, by their tokens.
-use Rattle.std.proofs.Common.{◌≡◌, ◌<◌, true, List, [], ◌∷◌, length, drop, refl, arith, Option, Some, None, Err}
-use Rattle.std.specs.Prelude.{codes}
-use Rattle.kc_expr.specs.Expr.{Operand}
-use Rattle.kc_tokens.specs.Token.{Lexeme, lexeme_of, lexemes_of}
+use Rattle.kc_statements.proofs.Common.{◌≡◌, ◌<◌, true, List, [], ◌∷◌, length, drop, refl, arith, Option, Some, None, Err, codes, Operand, Lexeme, lexeme_of,
+    lexemes_of, Malformed, no_more, is_the_word, attribute, modules}
 use Rattle.kc_tokens.specs.declared.token.Token.{Token as CodeToken}
-use Rattle.kc_tree_model.specs.declared.fault.TreeKind.TheVariants.{Malformed}
-use Rattle.kc_tree_model.specs.Forms.{environment_of_operand, option_line, no_more}
-use Rattle.kc_tree_model.specs.Keywords.{is_the_word}
-use Rattle.kc_tree_model.specs.Statements.{attribute, modules}
+use Rattle.kc_tree_model.specs.Forms.{environment_of_operand, option_line}
 use Rattle.kc_statements.proofs.FormLemmas.{first_of}
 
 -- tokens after the text of an `option env`

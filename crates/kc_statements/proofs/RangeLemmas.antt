@@ -1,16 +1,9 @@
 -- The line of a range, by its two operands and the tokens after them.
-use Rattle.std.proofs.Common.{◌≡◌, ℕ, ◌≤◌, false, List, [], ◌∷◌, length, drop, refl, ap, arith, Option, Some, None, Ok, Err}
-use Rattle.std.specs.Prelude.{slice_index_or}
-use Rattle.kc_tokens.specs.Token.{lexeme_of, lexemes_of}
-use Rattle.kc_expr.specs.Expr.{Expr, Operand}
+use Rattle.kc_statements.proofs.Common.{◌≡◌, ℕ, ◌≤◌, false, List, [], ◌∷◌, length, drop, refl, ap, arith, Option, Some, None, Ok, Err, slice_index_or, lexeme_of,
+    lexemes_of, Expr, Operand, TokenKind, Word, Quoted, Relation, Not, And, Or, Open, Close, is_operand_kind, operand_of_kind, operand_of_lexeme, TreeKind,
+    Malformed, attribute, range, optional_if}
 use Rattle.kc_tokens.specs.declared.token.Token.{Token as CodeToken}
-use Rattle.kc_tokens.specs.declared.token.TokenKind.{TokenKind}
-use Rattle.kc_tokens.specs.declared.token.TokenKind.TheVariants.{Word, Quoted, Relation, Not, And, Or, Open, Close}
-use Rattle.kc_expr.specs.Grammar.{is_operand_kind, operand_of_kind, operand_of_lexeme}
-use Rattle.kc_tree_model.specs.declared.fault.TreeKind.{TreeKind}
-use Rattle.kc_tree_model.specs.declared.fault.TreeKind.TheVariants.{Malformed}
-use Rattle.kc_tree_model.specs.Statements.{attribute, range}
-use Rattle.kc_tree_model.specs.Forms.{range_line, range_of_operands, optional_if}
+use Rattle.kc_tree_model.specs.Forms.{range_line, range_of_operands}
 use Rattle.kc_statements.proofs.FormLemmas.{some_token}
 
 no_operand : (k : TokenKind) (text : List ℕ) → is_operand_kind k ≡ false → operand_of_kind k text ≡ None

@@ -1,15 +1,10 @@
 -- Titles.
-use Rattle.std.proofs.Common.{◌≡◌, ℕ, ◌<◌, arith, length, true, List, [], ◌∷◌, refl, ap, sym, ◌∙◌, inl, Result, Ok, Err}
-use Rattle.std.specs.Prelude.{IfOk, IfErr}
-use Rattle.std.proofs.lemmas.Bool.{false≢true}
-use Rattle.kc_tokens.specs.Token.{lexemes_of}
+use Rattle.kc_statements.proofs.Common.{◌≡◌, ℕ, ◌<◌, arith, length, true, List, [], ◌∷◌, refl, ap, sym, ◌∙◌, inl, Result, Ok, Err, IfOk, false≢true, lexemes_of,
+    quoted_text, TreeKind, OutOfMemory, Statement, head, ReturnsOrFails}
+use Rattle.std.specs.Prelude.{IfErr}
 use Rattle.kc_tokens.specs.declared.token.Token.{Token as CodeToken}
-use Rattle.kc_tokens.specs.QuotedTexts.{quoted_text}
-use Rattle.kc_tree_model.specs.declared.fault.TreeKind.{TreeKind}
-use Rattle.kc_tree_model.specs.declared.fault.TreeKind.TheVariants.{OutOfMemory}
 use Rattle.kc_tree_model.specs.Forms.{titled_line}
-use Rattle.kc_tree_model.specs.Statements.{Head, Statement, head}
-use Rattle.kc_statements.specs.between.StatementViews.{ReturnsOrFails}
+use Rattle.kc_tree_model.specs.Statements.{Head}
 use Rattle.kc_statements.specs.checker.Titles.{is_one_quoted}
 use Rattle.kc_statements.proofs.FormLemmas.{first_of}
 

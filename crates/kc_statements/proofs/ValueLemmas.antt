@@ -1,18 +1,11 @@
 -- Values of defaults, and operands.
-use Rattle.std.proofs.Common.{◌≡◌, ℕ, ◌+◌, true, false, ◌==◌, List, [], ◌∷◌, length, drop, refl, ap, sym, ◌∙◌, arith, Option, Some, Result, Ok, Err}
-use Rattle.std.proofs.lemmas.Bool.{false≢true}
-use Rattle.kc_expr.specs.between.Arena.{Exprs, Represents, node_expr, Grows}
-use Rattle.kc_expr.specs.Expr.{Expr, Operand, alone, named, quoted}
-use Rattle.kc_tokens.specs.QuotedTexts.{quoted_text}
-use Rattle.kc_expr.specs.Grammar.{extent, read_expr, operand_of_lexeme, operand_of_kind, is_operand_kind, constant_or}
-use Rattle.kc_tokens.specs.Token.{Lexeme}
-use Rattle.kc_tokens.specs.declared.fault.ExprKind.{ExprKind}
-use Rattle.kc_tokens.specs.declared.token.TokenKind.{TokenKind}
-use Rattle.kc_tokens.specs.declared.token.TokenKind.TheVariants.{Word, Quoted, Relation, Not, And, Or, Open, Close}
-use Rattle.kc_tree_model.specs.declared.fault.TreeKind.{TreeKind}
-use Rattle.kc_tree_model.specs.Forms.{default_line, optional_if}
-use Rattle.kc_tree_model.specs.Statements.{Statement, Attribute, DefaultAttribute, attribute}
-use Rattle.kc_statements.specs.between.StatementViews.{if_in, operand_or_n, operand_of_expr, default_in, OperandNodeExists}
+use Rattle.kc_statements.proofs.Common.{◌≡◌, ℕ, ◌+◌, true, false, ◌==◌, List, [], ◌∷◌, length, drop, refl, ap, sym, ◌∙◌, arith, Option, Some, Result, Ok, Err,
+    false≢true, Exprs, node_expr, Grows, Expr, Operand, alone, quoted_text, extent, operand_of_lexeme, operand_of_kind, is_operand_kind, Lexeme, ExprKind,
+    TokenKind, Word, Quoted, Relation, Not, And, Or, Open, Close, TreeKind, default_line, optional_if, Statement, Attribute, DefaultAttribute, attribute, if_in,
+    operand_or_n, operand_of_expr, default_in, OperandNodeExists}
+use Rattle.kc_expr.specs.between.Arena.{Represents}
+use Rattle.kc_expr.specs.Expr.{named, quoted}
+use Rattle.kc_expr.specs.Grammar.{read_expr, constant_or}
 use Rattle.kc_statements.proofs.AttributeLemmas.{default_is}
 use Rattle.kc_statements.proofs.FormLemmas.{stepped}
 use Rattle.kc_statements.proofs.GrownArenas.{node_same}

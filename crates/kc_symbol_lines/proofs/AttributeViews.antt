@@ -1,20 +1,12 @@
 -- What an attribute of the code is, by the definitions.
-use Rattle.std.proofs.Common.{◌≡◌, ℕ, ◌<◌, cond, length, Option, Some, None, refl}
-use Rattle.std.specs.Prelude.{option_map, IfSome}
-use Rattle.kc_expr.specs.Expr.{Expr}
-use Rattle.kc_expr.specs.between.Arena.{Exprs, node_expr}
-use Rattle.kc_statements.specs.between.StatementViews.{attribute_in, if_in, AttributeNodesExist, IfNodeExists}
+use Rattle.kc_symbol_lines.proofs.Common.{◌≡◌, ℕ, ◌<◌, cond, length, Option, Some, None, refl, option_map, IfSome, Expr, Exprs, node_expr, attribute_in, if_in,
+    AttributeNodesExist, Attribute, TargetAttribute, Conjuncts, Dependencies, Visibles, ReverseKind, conjunct_given, prompt_given, is_given}
+use Rattle.kc_statements.specs.between.StatementViews.{IfNodeExists}
 use Rattle.kc_statements.specs.declared.statement.Attribute.{Attribute as CodeAttribute}
 use Rattle.kc_statements.specs.declared.statement.Attribute.TheVariants as attributes
 use Rattle.kc_tree_model.specs.Statements as model
-use Rattle.kc_tree_model.specs.Statements.{Attribute, TargetAttribute}
-use Rattle.kc_statements.specs.declared.statement.Conjuncts.{Conjuncts}
-use Rattle.kc_statements.specs.declared.statement.Conjuncts.TheVariants.{Dependencies, Visibles}
 use Rattle.kc_symbol_lines.specs.declared.own_lines.Given.TheVariants as given
-use Rattle.kc_statements.specs.declared.statement.ReverseKind.{ReverseKind}
 use Rattle.kc_statements.specs.declared.statement.ReverseKind.TheVariants as kinds
-use Rattle.kc_statements.specs.between.StatementViews.{conjunct_given, prompt_given}
-use Rattle.kc_symbol_lines.specs.checker.OwnLines.{is_given}
 
 abbrev pub part_meant : Conjuncts → Attribute → Option Expr
 part_meant Dependencies a = model.depends_of a

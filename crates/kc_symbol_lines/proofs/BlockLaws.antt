@@ -1,15 +1,12 @@
 -- The blocks around each group.
-use Rattle.std.proofs.Common.{◌≡◌, below_more, ℕ, zero, suc, ◌+◌, ◌<◌, List, [], ◌∷◌, ◌++◌, length, drop, map, Option, Some, None, refl, ap, sym, ◌∙◌, subst, arith, length-append}
-use Rattle.std.specs.Prelude.{slice_get, unwrap_or, option_map, IfSome, All}
-use Rattle.std.proofs.lemmas.List.Elements.{All-nil, All-cons}
-use Rattle.kc_expr.specs.between.Arena.{Exprs}
+use Rattle.std.proofs.Common.{below_more, length-append}
+use Rattle.kc_symbol_lines.proofs.Common.{◌≡◌, ℕ, zero, suc, ◌+◌, ◌<◌, List, [], ◌∷◌, ◌++◌, length, drop, map, Option, Some, None, refl, ap, sym, ◌∙◌, subst,
+    arith, slice_get, unwrap_or, option_map, IfSome, All, All-nil, All-cons, Exprs, RepresentsHead, Group, GroupHead, side_of, opening, closing, inside,
+    open_blocks, read_before, block_at, block_after, IsChain, open_numbers, HasBlocksTo}
 use Rattle.kc_parser.specs.declared.listing.GroupHead.{GroupHead as CodeHead}
 use Rattle.kc_parser.specs.declared.listing.GroupHead.TheVariants as codes
-use Rattle.kc_parser.specs.between.ListingView.{RepresentsHead}
-use Rattle.kc_tree_model.specs.Blocks.{Group, GroupHead, side_of, opening, closing, inside, open_blocks}
 use Rattle.kc_tree_model.proofs.NestedTrees.OpenBlocks.{pushed, popped, open_inside}
-use Rattle.kc_checks.specs.between.Summaries.{read_before}
-use Rattle.kc_symbol_lines.specs.checker.Blocks.{block_at, outer_block, block_after, IsChain, open_numbers, HasBlocksTo}
+use Rattle.kc_symbol_lines.specs.checker.Blocks.{outer_block}
 
 get_first : {X : Type 0} (xs ys : List X) (i : ℕ) → i < length xs → slice_get (xs ++ ys) i ≡ slice_get xs i
 get_first [] ys i h = absurd (omega arith)

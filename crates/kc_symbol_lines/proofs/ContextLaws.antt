@@ -1,28 +1,19 @@
 -- The conditions that enclose what is inside blocks are those of the definitions.
-use Rattle.std.proofs.Common.{◌≡◌, inl, inr, ℕ, Bool, true, false, List, [], ◌∷◌, ◌++◌, map, Option, Some, None, refl, ap, sym, ◌∙◌, subst}
-use Rattle.std.specs.Prelude.{slice_get, option_map, unwrap_or}
-use Rattle.std.proofs.lemmas.List.{map-append}
+use Rattle.kc_symbol_lines.proofs.Common.{◌≡◌, inl, inr, ℕ, Bool, true, false, List, [], ◌∷◌, ◌++◌, map, Option, Some, None, refl, ap, sym, ◌∙◌, subst,
+    slice_get, option_map, unwrap_or, map-append, Exprs, node_expr, RepresentsHead, RepresentsGroup, line_in, Group, GroupHead, names_defined, Has,
+    LocatedContext, located_at, located_prompts, located_context, HasLines, TreeLines, Visibles, located_view, all_located, EnclosingLists, position_at,
+    located_if, parts_in, dependency_parts, prompts_in, as_choice_part, shown_parts, inside_menu, inside_choice, inside_head, inside_blocks}
 use Rattle.std.proofs.lemmas.Option.{slice_get-map}
 use Rattle.kc_value.specs.declared.tri.Tri.TheVariants.{N}
 use Rattle.kc_expr.specs.Expr.{alone, constant}
-use Rattle.kc_expr.specs.between.Arena.{Exprs, node_expr}
 use Rattle.kc_parser.specs.declared.listing.Group.{Group as CodeGroup}
 use Rattle.kc_parser.specs.declared.listing.Line.{Line as CodeLine}
 use Rattle.kc_parser.specs.declared.listing.GroupHead.{GroupHead as CodeHead}
 use Rattle.kc_parser.specs.declared.listing.GroupHead.TheVariants as codes
-use Rattle.kc_parser.specs.between.ListingView.{RepresentsHead, RepresentsGroup, line_in}
 use Rattle.kc_tree_model.specs.Statements as model
-use Rattle.kc_tree_model.specs.Blocks.{Group, GroupHead, of_head}
-use Rattle.kc_tree_model.specs.Limits.{names_defined}
-use Rattle.kc_tree_model.proofs.Consistency.Lists.{Has}
-use Rattle.kc_reasons_model.specs.Places.{LocatedExpr, LocatedContext, as_choice_parts, located_at, located_prompts, located_choice, located_inside_menu, located_inside, located_context}
-use Rattle.kc_builder.specs.between.TreeLines.{HasLines}
-use Rattle.kc_builder.specs.declared.tree_lines.TreeLines.{TreeLines}
-use Rattle.kc_statements.specs.declared.statement.Conjuncts.TheVariants.{Visibles}
+use Rattle.kc_tree_model.specs.Blocks.{of_head}
+use Rattle.kc_reasons_model.specs.Places.{LocatedExpr, as_choice_parts, located_choice, located_inside_menu, located_inside}
 use Rattle.kc_symbol_lines.specs.declared.located.LocatedExpr.{LocatedExpr as CodeLocated}
-use Rattle.kc_symbol_lines.specs.between.LinesView.{located_view, all_located}
-use Rattle.kc_symbol_lines.specs.checker.OwnLines.{EnclosingLists, position_at, located_if, parts_in, dependency_parts, prompts_in}
-use Rattle.kc_symbol_lines.specs.checker.Contexts.{as_choice_part, shown_parts, inside_menu, inside_choice, inside_head, inside_blocks}
 use Rattle.kc_symbol_lines.proofs.OwnLineLaws.{context_view, parts_located, dependencies_located, prompts_located}
 use Rattle.kc_symbol_lines.proofs.PlacedGroups.{numbered}
 

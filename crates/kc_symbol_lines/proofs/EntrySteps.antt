@@ -1,11 +1,10 @@
 -- Steps of a walk over a symbol's definitions.
-use Rattle.std.proofs.Common.{◌≡◌, ℕ, ◌+◌, ◌<◌, List, [], ◌∷◌, ◌++◌, length, get_or, drop, map, refl, ap, sym, ◌∙◌, subst, append_assoc, append-nil, add-one, drop-cons}
-use Rattle.std.specs.Prelude.{flat_map}
+use Rattle.std.proofs.Common.{add-one, drop-cons}
+use Rattle.kc_symbol_lines.proofs.Common.{◌≡◌, ℕ, ◌+◌, ◌<◌, List, [], ◌∷◌, ◌++◌, length, get_or, drop, map, refl, ap, sym, ◌∙◌, subst, append_assoc, append-nil,
+    flat_map, DefinitionLines, EnclosingLists}
 use Rattle.std.proofs.Math.Seq.{drop-length}
 use Rattle.kc_parser.specs.declared.listing.Line.{Line}
-use Rattle.kc_symbol_lines.specs.declared.symbol.DefinitionLines.{DefinitionLines}
 use Rattle.kc_symbol_lines.specs.checker.Definitions.{HasEntry}
-use Rattle.kc_symbol_lines.specs.checker.OwnLines.{EnclosingLists}
 
 pub entry_of : (a b : EnclosingLists) (file file2 : ℕ) (ls ls2 : List Line) (old new : DefinitionLines) → a ≡ b → file ≡ file2 → ls ≡ ls2
     → HasEntry a file ls old new → HasEntry b file2 ls2 old new

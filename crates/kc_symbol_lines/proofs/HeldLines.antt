@@ -1,31 +1,18 @@
 -- What stands on the lines of a tree are expressions of its arena.
-use Rattle.std.proofs.Common.{◌≡◌, inl, inr, ℕ, zero, suc, ◌+◌, ◌<◌, Bool, true, false, List, [], ◌∷◌, ◌++◌, length, map, take, Option, Some, None, refl, sym, subst, ◌∙◌, arith}
-use Rattle.std.specs.Prelude.{slice_get, flat_map, All, IfSome}
-use Rattle.std.specs.Global.{Vec}
-use Rattle.std.proofs.lemmas.List.Elements.{All-nil, All-cons, All-append, All-map}
-use Rattle.kc_expr.specs.between.Arena.{Exprs}
+use Rattle.kc_symbol_lines.proofs.Common.{◌≡◌, inl, inr, ℕ, zero, suc, ◌+◌, ◌<◌, Bool, true, false, List, [], ◌∷◌, ◌++◌, length, map, take, Option, Some, None,
+    refl, sym, subst, ◌∙◌, arith, slice_get, flat_map, All, IfSome, Vec, All-nil, All-cons, Exprs, RepresentsHead, LineNodesExist, Group, GroupHead,
+    names_defined, Has, HasLines, TreeLines, Conjuncts, Dependencies, Visibles, LocatedExpr, IsHeld, AreHeld, conjunct_given, prompt_given, each_items,
+    EnclosingLists, position_at, located_if, parts_in, dependency_parts, prompt_parts, prompt_at, prompts_in, as_choice_part, shown_parts, inside_menu,
+    inside_choice, inside_head, inside_blocks, lines_at, All-take}
+use Rattle.std.proofs.lemmas.List.Elements.{All-append, All-map}
 use Rattle.kc_parser.specs.declared.listing.Group.{Group as CodeGroup}
 use Rattle.kc_parser.specs.declared.listing.Line.{Line as CodeLine}
 use Rattle.kc_parser.specs.declared.listing.GroupHead.{GroupHead as CodeHead}
 use Rattle.kc_parser.specs.declared.listing.GroupHead.TheVariants as codes
-use Rattle.kc_parser.specs.between.ListingView.{RepresentsHead, LineNodesExist}
-use Rattle.kc_tree_model.specs.Blocks.{Group, GroupHead}
-use Rattle.kc_tree_model.specs.Limits.{names_defined}
-use Rattle.kc_tree_model.proofs.Consistency.Lists.{Has}
-use Rattle.kc_builder.specs.between.TreeLines.{HasLines}
-use Rattle.kc_builder.specs.declared.tree_lines.TreeLines.{TreeLines}
-use Rattle.kc_statements.specs.declared.statement.Conjuncts.{Conjuncts}
-use Rattle.kc_statements.specs.declared.statement.Conjuncts.TheVariants.{Dependencies, Visibles}
 use Rattle.kc_symbol_lines.specs.declared.located.Position.{Position}
-use Rattle.kc_symbol_lines.specs.declared.located.LocatedExpr.{LocatedExpr}
-use Rattle.kc_symbol_lines.specs.between.LinesView.{IsHeld, AreHeld}
-use Rattle.kc_statements.specs.between.StatementViews.{conjunct_given, prompt_given}
-use Rattle.kc_symbol_lines.specs.checker.Lists.{each_items}
-use Rattle.kc_symbol_lines.specs.checker.OwnLines.{EnclosingLists, position_at, located_if, parts_in, dependency_parts, prompt_parts, prompt_at, prompts_in}
-use Rattle.kc_symbol_lines.specs.checker.Contexts.{as_choice_part, shown_parts, inside_menu, inside_choice, inside_head, inside_blocks, lines_at}
 use Rattle.kc_symbol_lines.proofs.AttributeViews.{part_held, prompt_held}
 use Rattle.kc_symbol_lines.proofs.PlacedGroups.{numbered}
-use Rattle.std.proofs.lemmas.List.Elements.{All-take, All-drop}
+use Rattle.std.proofs.lemmas.List.Elements.{All-drop}
 
 module _ (e : Exprs) where
   pub record AreHeldLists (a : EnclosingLists) : Type 0 where

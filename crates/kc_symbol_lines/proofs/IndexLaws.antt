@@ -1,42 +1,25 @@
 -- The lines that the index finds are those of a symbol.
-use Rattle.std.proofs.Common.{◌≡◌, inl, inr, ℕ, zero, suc, ◌+◌, ◌<◌, Bool, true, false, cond, List, [], ◌∷◌, ◌++◌, length, map, take, Option, Some, None, refl, ap, sym, subst, ◌∙◌, arith}
-use Rattle.std.specs.Prelude.{slice_get, flat_map, is_some, All}
-use Rattle.std.specs.Global.{Vec}
-use Rattle.std.proofs.lemmas.List.{map-append, length-map, take-map}
-use Rattle.std.proofs.lemmas.List.Elements.{All-nil, All-cons, All-take}
-use Rattle.kc_expr.specs.between.Arena.{Exprs}
-use Rattle.kc_tokens.specs.declared.language.Language.{Language}
-use Rattle.kc_tokens.specs.Languages.{is_linux_6_12}
-use Rattle.kc_tree_model.specs.Trees.{Tree, Symbol}
+use Rattle.kc_symbol_lines.proofs.Common.{◌≡◌, inl, inr, ℕ, zero, suc, ◌+◌, ◌<◌, Bool, true, false, cond, List, [], ◌∷◌, ◌++◌, length, map, take, Option, Some,
+    None, refl, ap, sym, subst, ◌∙◌, arith, slice_get, flat_map, is_some, All, Vec, map-append, length-map, All-nil, All-cons, All-take, Exprs, Language,
+    is_linux_6_12, Tree, Symbol, Group, Position, open_blocks, GroupInContext, groups_in_context, Contents, contents_of, definitions_of, symbol_of,
+    names_defined, Has, get_below, located_context, located_prompts, located_dependencies, attribute_positions, TreeModel, read_before, group_at, HasLines,
+    TreeLines, LocatedExpr, SymbolLines, DefinitionLines, GatheredLines, position_view, all_located, IsHeld, AreHeld, HasBlocks, open_numbers, lines_at,
+    AreDefinitionLines, prompts_at, dependency_at, defaults_at, ranges_at, each_items, AreGathered}
+use Rattle.std.proofs.lemmas.List.{take-map}
 use Rattle.kc_tree_model.specs.Statements as model
-use Rattle.kc_tree_model.specs.Blocks.{Group, Position, open_blocks}
-use Rattle.kc_tree_model.specs.Conditions.{GroupInContext, groups_in_context}
-use Rattle.kc_tree_model.specs.Contents.{Contents, contents_of, defines, definitions_of, choice_of_symbol, own_dependencies, symbol_of, tree_of_groups}
-use Rattle.kc_tree_model.specs.Limits.{names_defined}
-use Rattle.kc_tree_model.proofs.Consistency.Lists.{Has, get_below, has-filter, map-get}
+use Rattle.kc_tree_model.specs.Contents.{defines, choice_of_symbol, own_dependencies, tree_of_groups}
+use Rattle.kc_tree_model.proofs.Consistency.Lists.{has-filter, map-get}
 use Rattle.kc_reasons_model.specs.Places as places
-use Rattle.kc_reasons_model.specs.Places.{located_context, located_context_of, located_prompts, located_dependencies}
-use Rattle.kc_reasons_model.specs.SymbolLines.{lines_of_symbol, attribute_positions}
+use Rattle.kc_reasons_model.specs.Places.{located_context_of}
+use Rattle.kc_reasons_model.specs.SymbolLines.{lines_of_symbol}
 use Rattle.kc_reasons_model.specs.SymbolLines as lines_model
-use Rattle.kc_tree.specs.TreeModel.{TreeModel}
 use Rattle.kc_tree.specs.between.GroupedItems.{IsGrouped}
-use Rattle.kc_checks.specs.between.Summaries.{read_before, group_at}
-use Rattle.kc_builder.specs.between.TreeLines.{HasLines}
-use Rattle.kc_builder.specs.declared.tree_lines.TreeLines.{TreeLines}
 use Rattle.kc_symbol_lines.specs.declared.own_lines.Given.TheVariants.{Default, Range}
 use Rattle.kc_symbol_lines.specs.declared.located.Position.{Position as CodePosition}
-use Rattle.kc_symbol_lines.specs.declared.located.LocatedExpr.{LocatedExpr}
-use Rattle.kc_symbol_lines.specs.declared.located.SymbolLines.{SymbolLines}
 use Rattle.kc_symbol_lines.specs.declared.index.LineIndex.{LineIndex}
-use Rattle.kc_symbol_lines.specs.declared.symbol.DefinitionLines.{DefinitionLines}
-use Rattle.kc_symbol_lines.specs.declared.targets.GatheredLines.{GatheredLines}
-use Rattle.kc_symbol_lines.specs.between.LinesView.{position_view, all_located, each_located, symbol_lines_view, IsHeld, AreHeld}
+use Rattle.kc_symbol_lines.specs.between.LinesView.{each_located, symbol_lines_view}
 use Rattle.kc_symbol_lines.specs.between.Indexes.{IsIndexOf}
-use Rattle.kc_symbol_lines.specs.checker.Blocks.{HasBlocks, open_numbers}
-use Rattle.kc_symbol_lines.specs.checker.Contexts.{lines_at}
-use Rattle.kc_symbol_lines.specs.checker.Definitions.{AreDefinitionLines, around_group, prompts_at, dependency_at, defaults_at, ranges_at}
-use Rattle.kc_symbol_lines.specs.checker.Lists.{each_items}
-use Rattle.kc_symbol_lines.specs.checker.Targets.{AreGathered}
+use Rattle.kc_symbol_lines.specs.checker.Definitions.{around_group}
 use Rattle.kc_symbol_lines.proofs.AttributeViews.{default_is, range_is}
 use Rattle.kc_symbol_lines.proofs.ContextLaws.{blocks_located}
 use Rattle.kc_symbol_lines.proofs.HeldLines.{own_held, blocks_held, dependencies_held, prompts_held, each_held, all_held, mapped_held}

@@ -1,3 +1,4 @@
+pub mod Common
 pub mod AttributeViews
 pub mod BlockLaws
 pub mod ContextLaws

@@ -1,27 +1,15 @@
 -- What the code finds on a group's lines is what the definitions say.
-use Rattle.std.proofs.Common.{◌≡◌, ℕ, Bool, true, false, cond, List, [], ◌∷◌, ◌++◌, map, Option, Some, None, refl, ap, sym, ◌∙◌}
-use Rattle.std.specs.Prelude.{filter_map, option_map, option_to_list}
-use Rattle.std.specs.List.{cons_option}
-use Rattle.std.proofs.lemmas.List.{map-append}
-use Rattle.kc_expr.specs.Expr.{Expr}
-use Rattle.kc_expr.specs.between.Arena.{Exprs, node_expr}
-use Rattle.kc_statements.specs.between.StatementViews.{attribute_in, if_in}
+use Rattle.kc_symbol_lines.proofs.Common.{◌≡◌, ℕ, Bool, true, false, cond, List, [], ◌∷◌, ◌++◌, map, Option, Some, None, refl, ap, sym, ◌∙◌, filter_map,
+    option_map, option_to_list, cons_option, map-append, Expr, Exprs, node_expr, attribute_in, if_in, line_in, Attribute, Group, Line, Position, LocatedContext,
+    located_at, located_dependencies, located_prompts, attribute_positions, position_of, Conjuncts, Dependencies, Visibles, position_view, located_view,
+    all_located, conjunct_given, prompt_given, is_given, EnclosingLists, position_at, located_if, parts_in, places_in, dependency_parts, prompt_parts, prompt_at,
+    prompts_in}
 use Rattle.kc_statements.specs.declared.statement.Attribute.{Attribute as CodeAttribute}
 use Rattle.kc_parser.specs.declared.listing.Line.{Line as CodeLine}
-use Rattle.kc_parser.specs.between.ListingView.{line_in}
 use Rattle.kc_tree_model.specs.Statements as model
-use Rattle.kc_tree_model.specs.Statements.{Attribute}
-use Rattle.kc_tree_model.specs.Blocks.{Group, Line, Position}
-use Rattle.kc_reasons_model.specs.Places.{LocatedExpr, LocatedContext, located_at, located_attributes, located_dependencies, located_prompt, located_prompts}
-use Rattle.kc_reasons_model.specs.SymbolLines.{attribute_positions, position_of}
-use Rattle.kc_statements.specs.declared.statement.Conjuncts.{Conjuncts}
-use Rattle.kc_statements.specs.declared.statement.Conjuncts.TheVariants.{Dependencies, Visibles}
+use Rattle.kc_reasons_model.specs.Places.{LocatedExpr, located_attributes, located_prompt}
 use Rattle.kc_symbol_lines.specs.declared.own_lines.Given.{Given}
 use Rattle.kc_symbol_lines.specs.declared.located.LocatedExpr.{LocatedExpr as CodeLocated}
-use Rattle.kc_symbol_lines.specs.between.LinesView.{position_view, located_view, all_located}
-use Rattle.kc_statements.specs.between.StatementViews.{conjunct_given, prompt_given}
-use Rattle.kc_symbol_lines.specs.checker.OwnLines.{is_given}
-use Rattle.kc_symbol_lines.specs.checker.OwnLines.{EnclosingLists, position_at, located_if, parts_in, places_in, dependency_parts, prompt_parts, prompt_at, prompts_in}
 use Rattle.kc_symbol_lines.proofs.AttributeViews.{part_meant, part_is, prompt_is}
 
 -- the conditions that some of the code represent

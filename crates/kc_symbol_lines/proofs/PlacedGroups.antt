@@ -1,17 +1,12 @@
 -- The groups that were read, by their numbers.
-use Rattle.std.proofs.Common.{◌≡◌, inl, inr, ℕ, zero, suc, ◌+◌, ◌-◌, ◌<◌, List, [], ◌∷◌, length, drop, reverse, refl, ap, sym, subst, ◌∙◌, arith}
-use Rattle.std.specs.Prelude.{slice_get, Some}
-use Rattle.kc_expr.specs.between.Arena.{Exprs}
-use Rattle.kc_tree_model.specs.Blocks.{Group, Side, side_of, opening, closing, inside, open_blocks}
-use Rattle.kc_tree_model.specs.Conditions.{GroupInContext, group_in_context, groups_in_context}
-use Rattle.kc_tree_model.specs.Limits.{names_defined}
-use Rattle.kc_tree_model.proofs.Consistency.Lists.{Has, at-has, get_below}
-use Rattle.kc_parser.specs.between.ListingView.{RepresentsGroup}
-use Rattle.kc_checks.specs.between.Summaries.{read_before, group_at}
-use Rattle.kc_checks.proofs.GroupPlaces.{shown_at, count_is, placed_count, place_numbered}
-use Rattle.kc_builder.specs.between.TreeLines.{HasLines}
-use Rattle.kc_builder.specs.declared.tree_lines.TreeLines.{TreeLines}
-use Rattle.kc_symbol_lines.specs.checker.Contexts.{lines_at}
+use Rattle.std.proofs.Common.{◌-◌, reverse}
+use Rattle.std.specs.Prelude.{Some}
+use Rattle.kc_symbol_lines.proofs.Common.{◌≡◌, inl, inr, ℕ, zero, suc, ◌+◌, ◌<◌, List, [], ◌∷◌, length, drop, refl, ap, sym, subst, ◌∙◌, arith, slice_get, Exprs,
+    Group, side_of, opening, closing, inside, open_blocks, GroupInContext, group_in_context, groups_in_context, names_defined, Has, get_below, RepresentsGroup,
+    read_before, group_at, shown_at, count_is, HasLines, TreeLines, lines_at}
+use Rattle.kc_tree_model.specs.Blocks.{Side}
+use Rattle.kc_tree_model.proofs.Consistency.Lists.{at-has}
+use Rattle.kc_checks.proofs.GroupPlaces.{placed_count, place_numbered}
 
 -- a group that was read, with those before it
 record IsThere (read : List Group) (g : Group) : Type 0 where

@@ -1,46 +1,34 @@
 -- The definitions of symbols, and the places of the selects and implies that target them.
-use Rattle.std.proofs.Common.{◌≡◌, inl, inr, ℕ, zero, suc, ◌+◌, ◌<◌, Bool, true, false, cond, ◌==◌, not, List, [], ◌∷◌, ◌++◌, length, map, Option, Some, None, refl, ap, sym, ◌∙◌, subst, arith}
-use Rattle.std.specs.Prelude.{slice_get, slice_index_or, filter_map, flat_map, option_map, option_and_then, option_to_list, unwrap_or, bytes_eq, nat_lt, All, IfSome}
-use Rattle.std.specs.List.{cons_option, position_or_len}
+use Rattle.std.proofs.Common.{◌==◌, not}
+use Rattle.std.specs.Prelude.{slice_index_or, option_and_then, bytes_eq, nat_lt}
+use Rattle.std.specs.List.{position_or_len}
 use Rattle.std.proofs.lemmas.Bool.{eqb-true, eq-eqb}
-use Rattle.std.proofs.lemmas.List.{map-append, length-map}
-use Rattle.std.proofs.lemmas.List.Elements.{All-nil, All-cons}
+use Rattle.kc_symbol_lines.proofs.Common.{◌≡◌, inl, inr, ℕ, zero, suc, ◌+◌, ◌<◌, Bool, true, false, cond, List, [], ◌∷◌, ◌++◌, length, map, Option, Some, None,
+    refl, ap, sym, ◌∙◌, subst, arith, slice_get, filter_map, flat_map, option_map, option_to_list, unwrap_or, All, IfSome, cons_option, map-append, length-map,
+    All-nil, All-cons, Exprs, Language, attribute_in, AttributeNodesExist, RepresentsHead, LineNodesExist, line_in, Tree, Symbol, Attribute, TargetAttribute,
+    Group, Line, Position, open_blocks, GroupInContext, group_in_context, groups_in_context, Contents, contents_of, definitions_of, symbol_of, names_defined,
+    Has, get_below, position_of, attribute_positions, TreeModel, HasLines, TreeLines, shown_at, all_before, read_before, group_at, ReverseKind, GatheredLines,
+    position_view, position_at, target_keys, target_places, AreGathered, lines_at}
 use Rattle.std.proofs.lemmas.Option.{slice_get-get_or}
 use Rattle.kc_expr.specs.Lookup.{index_of_name}
-use Rattle.kc_expr.specs.between.Arena.{Exprs}
-use Rattle.kc_tokens.specs.declared.language.Language.{Language}
-use Rattle.kc_statements.specs.between.StatementViews.{attribute_in, AttributeNodesExist}
 use Rattle.kc_statements.specs.declared.statement.Attribute.{Attribute as CodeAttribute}
 use Rattle.kc_statements.specs.declared.statement.Attribute.TheVariants as attributes
 use Rattle.kc_parser.specs.declared.listing.GroupHead.TheVariants as codes
 use Rattle.kc_parser.specs.declared.listing.Line.{Line as CodeLine}
-use Rattle.kc_parser.specs.between.ListingView.{RepresentsHead, LineNodesExist, line_in}
-use Rattle.kc_tree_model.specs.Trees.{Tree, Symbol}
 use Rattle.kc_tree_model.specs.TreeLookup.{symbol_named}
-use Rattle.kc_tree_model.specs.Statements.{Attribute, TargetAttribute, select_of, imply_of, config, name_of_head}
-use Rattle.kc_tree_model.specs.Blocks.{Group, Line, Position, from_head, defined_name, open_blocks}
-use Rattle.kc_tree_model.specs.Conditions.{GroupInContext, group_in_context, groups_in_context}
-use Rattle.kc_tree_model.specs.Contents.{Contents, contents_of, definitions_of, symbol_of, tree_of_groups}
-use Rattle.kc_tree_model.specs.Limits.{names_defined}
-use Rattle.kc_tree_model.proofs.Consistency.Lists.{Has, Differ, Differ-once, at_most_once, get_below, has-place, place-get, same_text, text_same}
-use Rattle.kc_reasons_model.specs.SymbolLines.{position_of, attribute_positions, target_named, target_positions}
-use Rattle.kc_tree.specs.TreeModel.{TreeModel}
+use Rattle.kc_tree_model.specs.Statements.{select_of, imply_of, config, name_of_head}
+use Rattle.kc_tree_model.specs.Blocks.{from_head, defined_name}
+use Rattle.kc_tree_model.specs.Contents.{tree_of_groups}
+use Rattle.kc_tree_model.proofs.Consistency.Lists.{Differ, Differ-once, at_most_once, has-place, place-get, same_text, text_same}
+use Rattle.kc_reasons_model.specs.SymbolLines.{target_named, target_positions}
 use Rattle.kc_tree.specs.between.GroupedItems.{items_of}
 use Rattle.kc_tree.specs.between.Views.{symbol_of_name_id}
 use Rattle.kc_builder.proofs.ItemLaw.{by_name, AreListed, none_listed, listed_more, listed_same, listed_law, number_of, number_is, direct_keys, direct_items, direct_law, force_key_of, force_keys}
-use Rattle.kc_builder.specs.between.TreeLines.{HasLines}
-use Rattle.kc_builder.specs.declared.tree_lines.TreeLines.{TreeLines}
-use Rattle.kc_checks.proofs.GroupPlaces.{shown_at, placed_more, all_before}
+use Rattle.kc_checks.proofs.GroupPlaces.{placed_more}
 use Rattle.kc_checks.proofs.Symbols.{named_there, nameless}
-use Rattle.kc_checks.specs.between.Summaries.{read_before, group_at}
-use Rattle.kc_statements.specs.declared.statement.ReverseKind.{ReverseKind}
 use Rattle.kc_statements.specs.declared.statement.ReverseKind.TheVariants.{Select, Imply}
 use Rattle.kc_symbol_lines.specs.declared.located.Position.{Position as CodePosition}
-use Rattle.kc_symbol_lines.specs.declared.targets.GatheredLines.{GatheredLines}
-use Rattle.kc_symbol_lines.specs.between.LinesView.{position_view}
-use Rattle.kc_symbol_lines.specs.checker.OwnLines.{position_at}
-use Rattle.kc_symbol_lines.specs.checker.Targets.{target_symbol, target_keys, target_places, HasDefinition, AreGathered}
-use Rattle.kc_symbol_lines.specs.checker.Contexts.{lines_at}
+use Rattle.kc_symbol_lines.specs.checker.Targets.{target_symbol, HasDefinition}
 use Rattle.kc_symbol_lines.proofs.AttributeViews.{target_meant}
 use Rattle.kc_symbol_lines.proofs.HeldLines.{own_held}
 

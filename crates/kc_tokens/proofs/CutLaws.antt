@@ -1,14 +1,11 @@
 -- What is read of a line is its tokens or its first fault, and no other.
-use Rattle.std.proofs.Common.{◌≡◌, ℕ, zero, suc, ◌+◌, ◌≤◌, ◌<◌, ◌⊎◌, inl, inr, true, List, [], ◌∷◌, ◌++◌, length, Result, Ok, Err, refl, ap, sym, ◌∙◌, subst, length-append, arith}
-use Rattle.kc_tokens.specs.declared.fault.ExprFault.{ExprFault}
+use Rattle.kc_tokens.proofs.Common.{◌≡◌, ℕ, zero, suc, ◌+◌, ◌≤◌, ◌<◌, ◌⊎◌, inl, inr, true, List, [], ◌∷◌, ◌++◌, length, Result, Ok, Err, refl, ap, sym, ◌∙◌,
+    subst, length-append, arith, ExprFault, Language, NextToken, White, Comment, Token, Fault, TokenKind, Lexeme, with_front, is_white_byte, lexemes_of,
+    lexemes_from, IsToken, IsLongest, IsCut, ends, comment, white, token}
 use Rattle.kc_tokens.specs.MemoryFaults.{IsOutOfMemory}
-use Rattle.kc_tokens.specs.declared.language.Language.{Language}
-use Rattle.kc_tokens.specs.declared.token.NextToken.{NextToken}
-use Rattle.kc_tokens.specs.declared.token.NextToken.TheVariants.{White, Comment, Token, Fault}
 use Rattle.kc_tokens.specs.declared.token.Token.{Token as CodeToken}
-use Rattle.kc_tokens.specs.declared.token.TokenKind.{TokenKind}
-use Rattle.kc_tokens.specs.Token.{Lexeme, with_front, is_white_byte, lexemes_of, next_token, lexemes_from}
-use Rattle.kc_tokens.specs.TokenGrammar.{IsToken, IsLongest, IsCut, ends, comment, white, token, IsFirstTokenFault, here, after_white, after_token}
+use Rattle.kc_tokens.specs.Token.{next_token}
+use Rattle.kc_tokens.specs.TokenGrammar.{IsFirstTokenFault, here, after_white, after_token}
 use Rattle.kc_tokens.proofs.TokenSteps.{lexemes_white, lexemes_comment, lexemes_fault, with_front_none}
 use Rattle.kc_tokens.proofs.TokenFronts.{IsNextToken, next_token_is}
 use Rattle.kc_tokens.proofs.TokenLaws.{first_byte, token_at, token_read}

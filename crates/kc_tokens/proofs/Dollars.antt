@@ -1,14 +1,12 @@
 -- The `$` between quotes.
-use Rattle.std.proofs.Common.{◌≡◌, ℕ, suc, ◌+◌, ◌<◌, Bool, true, false, ltb, eqb, cond, List, [], ◌∷◌, ◌++◌, length, Option, Some, None, refl, ap, sym, ◌∙◌, append_assoc, length-append, arith}
-use Rattle.std.specs.Prelude.{position, option_map}
-use Rattle.std.specs.List.{list_any, position_or_len}
-use Rattle.std.proofs.lemmas.Bool.{le-ltb, lt-ltb, ltb-true, or_parts, eqb-true}
-use Rattle.kc_value.proofs.ClosingSteps.{further}
-use Rattle.kc_value.specs.QuotedTexts.{IsBody, none, plain, pair}
-use Rattle.kc_tokens.specs.declared.language.Language.{Language}
-use Rattle.kc_tokens.specs.declared.language.Language.TheVariants.{Strict, Linux}
+use Rattle.std.proofs.Common.{ltb}
+use Rattle.std.specs.Prelude.{position}
+use Rattle.std.specs.List.{position_or_len}
+use Rattle.std.proofs.lemmas.Bool.{le-ltb, lt-ltb, ltb-true}
+use Rattle.kc_tokens.proofs.Common.{◌≡◌, ℕ, suc, ◌+◌, ◌<◌, Bool, true, false, eqb, cond, List, [], ◌∷◌, ◌++◌, length, Option, Some, None, refl, ap, sym, ◌∙◌,
+    append_assoc, length-append, arith, option_map, list_any, or_parts, eqb-true, further, IsBody, Language, Strict, Linux, bare_dollar, dollar_left_out}
+use Rattle.kc_value.specs.QuotedTexts.{none, plain, pair}
 use Rattle.kc_tokens.specs.declared.language.LinuxVersion.{LinuxVersion}
-use Rattle.kc_tokens.specs.Token.{bare_dollar, dollar_left_out}
 use Rattle.kc_tokens.specs.TokenGrammar.{HasDollarsInPairs, empty, other, paired, HasDollarsOf}
 
 -- the place of the first `$`, or the length

@@ -1,7 +1,6 @@
 -- A list that is the front of another.
-use Rattle.std.proofs.Common.{◌≡◌, ◌≤◌, ◌++◌, List, [], ◌∷◌, length, take, drop, ap, sym, ◌∙◌, append_assoc, arith}
+use Rattle.kc_tokens.proofs.Common.{◌≡◌, ◌≤◌, ◌++◌, List, [], ◌∷◌, length, take, drop, ap, sym, ◌∙◌, append_assoc, arith, take-append_seam}
 use Rattle.std.proofs.lemmas.List.{length-take, take-append-drop, take-take}
-use Rattle.std.proofs.Math.Seq.{take-append_seam}
 
 -- a list that begins with another still does when an element is appended
 pub kept_after : {X : Type 0} (old xs : List X) (x : X) → take (length old) xs ≡ old → take (length old) (xs ++ x ∷ []) ≡ old

@@ -1,3 +1,4 @@
+pub mod Common
 pub mod CutLaws
 pub mod Dollars
 pub mod KeptLists

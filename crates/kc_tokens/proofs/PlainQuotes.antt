@@ -1,14 +1,9 @@
 -- Quoted texts without a backslash and a `$`.
-use Rattle.std.proofs.Common.{◌≡◌, ℕ, zero, suc, ◌+◌, ◌<◌, ◌≤◌, Bool, true, false, ◌||◌, eqb, List, [], ◌∷◌, length, take, drop, get_or, Some, None, refl, ap, sym, ◌∙◌, inl, inr, subst, ◌-◌, arith}
-use Rattle.std.specs.Prelude.{option_map}
-use Rattle.std.specs.List.{list_any}
-use Rattle.std.proofs.lemmas.Bool.{or_parts, eq-eqb, eqb-true, cases_eq}
-use Rattle.kc_value.specs.QuotedTexts.{closing}
-use Rattle.kc_tokens.specs.declared.language.Language.{Language}
-use Rattle.kc_tokens.specs.declared.language.Language.TheVariants.{Strict, Linux}
-use Rattle.kc_tokens.specs.declared.token.NextToken.TheVariants.{Token}
-use Rattle.kc_tokens.specs.declared.token.TokenKind.TheVariants.{Quoted}
-use Rattle.kc_tokens.specs.Token.{is_quote, dollar_left_out, next_quoted, quoted_up_to, quoted_or_left_out}
+use Rattle.kc_tokens.proofs.Common.{◌≡◌, ℕ, zero, suc, ◌+◌, ◌<◌, ◌≤◌, Bool, true, false, ◌||◌, eqb, List, [], ◌∷◌, length, take, drop, get_or, Some, None, refl,
+    ap, sym, ◌∙◌, inl, inr, subst, ◌-◌, arith, option_map, list_any, or_parts, eqb-true, closing, Language, Strict, Linux, Token, Quoted, is_quote,
+    dollar_left_out, quoted_up_to, quoted_or_left_out}
+use Rattle.std.proofs.lemmas.Bool.{eq-eqb, cases_eq}
+use Rattle.kc_tokens.specs.Token.{next_quoted}
 use Rattle.kc_tokens.specs.checker.TokenEnds.{Reaches}
 use Rattle.kc_tokens.specs.checker.QuoteStops.{is_quote_stop, IsPlainQuoted}
 use Rattle.kc_tokens.proofs.Dollars.{position_none, bare_of_any}

@@ -1,21 +1,15 @@
 -- What begins bytes: a white byte, a comment, the longest token, or nothing.
-use Rattle.std.proofs.Common.{◌≡◌, ℕ, suc, ◌+◌, ◌<◌, ◌≤◌, Bool, true, false, ◌&&◌, ◌||◌, eqb, cond, List, [], ◌∷◌, ◌++◌, length, take, drop, get_or, Option, Some, None, refl, ap, sym, ◌∙◌, subst, append_assoc, length-append, arith}
-use Rattle.std.specs.Prelude.{take_while}
-use Rattle.std.specs.List.{list_all}
-use Rattle.std.proofs.lemmas.Bool.{and_parts, both_ways, eqb-true}
-use Rattle.std.proofs.Math.Seq.{take-append_seam}
-use Rattle.kc_value.specs.QuotedTexts.{IsBody, closing, unescaped}
-use Rattle.kc_value.proofs.QuotedLaws.{body_closes, closed, IsClosed}
-use Rattle.kc_tokens.specs.declared.fault.ExprKind.{ExprKind}
+use Rattle.kc_tokens.proofs.Common.{◌≡◌, ℕ, suc, ◌+◌, ◌<◌, ◌≤◌, Bool, true, false, ◌&&◌, ◌||◌, eqb, cond, List, [], ◌∷◌, ◌++◌, length, take, drop, get_or,
+    Option, Some, None, refl, ap, sym, ◌∙◌, subst, append_assoc, length-append, arith, take_while, list_all, and_parts, eqb-true, take-append_seam, IsBody,
+    closing, body_closes, ExprKind, Language, NextToken, White, Comment, Token, Fault, Equal, NotEqual, Less, Greater, LessEqual, GreaterEqual, TokenKind, Word,
+    Quoted, Relation, Not, And, Or, Open, Close, is_quote, is_white_byte, is_word_byte, dollar_left_out, quoted_up_to, quoted_or_left_out, IsQuotedToken,
+    IsToken, IsLongest}
+use Rattle.std.proofs.lemmas.Bool.{both_ways}
+use Rattle.kc_value.specs.QuotedTexts.{unescaped}
+use Rattle.kc_value.proofs.QuotedLaws.{closed, IsClosed}
 use Rattle.kc_tokens.specs.declared.fault.ExprKind.TheVariants.{BadToken, UnclosedQuote, LeftOut}
-use Rattle.kc_tokens.specs.declared.language.Language.{Language}
-use Rattle.kc_tokens.specs.declared.token.NextToken.{NextToken}
-use Rattle.kc_tokens.specs.declared.token.NextToken.TheVariants.{White, Comment, Token, Fault}
-use Rattle.kc_tokens.specs.declared.token.Relop.TheVariants.{Equal, NotEqual, Less, Greater, LessEqual, GreaterEqual}
-use Rattle.kc_tokens.specs.declared.token.TokenKind.{TokenKind}
-use Rattle.kc_tokens.specs.declared.token.TokenKind.TheVariants.{Word, Quoted, Relation, Not, And, Or, Open, Close}
-use Rattle.kc_tokens.specs.Token.{is_quote, is_white_byte, is_word_byte, next_token, next_operator, dollar_left_out, quoted_up_to, quoted_or_left_out}
-use Rattle.kc_tokens.specs.TokenGrammar.{IsQuotedToken, IsToken, IsLongest, NothingBegins, IsFaultAt, dollar, unclosed, dollar_between, other_byte}
+use Rattle.kc_tokens.specs.Token.{next_token, next_operator}
+use Rattle.kc_tokens.specs.TokenGrammar.{NothingBegins, IsFaultAt, dollar, unclosed, dollar_between, other_byte}
 use Rattle.kc_tokens.proofs.Dollars.{dollars_between, first_left_out}
 use Rattle.kc_tokens.proofs.TokenSteps.{word_run}
 use Rattle.kc_tokens.proofs.TokenLaws.{run_all, run_front, front_run, quote_facts, quote_no_slash, lead_quoted, quoted_lead}

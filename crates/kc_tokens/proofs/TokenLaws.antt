@@ -1,20 +1,12 @@
 -- The tokens of a line are those of the token language.
-use Rattle.std.proofs.Common.{◌≡◌, ℕ, suc, ◌+◌, ◌<◌, ◌≤◌, ◌⊎◌, inl, inr, Bool, true, false, eqb, cond, List, [], ◌∷◌, ◌++◌, length, take, drop, get_or, Some, None, Ok, refl, ap, sym, ◌∙◌, subst, append_assoc, length-append, arith}
-use Rattle.std.specs.Prelude.{take_while}
-use Rattle.std.specs.List.{list_all}
-use Rattle.std.proofs.lemmas.Bool.{and_parts, or_cases, eqb-true}
-use Rattle.std.proofs.lemmas.Bool.Decides.{nat_tests}
-use Rattle.std.proofs.lemmas.List.Sums.{take_while-cons}
-use Rattle.std.proofs.Math.Seq.{take-append_seam, drop-append_seam}
-use Rattle.kc_value.specs.QuotedTexts.{closing}
-use Rattle.kc_value.proofs.QuotedLaws.{body_closes}
-use Rattle.kc_tokens.specs.declared.language.Language.{Language}
-use Rattle.kc_tokens.specs.declared.token.NextToken.TheVariants.{White, Comment, Token}
-use Rattle.kc_tokens.specs.declared.token.Relop.TheVariants.{Equal, NotEqual, Less, Greater, LessEqual, GreaterEqual}
-use Rattle.kc_tokens.specs.declared.token.TokenKind.{TokenKind}
-use Rattle.kc_tokens.specs.declared.token.TokenKind.TheVariants.{Word, Quoted, Relation, Not, And, Or, Open, Close}
-use Rattle.kc_tokens.specs.Token.{with_front, is_quote, Lexeme, is_white_byte, is_word_byte, next_token, dollar_left_out, quoted_up_to, quoted_or_left_out, lexemes_from}
-use Rattle.kc_tokens.specs.TokenGrammar.{IsQuotedToken, IsToken, IsLongest, IsCut, ends, comment, white, token}
+use Rattle.kc_tokens.proofs.Common.{◌≡◌, ℕ, suc, ◌+◌, ◌<◌, ◌≤◌, ◌⊎◌, inl, inr, Bool, true, false, eqb, cond, List, [], ◌∷◌, ◌++◌, length, take, drop, get_or,
+    Some, None, Ok, refl, ap, sym, ◌∙◌, subst, append_assoc, length-append, arith, take_while, list_all, and_parts, eqb-true, nat_tests, take_while-cons,
+    take-append_seam, closing, body_closes, Language, White, Comment, Token, Equal, NotEqual, Less, Greater, LessEqual, GreaterEqual, TokenKind, Word, Quoted,
+    Relation, Not, And, Or, Open, Close, with_front, is_quote, Lexeme, is_white_byte, is_word_byte, dollar_left_out, quoted_up_to, quoted_or_left_out,
+    lexemes_from, IsQuotedToken, IsToken, IsLongest, IsCut, ends, comment, white, token}
+use Rattle.std.proofs.lemmas.Bool.{or_cases}
+use Rattle.std.proofs.Math.Seq.{drop-append_seam}
+use Rattle.kc_tokens.specs.Token.{next_token}
 use Rattle.kc_tokens.proofs.Dollars.{none_left_out}
 use Rattle.kc_tokens.proofs.TokenSteps.{lexemes_white, lexemes_comment, lexemes_token, word_run}
 

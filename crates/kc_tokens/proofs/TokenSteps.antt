@@ -1,22 +1,14 @@
 -- Steps of reading a line.
-use Rattle.std.proofs.Common.{◌≡◌, ℕ, suc, zero, ◌+◌, ◌≤◌, ◌<◌, Bool, true, false, List, [], ◌∷◌, ◌++◌, length, drop, take, refl, ap, sym, ◌∙◌, arith, cond, Result, Ok, Err, get_or, ◌-◌, append_assoc, sub-one, add-suc, add-one, get_or-drop, drop-drop, length-drop}
+use Rattle.std.proofs.Common.{sub-one, add-suc, add-one, get_or-drop, drop-drop}
 use Rattle.std.proofs.Math.ListN.{drop_of_length-le}
-use Rattle.std.proofs.lemmas.List.{drop_more}
-use Rattle.std.proofs.lemmas.Str.{IsCharBoundary-after_ascii}
+use Rattle.kc_tokens.proofs.Common.{◌≡◌, ℕ, suc, zero, ◌+◌, ◌≤◌, ◌<◌, Bool, true, false, List, [], ◌∷◌, ◌++◌, length, drop, take, refl, ap, sym, ◌∙◌, arith,
+    cond, Result, Ok, Err, get_or, ◌-◌, append_assoc, length-drop, drop_more, IsCharBoundary-after_ascii, take-length, take_while-cons, take_while,
+    IsCharBoundary, Language, lexemes_from, Lexeme, is_word_byte, lexemes_of, White, Comment, Token, Fault, TokenKind, ExprKind, nat_tests, with_front,
+    ExprFault}
 use Rattle.std.specs.Prelude.{IsUtf8}
-use Rattle.std.proofs.Math.Seq.{take-length}
-use Rattle.std.proofs.lemmas.List.Sums.{take_while-cons}
-use Rattle.std.specs.Prelude.{take_while, IsCharBoundary}
-use Rattle.kc_tokens.specs.declared.language.Language.{Language}
-use Rattle.kc_tokens.specs.Token.{lexemes_from, next_token, Lexeme, is_word_byte, lexemes_of, lexeme_of}
+use Rattle.kc_tokens.specs.Token.{next_token, lexeme_of}
 use Rattle.kc_tokens.specs.declared.token.Token.{Token as CodeToken}
 use Rattle.std.proofs.lemmas.List.{map-append}
-use Rattle.kc_tokens.specs.declared.token.NextToken.TheVariants.{White, Comment, Token, Fault}
-use Rattle.kc_tokens.specs.declared.token.TokenKind.{TokenKind}
-use Rattle.kc_tokens.specs.declared.fault.ExprKind.{ExprKind}
-use Rattle.std.proofs.lemmas.Bool.Decides.{nat_tests}
-use Rattle.kc_tokens.specs.Token.{with_front}
-use Rattle.kc_tokens.specs.declared.fault.ExprFault.{ExprFault}
 
 pub word_byte_ascii : (c : ℕ) → is_word_byte c ≡ true → c < 128
 word_byte_ascii c h = grind (arith, nat_tests)

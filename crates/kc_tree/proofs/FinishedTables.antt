@@ -1,36 +1,27 @@
 -- The tree of the collected lists.
-use Rattle.std.proofs.Common.{◌≡◌, ℕ, suc, ◌+◌, ◌<◌, List, [], ◌∷◌, length, map, get_or, Option, Some, None, refl, ap, sym, subst, ◌∙◌, arith, cond, Bool, true, false}
-use Rattle.std.specs.Prelude.{All, Contains, IfSome, slice_get, slice_index, slice_index_or, bytes_eq}
-use Rattle.std.specs.List.{position_or_len}
-use Rattle.std.proofs.lemmas.Bool.{ltb-true}
-use Rattle.std.proofs.lemmas.Option.{slice_get_within, get_or_from_slice_get}
-use Rattle.std.proofs.lemmas.List.{length-map, get_or-map, ext_get_or}
+use Rattle.kc_tree.proofs.Common.{◌≡◌, ℕ, suc, ◌+◌, ◌<◌, List, [], ◌∷◌, length, map, get_or, Option, Some, None, refl, ap, sym, subst, ◌∙◌, arith, cond, Bool,
+    true, false, All, Contains, slice_get, slice_index, bytes_eq, position_or_len, ltb-true, slice_get_within, get_or_from_slice_get, length-map, get_or-map,
+    index_of_name, Tree, IsConsistent, unit_of, index_of_unit, symbol_named, DefaultFits, RangeFits, HasOperands, ReverseDependencyFits, MemberDefaultFits,
+    gathered_tree, symbol_gathered, choice_gathered, AreSoundParts, IsTable, tree_from_rows, symbol_from_row, choice_from_row, from_rows, HasUnits, SymbolRow,
+    Parts, TreeLists}
+use Rattle.std.specs.Prelude.{IfSome, slice_index_or}
+use Rattle.std.proofs.lemmas.List.{ext_get_or}
 use Rattle.std.proofs.lemmas.List.Elements.{All-weaker, All-contains}
 use Rattle.std.proofs.lemmas.List.Sums.{passes_at_first}
 use Rattle.std.proofs.lemmas.Slice.Eq.{bytes_eq-Decides}
-use Rattle.kc_expr.specs.Lookup.{index_of_name, AreDistinct}
+use Rattle.kc_expr.specs.Lookup.{AreDistinct}
 use Rattle.kc_expr.proofs.Places.{place_at}
 use Rattle.kc_tree_model.specs.Trees as tree
-use Rattle.kc_tree_model.specs.Trees.{Tree}
 use Rattle.kc_tree_model.specs.declared.ids.Unit.TheVariants.{Choice as of_choice}
-use Rattle.kc_tree_model.specs.TreeLookup.{IsConsistent, unit_of, index_of_unit, symbol_named}
-use Rattle.kc_tree.specs.between.Views.{DefaultFits, RangeFits, HasOperands, ReverseDependencyFits, MemberDefaultFits}
 use Rattle.kc_tree.specs.between.GatheredAttributes.{AreGrouped}
 use Rattle.kc_tree.specs.between.GatheredFits.{GatheredFit}
-use Rattle.kc_tree.specs.between.GatheredView.{gathered_tree, symbol_gathered, choice_gathered}
 use Rattle.kc_tree.specs.between.GroupedItems.{IsGrouped}
-use Rattle.kc_tree.specs.between.StoredParts.{AreSoundParts, PartsFit, HasPlaces}
-use Rattle.kc_tree.specs.checker.NameTable.{IsTable}
-use Rattle.kc_tree.specs.between.PartsView.{tree_from_rows, symbol_from_row, choice_from_row, from_rows}
-use Rattle.kc_tree.specs.checker.Units.{HasUnits}
-use Rattle.kc_tree.specs.declared.parts.SymbolRow.{SymbolRow}
+use Rattle.kc_tree.specs.between.StoredParts.{PartsFit, HasPlaces}
 use Rattle.kc_tree.specs.declared.parts.ChoiceRow.{ChoiceRow}
-use Rattle.kc_tree.specs.declared.parts.Parts.{Parts}
 use Rattle.kc_tree.specs.declared.symbol.MemberDefault.{MemberDefault}
 use Rattle.kc_tree.specs.declared.items_with_keys.ItemsWithKeys.{ItemsWithKeys}
 use Rattle.kc_tree.specs.declared.tree_lists.Attributes.{Attributes}
 use Rattle.kc_tree.specs.declared.tree_lists.GroupedAttributes.{GroupedAttributes}
-use Rattle.kc_tree.specs.declared.tree_lists.TreeLists.{TreeLists}
 use Rattle.kc_tree.proofs.UnitLists.{got, all_got, symbol_at, symbols_count, choices_count, symbols_there, choices_there}
 use Rattle.kc_tree_model.proofs.Lookups.{found_by_name}
 use Rattle.kc_tree.proofs.SymbolNames.{named_there}

@@ -1,3 +1,4 @@
+pub mod Common
 pub mod FinishedTables
 pub mod GroupedLemmas
 pub mod GroupingLaw

@@ -1,12 +1,8 @@
 -- The symbols and choices that the rows of a tree represent, by their places.
-use Rattle.std.proofs.Common.{◌≡◌, ℕ, zero, suc, ◌+◌, ◌-◌, List, [], ◌∷◌, length, map, drop, Option, Some, None, refl, ap, sym, arith}
-use Rattle.std.specs.Prelude.{All, slice_get, slice_index}
-use Rattle.std.proofs.lemmas.List.{length-map, take-map}
+use Rattle.kc_tree.proofs.Common.{◌≡◌, ℕ, zero, suc, ◌+◌, ◌-◌, List, [], ◌∷◌, length, map, drop, Option, Some, None, refl, ap, sym, arith, All, slice_get,
+    slice_index, length-map, take-map, items_at, from_rows, tree_from_rows, symbol_from_row, choice_from_row, entry_from_row, Parts}
 use Rattle.std.proofs.lemmas.List.Elements.{All-take, All-drop}
 use Rattle.kc_tree_model.specs.Contents.{own_dependencies}
-use Rattle.kc_tree.specs.between.GroupedItems.{items_at}
-use Rattle.kc_tree.specs.between.PartsView.{from_rows, tree_from_rows, symbol_from_row, choice_from_row, entry_from_row}
-use Rattle.kc_tree.specs.declared.parts.Parts.{Parts}
 
 pub seen_get : {A B : Type 0} (f : ℕ → A → B) (n : ℕ) (xs : List A) (i j : ℕ) (x : A) → j ≡ n + i → slice_get xs i ≡ Some x
     → slice_get (from_rows f n xs) i ≡ Some (f j x)

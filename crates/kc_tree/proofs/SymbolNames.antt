@@ -1,14 +1,11 @@
 -- The symbols of names.
-use Rattle.std.proofs.Common.{◌≡◌, ℕ, ◌<◌, ◌≤◌, Bool, true, false, ltb, cond, List, [], length, map, get_or, Option, Some, None, IfSome, refl, sym, ap, subst, ◌∙◌, arith}
-use Rattle.std.specs.Prelude.{option_and_then, slice_get, bytes_eq}
-use Rattle.std.specs.List.{position_or_len}
-use Rattle.std.proofs.lemmas.Bool.{ltb-true}
-use Rattle.std.proofs.lemmas.List.{length-map, get_or-map}
-use Rattle.std.proofs.lemmas.Option.{slice_get-get_or, slice_get_past}
-use Rattle.kc_expr.specs.Lookup.{index_of_name}
+use Rattle.std.proofs.Common.{ltb, IfSome}
+use Rattle.std.specs.Prelude.{option_and_then}
+use Rattle.kc_tree.proofs.Common.{◌≡◌, ℕ, ◌<◌, ◌≤◌, Bool, true, false, cond, List, [], length, map, get_or, Option, Some, None, refl, sym, ap, subst, ◌∙◌, arith,
+    slice_get, bytes_eq, position_or_len, ltb-true, length-map, get_or-map, slice_get-get_or, index_of_name, Tree, symbol_named}
+use Rattle.std.proofs.lemmas.Option.{slice_get_past}
 use Rattle.kc_expr.proofs.Places.{place_there}
-use Rattle.kc_tree_model.specs.Trees.{Tree, Symbol}
-use Rattle.kc_tree_model.specs.TreeLookup.{symbol_named}
+use Rattle.kc_tree_model.specs.Trees.{Symbol}
 use Rattle.kc_tree.specs.between.Views.{symbol_of_name_id}
 
 found_there : (p n : ℕ) (b : Bool) → ltb p n ≡ b → IfSome (cond b (Some p) None) (λ s. s < n)

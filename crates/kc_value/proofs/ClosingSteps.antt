@@ -1,7 +1,5 @@
 -- Steps of looking for a closing quote.
-use Rattle.std.proofs.Common.{◌≡◌, ℕ, suc, ◌+◌, true, false, List, ◌∷◌, Option, Some, None, refl, ap, arith}
-use Rattle.std.specs.Prelude.{option_map, ◌==◌}
-use Rattle.kc_value.specs.QuotedTexts.{closing}
+use Rattle.kc_value.proofs.Common.{◌≡◌, ℕ, suc, ◌+◌, true, false, List, ◌∷◌, Option, Some, None, refl, ap, arith, option_map, ◌==◌, closing}
 
 -- n added to a place, if there is one: a place counted from n bytes further left
 abbrev pub further : ℕ → Option ℕ → Option ℕ

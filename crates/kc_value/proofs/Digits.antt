@@ -1,11 +1,9 @@
 -- Digits read one after another.
-use Rattle.std.proofs.Common.{◌≡◌, ℕ, ◌+◌, ◌*◌, ◌<◌, ◌≤◌, Bool, true, false, ◌&&◌, cond, List, [], ◌∷◌, Option, refl, arith}
-use Rattle.std.proofs.lemmas.Bool.{le-ltb, ltb-false, lt-ltb, ltb-true}
+use Rattle.kc_value.proofs.Common.{◌≡◌, ℕ, ◌+◌, ◌*◌, ◌<◌, ◌≤◌, Bool, true, false, ◌&&◌, cond, List, [], ◌∷◌, Option, refl, arith, le-ltb, ltb-false, lt-ltb,
+    ltb-true, is_digit, digit_value, list_all}
 use Rattle.std.proofs.Math.Nat.{mul-le-mul_left}
 use Rattle.std.specs.Prelude.{nat_lt, Some, None, if◌then◌else◌}
-use Rattle.std.specs.Char.{is_digit, digit_value}
 use Rattle.std.specs.Str.Parse.{digits_value_after}
-use Rattle.std.specs.List.{list_all}
 use Rattle.kc_value.specs.checker.DigitStep.{with_digit}
 
 -- the number that the digits of n and digits after them write, if it is below a limit

@@ -1,13 +1,9 @@
 -- Escapes, character by character.
 use lib.Utf8.{encode as encode_utf8, encodes as encode_utf8_all, next}
-use Rattle.std.proofs.Common.{◌≡◌, ℕ, ◌+◌, ◌/◌, ◌≤◌, ◌<◌, Bool, true, false, ltb, eqb, ◌⊎◌, inl, inr, List, [], ◌∷◌, ◌++◌, length, drop, get_or, append_assoc, append-nil, refl, ap, sym, ◌∙◌, arith}
-use Rattle.std.proofs.lemmas.Bool.{le-ltb, ltb-false, ltb-true, ne_eqb}
-use Rattle.std.proofs.lemmas.List.{drop_more}
-use Rattle.std.proofs.Math.ListN.{drop_of_length-le}
-use Rattle.std.proofs.lemmas.Str.{encode_ascii, chars-encodes}
-use Rattle.std.specs.Prelude.{IsUtf8}
-use Rattle.std.specs.Str.{chars}
-use Rattle.kc_value.specs.QuotedTexts.{unescaped}
+use Rattle.kc_value.proofs.Common.{◌≡◌, ℕ, ◌+◌, ◌/◌, ◌≤◌, ◌<◌, Bool, true, false, ltb, eqb, ◌⊎◌, inl, inr, List, [], ◌∷◌, ◌++◌, length, drop, get_or,
+    append_assoc, append-nil, refl, ap, sym, ◌∙◌, arith, le-ltb, ltb-false, ltb-true, ne_eqb, drop_more, drop_of_length-le, encode_ascii, IsUtf8, chars,
+    unescaped}
+use Rattle.std.proofs.lemmas.Str.{chars-encodes}
 
 -- all bytes are 128 or more
 abbrev AreHigh : List ℕ → Type 0

@@ -1,11 +1,7 @@
 -- The bytes appended while a text is spelled in quotes.
-use Rattle.std.proofs.Common.{◌≡◌, ℕ, ◌+◌, ◌<◌, ◌≤◌, ◌||◌, true, false, get_or, List, [], ◌∷◌, ◌++◌, length, take, append_assoc, refl, ap, sym, ◌∙◌}
-use Rattle.std.specs.Prelude.{◌==◌}
-use Rattle.std.specs.List.{flat_map}
-use Rattle.std.proofs.lemmas.Bool.{ne_eqb}
-use Rattle.std.proofs.lemmas.List.{flat_map_more, take_all, take_more}
-use Rattle.std.proofs.Math.Seq.{take-append_seam}
-use Rattle.kc_value.specs.QuotedTexts.{escaped_byte, quoted}
+use Rattle.kc_value.proofs.Common.{◌≡◌, ℕ, ◌+◌, ◌<◌, ◌≤◌, ◌||◌, true, false, get_or, List, [], ◌∷◌, ◌++◌, length, take, append_assoc, refl, ap, sym, ◌∙◌, ◌==◌,
+    flat_map, ne_eqb, take_all, take-append_seam, escaped_byte, quoted}
+use Rattle.std.proofs.lemmas.List.{flat_map_more, take_more}
 
 -- bytes stay at the front when others are appended
 pub still_there : (base more now : List ℕ) → now ≡ base ++ more → take (length base) now ≡ base

@@ -1,10 +1,9 @@
 -- The readings of hex and loose number texts are their grammars.
-use Rattle.std.proofs.Common.{◌≡◌, ℕ, ◌^◌, ◌<◌, ◌≤◌, ℤ, pos, Bool, true, false, ◌&&◌, ◌⊎◌, inl, inr, ltb, leb, eqb, List, [], ◌∷◌, length, Some, refl, ap, sym, ◌∙◌, subst, arith}
-use Rattle.std.specs.Prelude.{option_map}
-use Rattle.std.specs.Char.{digit_value}
-use Rattle.std.proofs.lemmas.Bool.{and_parts, lt-ltb, le-ltb, leb-true, le-leb, eqb-true}
-use Rattle.kc_value.specs.Number.{magnitude, without_prefix, hex_text, loose_number}
-use Rattle.kc_value.specs.NumberGrammar.{Writes, IsInt, IsPrefixed, decimal, negative, IsHex, bare, prefixed, IsLoose, int, hex}
+use Rattle.kc_value.proofs.Common.{◌≡◌, ℕ, ◌^◌, ◌<◌, ◌≤◌, ℤ, pos, Bool, true, false, ◌&&◌, ◌⊎◌, inl, inr, ltb, leb, eqb, List, [], ◌∷◌, length, Some, refl, ap,
+    sym, ◌∙◌, subst, arith, option_map, digit_value, and_parts, lt-ltb, le-ltb, leb-true, le-leb, eqb-true, magnitude, Writes, IsInt, decimal, negative,
+    prefixed}
+use Rattle.kc_value.specs.Number.{without_prefix, hex_text, loose_number}
+use Rattle.kc_value.specs.NumberGrammar.{IsPrefixed, IsHex, bare, IsLoose, int, hex}
 use Rattle.kc_value.proofs.NumberLaws.{magnitude_writes, writes_magnitude, under, mapped, int_sound, int_complete}
 
 -- a text begins with `0x` or `0X`, and `without_prefix` gives the rest; or it gives the text itself

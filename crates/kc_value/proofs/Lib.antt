@@ -1,3 +1,4 @@
+pub mod Common
 pub mod BlockSteps
 pub mod ClosingSteps
 pub mod Digits

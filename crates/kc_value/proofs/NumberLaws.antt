@@ -1,12 +1,10 @@
 -- The readings of number texts are their grammars.
-use Rattle.std.proofs.Common.{◌≡◌, ℕ, ◌^◌, ◌<◌, ◌≤◌, ℤ, pos, neg_ℤ, Bool, true, false, ◌&&◌, ltb, leb, eqb, cond, List, [], ◌∷◌, length, Option, Some, None, refl, ap, sym, ◌∙◌, arith}
-use Rattle.std.specs.Prelude.{option_map}
-use Rattle.std.specs.Char.{is_digit, digit_value}
-use Rattle.std.specs.List.{list_all}
+use Rattle.std.proofs.Common.{neg_ℤ}
+use Rattle.kc_value.proofs.Common.{◌≡◌, ℕ, ◌^◌, ◌<◌, ◌≤◌, ℤ, pos, Bool, true, false, ◌&&◌, ltb, leb, eqb, cond, List, [], ◌∷◌, length, Option, Some, None, refl,
+    ap, sym, ◌∙◌, arith, option_map, is_digit, digit_value, list_all, and_parts, ltb-true, lt-ltb, leb-true, le-leb, eqb-true, ne_eqb, magnitude, Writes, IsInt,
+    decimal, negative}
 use Rattle.std.specs.Str.Parse.{AllDigits, digits_value}
-use Rattle.std.proofs.lemmas.Bool.{and_parts, ltb-true, lt-ltb, leb-true, le-leb, eqb-true, ne_eqb}
-use Rattle.kc_value.specs.Number.{magnitude, signed_text, int_text}
-use Rattle.kc_value.specs.NumberGrammar.{Writes, IsInt, decimal, negative}
+use Rattle.kc_value.specs.Number.{signed_text, int_text}
 
 all_digits : (base : ℕ) (ds : List ℕ) → list_all (λ c. is_digit c base) ds ≡ true → AllDigits base ds
 all_digits base [] h = tt

@@ -1,13 +1,12 @@
 -- Quoted spellings, and the texts between quotes.
-use Rattle.std.proofs.Common.{◌≡◌, ℕ, suc, ◌+◌, ◌≤◌, ◌<◌, Bool, true, false, ◌||◌, cond, eqb, ◌-◌, drop, take, get_or, length-append, length-drop, get_or-drop, List, [], ◌∷◌, ◌++◌, length, Option, Some, None, refl, ap, sym, ◌∙◌, subst, arith}
-use Rattle.std.specs.Prelude.{option_map}
-use Rattle.std.specs.List.{flat_map}
-use Rattle.std.proofs.lemmas.Bool.{or_parts, eqb-true, eq-eqb}
+use Rattle.std.proofs.Common.{length-drop, get_or-drop}
+use Rattle.kc_value.proofs.Common.{◌≡◌, ℕ, suc, ◌+◌, ◌≤◌, ◌<◌, Bool, true, false, ◌||◌, cond, eqb, ◌-◌, drop, take, get_or, length-append, List, [], ◌∷◌, ◌++◌,
+    length, Option, Some, None, refl, ap, sym, ◌∙◌, subst, arith, option_map, flat_map, eqb-true, eq-eqb, take-append_seam, take-length, IsUtf8, escaped_byte,
+    quoted, IsBody, none, plain, pair, IsQuoted, closing, unescaped}
+use Rattle.std.proofs.lemmas.Bool.{or_parts}
 use Rattle.std.proofs.lemmas.List.{append_cancel_right}
 use Rattle.std.proofs.lemmas.Str.{IsCharBoundary-after_ascii, IsCharBoundary-before_ascii}
-use Rattle.std.proofs.Math.Seq.{take-append_seam, take-length}
-use Rattle.std.specs.Prelude.{IsUtf8, IsCharBoundary}
-use Rattle.kc_value.specs.QuotedTexts.{escaped_byte, quoted, IsBody, none, plain, pair, IsQuoted, closing, unescaped}
+use Rattle.std.specs.Prelude.{IsCharBoundary}
 use Rattle.kc_value.specs.checker.Bodies.{HasBody}
 
 body_at : (b : Bool) (c : ℕ) (bs cs : List ℕ) → (eqb c 34 || eqb c 92) ≡ b → IsBody 34 bs cs → IsBody 34 (cond b (92 ∷ c ∷ []) (c ∷ []) ++ bs) (c ∷ cs)

@@ -1,24 +1,20 @@
 -- The texts of lines of configuration files, by the lines that files keep.
-use Rattle.std.proofs.Common.{◌≡◌, ℕ, zero, suc, ◌+◌, List, [], ◌∷◌, ◌++◌, map, Option, Some, None, refl, sym, subst, ◌∙◌, ap, append_assoc, arith}
-use Rattle.std.specs.Prelude.{flat_map, option_map, slice_get, All}
+use Rattle.kmin_explain.proofs.Common.{◌≡◌, ℕ, zero, suc, ◌+◌, List, [], ◌∷◌, ◌++◌, map, Option, Some, None, refl, sym, subst, ◌∙◌, ap, append_assoc, arith,
+    flat_map, option_map, slice_get, Tree, unit_of, LineMeaning, Case, assigning_place, Overridden, SourcesModel, asked_line, asked_lines, line_in,
+    overridden_text}
+use Rattle.std.specs.Prelude.{All}
 use Rattle.std.specs.List.{AllZip}
 use Rattle.std.proofs.lemmas.List.Elements.{All-head, All-tail}
 use Rattle.kc_value.specs.declared.value.Kind.{Kind}
-use Rattle.kc_tree_model.specs.Trees.{Tree}
-use Rattle.kc_tree_model.specs.TreeLookup.{unit_of}
-use Rattle.kc_dotconfig_model.specs.ConfigLines.{LineMeaning}
-use Rattle.kc_reasons_model.specs.declared.cases.Case.{Case}
 use Rattle.kc_reasons_model.specs.declared.cases.Hindrance.{Hindrance}
-use Rattle.kc_reasons_model.specs.AssigningLines.{AssigningPlace, AssigningLine, assigning_line, assigning_place}
+use Rattle.kc_reasons_model.specs.AssigningLines.{AssigningPlace, AssigningLine, assigning_line}
 use Rattle.kc_reasons_model.specs.OverriddenLines.{OverriddenPlace, IsPlaceIn, IsOverridden, places_of, overridden}
 use Rattle.kc_reasons_model.proofs.OverriddenLaws.{listed_overridden}
 use Rattle.kc_config_reasons.specs.declared.file_lines.AskingLine.{AskingLine}
 use Rattle.kc_config_reasons.specs.declared.file_lines.FileLines.{FileLines}
-use Rattle.kc_config_reasons.specs.declared.places.Overridden.{Overridden}
 use Rattle.kc_config_reasons.specs.between.FileLines.{line_view, line_kept, KeepsLines}
 use Rattle.kc_config_reasons.specs.between.Places.{file_numbers}
-use Rattle.kmin_explain.specs.Explanations.{SourcesModel, overridden_line, asked_line, asked_lines}
-use Rattle.kmin_explain.specs.checker.FileLineTexts.{line_in, overridden_text}
+use Rattle.kmin_explain.specs.Explanations.{overridden_line}
 
 module _ (tree : Tree) (s : ℕ) where
   -- a file keeps a line, which is this one

@@ -1,20 +1,19 @@
 -- The walk over an expression that keeps a condition too low.
-use Rattle.std.proofs.Common.{◌≡◌, ℕ, ◌<◌, Bool, true, false, not, cond, ltb, List, [], ◌∷◌, ◌++◌, length, reverse, Option, Some, None, refl, sym, ◌∙◌, ap, append_assoc, append-nil, All, arith}
+use Rattle.std.proofs.Common.{ltb, reverse}
 use Rattle.std.specs.Prelude.{filter_map, bytes_eq}
 use Rattle.std.proofs.lemmas.Bool.{ltb-true}
-use Rattle.std.specs.List.{cons_option, position_or_len}
+use Rattle.std.specs.List.{position_or_len}
 use Rattle.std.proofs.lemmas.List.{reverse-append}
-use Rattle.std.proofs.lemmas.List.Elements.{All-nil, All-cons, filter_map-append}
-use Rattle.kc_value.specs.declared.tri.Tri.{Tri}
+use Rattle.std.proofs.lemmas.List.Elements.{filter_map-append}
+use Rattle.kmin_explain.proofs.Common.{◌≡◌, ℕ, ◌<◌, Bool, true, false, not, cond, List, [], ◌∷◌, ◌++◌, length, Option, Some, None, refl, sym, ◌∙◌, ap,
+    append_assoc, append-nil, All, arith, cons_option, All-nil, All-cons, Tri, Tree, Symbol, symbol_named, blamed, blamed_in_reverse}
 use Rattle.kc_value.specs.declared.tri.Tri.TheVariants.{N, M}
 use Rattle.kc_value.specs.Tri.{tri_not}
 use Rattle.kc_expr.specs.Expr.{Expr, Operand, constant, named, quoted, alone, related, negated, both, either, shown, Environment, value}
 use Rattle.kc_expr.specs.ExpressionNames.{operand_names}
-use Rattle.kc_tree_model.specs.Trees.{Tree, Symbol}
-use Rattle.kc_tree_model.specs.TreeLookup.{symbol_named}
-use Rattle.kc_reasons_model.specs.Blame.{is_off, blamed}
+use Rattle.kc_reasons_model.specs.Blame.{is_off}
 use Rattle.kmin_explain.specs.checker.Bounds.{is_never_off, shown_limit}
-use Rattle.kmin_explain.specs.checker.BlamedWalk.{operand_symbols, blamed_in_reverse}
+use Rattle.kmin_explain.specs.checker.BlamedWalk.{operand_symbols}
 
 -- the walk goes on into the left part
 pub into_left : (left right whole before found all : List ℕ) → whole ≡ right ++ left → found ≡ before ++ right → before ++ whole ≡ all → found ++ left ≡ all

@@ -1,14 +1,7 @@
 -- The symbols to go on with, found one after the other.
-use Rattle.std.proofs.Common.{◌≡◌, ℕ, ◌+◌, ◌<◌, List, [], ◌∷◌, ◌++◌, length, map, drop, get_or, Some, sym, ◌∙◌, ap, refl}
-use Rattle.std.specs.Prelude.{flat_map, slice_get, option_map, unwrap_or}
-use Rattle.std.proofs.lemmas.List.{at_drop_more}
-use Rattle.kc_tree_model.specs.Trees.{Tree, Symbol}
-use Rattle.kc_rules_model.specs.declared.values.UnitValue.{UnitValue}
-use Rattle.kc_rules_model.specs.SymbolValues.{environment}
-use Rattle.kc_reasons_model.specs.PlainReasons.{PlainReasons}
-use Rattle.kmin_explain.specs.Names.{each_once_after}
-use Rattle.kmin_explain.specs.Explanations.{SourcesModel, reasons_of}
-use Rattle.kmin_explain.specs.Deep.{blamed_in, next_by, next_of}
+use Rattle.kmin_explain.proofs.Common.{◌≡◌, ℕ, ◌+◌, ◌<◌, List, [], ◌∷◌, ◌++◌, length, map, drop, get_or, Some, sym, ◌∙◌, ap, refl, flat_map, slice_get,
+    option_map, unwrap_or, at_drop_more, Tree, Symbol, UnitValue, environment, PlainReasons, each_once_after, SourcesModel, reasons_of, blamed_in, next_of}
+use Rattle.kmin_explain.specs.Deep.{next_by}
 use Rattle.kmin_explain.proofs.OnceLemmas.{after_both}
 
 -- one element more

@@ -1,10 +1,7 @@
 -- Symbols that are found each once.
-use Rattle.std.proofs.Common.{◌≡◌, ℕ, zero, suc, ◌+◌, ◌<◌, ◌≤◌, List, [], ◌∷◌, ◌++◌, Option, Some, None, refl, sym, ◌∙◌, ap, arith}
-use Rattle.std.specs.List.{filter_map, cons_option, range_with_len}
+use Rattle.kmin_explain.proofs.Common.{◌≡◌, ℕ, zero, suc, ◌+◌, ◌<◌, ◌≤◌, List, [], ◌∷◌, ◌++◌, Option, Some, None, refl, sym, ◌∙◌, ap, arith, filter_map,
+    cons_option, range_with_len, All-nil, All-cons, each_once_after, with_meant}
 use Rattle.std.specs.Prelude.{All}
-use Rattle.std.proofs.lemmas.List.Elements.{All-nil, All-cons}
-use Rattle.kmin_explain.specs.Names.{each_once_after}
-use Rattle.kmin_explain.specs.checker.Marks.{with_meant}
 
 -- what is found after one more name
 pub one_name : (f : List ℕ → Option ℕ) (found : List ℕ) (name : List ℕ) (rest : List (List ℕ))

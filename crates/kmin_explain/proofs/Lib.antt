@@ -1,3 +1,4 @@
+pub mod Common
 pub mod AskedTexts
 pub mod EachOnce
 pub mod SymbolTexts

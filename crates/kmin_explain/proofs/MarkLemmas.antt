@@ -1,10 +1,9 @@
 -- What marks say of the numbers that are found.
-use Rattle.std.proofs.Common.{◌≡◌, ℕ, ◌<◌, ◌≤◌, Bool, length, get_or, All, sym, subst}
+use Rattle.kmin_explain.proofs.Common.{◌≡◌, ℕ, ◌<◌, ◌≤◌, Bool, length, get_or, All, sym, subst, AreMarked}
 use Rattle.std.specs.List.{count_by}
 use Rattle.std.proofs.lemmas.List.Elements.{All-get_or}
 use Rattle.std.proofs.lemmas.List.Sums.{count_by-le-length}
 use Rattle.kmin_explain.specs.declared.each_once.SymbolsOnce.{SymbolsOnce}
-use Rattle.kmin_explain.specs.checker.Marks.{AreMarked}
 
 module _ (o : SymbolsOnce) (n : ℕ) (marks : AreMarked o) (many : length o.is_found.items ≡ n) where
   -- no more numbers are found than there are marks

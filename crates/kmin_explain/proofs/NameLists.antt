@@ -1,17 +1,11 @@
 -- The names of a list, and those of symbols.
-use Rattle.std.proofs.Common.{◌≡◌, ℕ, ◌+◌, ◌<◌, Bool, true, false, not, cond, List, [], ◌∷◌, length, map, drop, get_or, Option, Some, sym, ◌∙◌, ap, arith, All}
-use Rattle.std.specs.Prelude.{find, IsAscii}
-use Rattle.std.specs.Borrow.{Bor}
-use Rattle.std.specs.List.{list_all, filter_map}
-use Rattle.std.proofs.lemmas.List.{at_drop_more}
+use Rattle.kmin_explain.proofs.Common.{◌≡◌, ℕ, ◌+◌, ◌<◌, Bool, true, false, not, cond, List, [], ◌∷◌, length, map, drop, get_or, Option, Some, sym, ◌∙◌, ap,
+    arith, All, find, IsAscii, Bor, filter_map, at_drop_more, All-nil, All-cons, Tree, is_unknown, each_once_after, with_meant}
+use Rattle.std.specs.List.{list_all}
 use Rattle.std.proofs.lemmas.Str.Ascii.{IsAscii-from_all}
 use Rattle.std.proofs.lemmas.Bool.{and_parts}
-use Rattle.std.proofs.lemmas.List.Elements.{All-nil, All-cons}
-use Rattle.kc_tree_model.specs.Trees.{Tree}
 use Rattle.kc_tree_model.specs.TreeLookup.{is_name_byte}
 use Rattle.kc_dotconfig_model.specs.PrefixGrammar.{is_name_prefix}
-use Rattle.kmin_explain.specs.Names.{is_unknown, each_once_after}
-use Rattle.kmin_explain.specs.checker.Marks.{with_meant}
 use Rattle.kmin_explain.proofs.EachOnce.{one_name}
 
 pub if_not_none : (some none : Bool) → some ≡ not none → none ≡ false → not some ≡ false

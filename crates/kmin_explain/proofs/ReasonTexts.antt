@@ -1,26 +1,16 @@
 -- The text for a symbol, as the code makes it.
-use Rattle.std.proofs.Common.{◌≡◌, ℕ, List, ◌++◌, Option, Some, subst, ◌∙◌, ap}
-use Rattle.std.specs.Prelude.{option_map, slice_get}
-use Rattle.kc_value.specs.declared.tri.Tri.{Tri}
-use Rattle.kc_expr.specs.between.Arena.{Exprs}
-use Rattle.kc_tree_model.specs.Trees.{Tree, Symbol}
-use Rattle.kc_tree.specs.between.Views.{symbol_view}
+use Rattle.kmin_explain.proofs.Common.{◌≡◌, ℕ, List, ◌++◌, Option, Some, subst, ◌∙◌, ap, option_map, slice_get, Tri, Exprs, Tree, Symbol, symbol_view, UnitValue,
+    environment, Case, wanted_by, SymbolLines, reasons_view, symbol_lines_view, ReasonPlaces, located_first_line, located_details_at, SourcesModel, asked_lines,
+    reason_places, explained_by}
 use Rattle.kc_tree.specs.declared.symbol.Symbol.{Symbol as CodeSymbol}
-use Rattle.kc_rules_model.specs.declared.values.UnitValue.{UnitValue}
-use Rattle.kc_rules_model.specs.SymbolValues.{environment}
-use Rattle.kc_reasons_model.specs.declared.cases.Case.{Case}
-use Rattle.kc_reasons_model.specs.PlainReasons.{wanted_by}
-use Rattle.kc_reasons_model.specs.SymbolLines.{SymbolLines}
 use Rattle.kc_reasons.specs.declared.reasons.SymbolReasons.{SymbolReasons}
-use Rattle.kc_reasons.specs.between.ReasonsView.{reasons_view}
 use Rattle.kc_symbol_lines.specs.declared.located.SymbolLines.{SymbolLines as CodeLines}
-use Rattle.kc_symbol_lines.specs.between.LinesView.{position_view, symbol_lines_view}
+use Rattle.kc_symbol_lines.specs.between.LinesView.{position_view}
 use Rattle.kc_located_reasons.specs.GivenPlaces.{given_place}
 use Rattle.kc_located_reasons.specs.LocatedNeeds.{prompts_lack_at, dependencies_lack_at}
-use Rattle.kc_explanation.specs.Located.{ReasonPlaces, located_first_line, located_details_at}
 use Rattle.kc_explanation.specs.declared.located_explanation.ReasonPlaces.{ReasonPlaces as CodePlaces}
 use Rattle.kc_explanation.specs.between.ReasonPlacesView.{places_view}
-use Rattle.kmin_explain.specs.Explanations.{SourcesModel, user_for, asked_lines, reason_places, explained_by}
+use Rattle.kmin_explain.specs.Explanations.{user_for}
 use Rattle.kmin_explain.proofs.SymbolTexts.{parts_text}
 
 -- the places that are found for a symbol

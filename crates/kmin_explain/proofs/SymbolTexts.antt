@@ -1,30 +1,22 @@
 -- The text for a symbol, by its parts.
-use Rattle.std.proofs.Common.{◌≡◌, ℕ, zero, suc, ◌+◌, ◌<◌, ◌≤◌, Bool, true, false, List, [], ◌∷◌, ◌++◌, length, Option, Some, None, refl, sym, subst, ◌∙◌, ap, append_assoc, append-nil, drop, get_or, arith, ◌&&◌, ◌||◌, Result, IfOk}
-use Rattle.std.specs.Prelude.{flat_map, option_map, unwrap_or, slice_get, is_some}
-use Rattle.std.specs.List.{list_any}
+use Rattle.std.proofs.Common.{◌&&◌, ◌||◌, Result, IfOk}
+use Rattle.kmin_explain.proofs.Common.{◌≡◌, ℕ, zero, suc, ◌+◌, ◌<◌, ◌≤◌, Bool, true, false, List, [], ◌∷◌, ◌++◌, length, Option, Some, None, refl, sym, subst,
+    ◌∙◌, ap, append_assoc, append-nil, drop, get_or, arith, flat_map, option_map, unwrap_or, slice_get, is_some, list_any, at_drop_more, Tree, Symbol, Group,
+    UnitValue, TreeModel, symbol_view, PlainReasons, assigning_place, SymbolLines, ReasonPlaces, located_first_line, located_details_at, symbol_lines_view,
+    SourcesModel, reasons_of, is_hindered_at, asked_lines, reason_places, listed_reasons, explained_by, explained_at}
 use Rattle.std.proofs.Math.ListN.{drop_of_length-le}
-use Rattle.std.proofs.lemmas.List.{at_drop_more}
 use Rattle.std.proofs.lemmas.Option.{slice_get_within}
-use Rattle.kc_tree_model.specs.Trees.{Tree, Symbol}
-use Rattle.kc_tree_model.specs.Blocks.{Group}
 use Rattle.kc_tree_model.specs.Contents.{contents_of, symbol_of, tree_of_groups}
 use Rattle.kc_tree_model.specs.Limits.{names_defined}
 use Rattle.kc_tree_model.proofs.Consistency.Lists.{map-get}
-use Rattle.kc_rules_model.specs.declared.values.UnitValue.{UnitValue}
-use Rattle.kc_tree.specs.TreeModel.{TreeModel}
-use Rattle.kc_tree.specs.between.Views.{symbol_view}
 use Rattle.kc_tree.specs.declared.symbol.Symbol.{Symbol as CodeSymbol}
-use Rattle.kc_reasons_model.specs.PlainReasons.{PlainReasons}
-use Rattle.kc_reasons_model.specs.AssigningLines.{assigning_place}
-use Rattle.kc_reasons_model.specs.SymbolLines.{SymbolLines, lines_of_symbol}
+use Rattle.kc_reasons_model.specs.SymbolLines.{lines_of_symbol}
 use Rattle.kc_symbol_lines.proofs.IndexLaws.{symbol_name}
-use Rattle.kc_explanation.specs.Located.{ReasonPlaces, located_first_line, located_details_at}
 use Rattle.kc_explanation.proofs.ExplanationLemmas.{joined_three, located_details_is}
 use Rattle.kc_builder.specs.declared.tree_lines.TreeLines.{TreeLines}
 use Rattle.kc_builder.specs.between.TreeLines.{HasLines}
 use Rattle.kc_symbol_lines.specs.declared.located.SymbolLines.{SymbolLines as CodeLines}
-use Rattle.kc_symbol_lines.specs.between.LinesView.{symbol_lines_view}
-use Rattle.kmin_explain.specs.Explanations.{SourcesModel, unit_for, reasons_of, is_hindered, is_hindered_at, asked_lines, reason_places, listed_reasons, explained_by, explained, explained_at}
+use Rattle.kmin_explain.specs.Explanations.{unit_for, is_hindered, explained}
 
 -- the name of a symbol is defined with its number
 pub name_defined : (t : TreeModel) (read : List Group) (s : ℕ) (symbol : Symbol) → t.tree ≡ tree_of_groups t.tree.language read

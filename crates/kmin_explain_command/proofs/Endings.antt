@@ -1,23 +1,15 @@
 -- `explain` as a whole: its output with all lines of standard error, or where it ends.
-use Rattle.std.proofs.Common.{◌≡◌, ℕ, List, [], ◌∷◌, ◌++◌, Option, Result, Ok, Err, IfOk, IfErr, inl, inr, refl, sym, subst, append_assoc, append-nil}
-use Rattle.kc_rules.specs.between.SettledViews.{tree_of_settled}
+use Rattle.kmin_explain_command.proofs.Common.{◌≡◌, ℕ, List, [], ◌∷◌, ◌++◌, Option, Result, Ok, Err, IfOk, IfErr, inl, inr, refl, sym, subst, append_assoc,
+    append-nil, tree_of_settled, ErrorLine, refused_line, SpelledBytes, TakesLines, RunError, status_of, lines_append, TreeTexts, IsLinedTree, LinedTree,
+    JobOutput, StopsOverTree, task_of, AnswersOver, StopsOver}
 use Rattle.kmin_options.specs.Jobs.{ExplainJob}
 use Rattle.kmin_inputs.specs.FileContents.{Surroundings}
-use Rattle.kmin_report.specs.Reports.{ErrorLine, last_lines, output_line, refused_line}
-use Rattle.kmin_report.specs.StandardError.{SpelledBytes, TakesLines}
-use Rattle.kmin_report.specs.declared.run_error.RunError.{RunError}
-use Rattle.kmin_report.specs.between.RunErrors.{status_of}
-use Rattle.kmin_report.proofs.WriterLemmas.{lines_append}
-use Rattle.kmin_expansions.specs.JobTexts.{TreeTexts, AreTextsOfJob}
-use Rattle.kmin_trees.specs.LinedTrees.{IsLinedTree}
-use Rattle.kmin_trees.specs.declared.lined_trees.LinedTree.{LinedTree}
+use Rattle.kmin_report.specs.Reports.{last_lines, output_line}
+use Rattle.kmin_expansions.specs.JobTexts.{AreTextsOfJob}
 use Rattle.kmin_outputs.specs.Stops.{StopsBefore, among_files, at_choices}
-use Rattle.kmin_outputs.specs.declared.verb_texts.JobOutput.{JobOutput}
-use Rattle.kmin_outputs.specs.between.LoadStops.{StopsOverTree}
 use Rattle.kmin_explain_command.specs.Explains.{Explains}
-use Rattle.kmin_explain_command.specs.Stops.{StopsExplaining, task_of, unknown_text}
+use Rattle.kmin_explain_command.specs.Stops.{StopsExplaining, unknown_text}
 use Rattle.kmin_explain_command.specs.Stops as stops
-use Rattle.kmin_explain_command.specs.between.Ends.{AnswersOver, StopsOver}
 use Rattle.kmin_explain_command.specs.between.Ends as ends
 
 -- over a tree of the job

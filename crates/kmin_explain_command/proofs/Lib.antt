@@ -1,3 +1,4 @@
+pub mod Common
 pub mod LinedFiles
 pub mod ReadFiles
 pub mod SourceParts

@@ -1,31 +1,21 @@
 -- Configuration files with their last lines, one after another.
-use Rattle.std.proofs.Common.{◌≡◌, ℕ, Bool, true, List, [], ◌∷◌, ◌++◌, Option, map, length, sym, ap, ◌∙◌, subst, append_assoc, append-nil}
-use Rattle.std.specs.List.{AllZip}
-use Rattle.std.specs.Borrow.{Bor}
+use Rattle.kmin_explain_command.proofs.Common.{◌≡◌, ℕ, Bool, true, List, [], ◌∷◌, ◌++◌, Option, map, length, sym, ap, ◌∙◌, subst, append_assoc, append-nil,
+    AllZip, Bor, Tree, FileFormat, LineMeaning, notice_pair, Fragment, FileContent, KeepsLines, FileLines, SpelledBytes, TakesLines, AllowsNotices, IsLinedFile,
+    AreLined}
 use Rattle.std.proofs.lemmas.List.{nil_from_length}
-use Rattle.kc_tree_model.specs.Trees.{Tree}
 use Rattle.kc_rules_model.specs.declared.values.UserValue.{UserValue}
-use Rattle.kc_dotconfig_model.specs.Formats.{FileFormat}
 use Rattle.kc_dotconfig_model.specs.PrefixGrammar.{is_name_prefix}
-use Rattle.kc_dotconfig_model.specs.ConfigLines.{LineMeaning}
 use Rattle.kc_dotconfig_model.specs.ConfigFiles.{FileMeans, has_utf8_lines, overlay}
 use Rattle.kc_dotconfig_model.specs.declared.choice_line.ChoiceLine.{ChoiceLine}
 use Rattle.kc_dotconfig_model.proofs.AcceptedLines.{accepted_utf8}
-use Rattle.kc_dotconfig.specs.Fragments.{users_of, notice_pair}
-use Rattle.kc_dotconfig.specs.declared.fragment.Fragment.{Fragment}
-use Rattle.kc_files.specs.TreeContents.{FileContent}
-use Rattle.kc_config_reasons.specs.between.FileLines.{KeepsLines}
-use Rattle.kc_config_reasons.specs.declared.file_lines.FileLines.{FileLines}
+use Rattle.kc_dotconfig.specs.Fragments.{users_of}
 use Rattle.kmin_report.specs.KnownBytes.{AreKnownBytes}
-use Rattle.kmin_report.specs.StandardError.{SpelledBytes, TakesLines}
 use Rattle.kmin_report.specs.StandardError as taking
 use Rattle.kmin_outputs.specs.Outputs.{none}
-use Rattle.kmin_outputs.specs.Strictness.{AllowsNotices}
 use Rattle.kmin_outputs.specs.between.LoadResults.{IsLoaded}
 use Rattle.kmin_outputs.specs.between.LoadStops.{fragment_notices}
 use Rattle.kmin_tidy.specs.checker.Readings.{IsFragmentOf}
 use Rattle.kmin_outputs.proofs.Sequences.{notices_are, loaded_one, read_one, loaded_append, read_append}
-use Rattle.kmin_explain_command.specs.between.LinedFiles.{IsLinedFile, AreLined}
 
 -- a file whose bytes were read and accepted, and whose notices were reported, is loaded
 pub loaded_of : (content : FileContent) (format : FileFormat) (tree : Tree) (path bytes : List ℕ) (known : AreKnownBytes content bytes)

@@ -1,38 +1,14 @@
 -- The output of `explain` over its tree, or its end, once its files were read.
-use Rattle.std.proofs.Common.{◌≡◌, ℕ, List, [], ◌∷◌, ◌++◌, Option, Result, Ok, Err, IfOk, IfErr, inl, refl, sym, subst, arith}
-use Rattle.kc_tree_model.specs.Blocks.{Group}
-use Rattle.kc_rules.specs.declared.rules.Settled.{Settled}
-use Rattle.kc_rules.specs.between.SettledViews.{tree_of_settled, profile_of}
-use Rattle.kc_dotconfig_model.specs.ConfigFiles.{empty_assignment}
-use Rattle.kc_dotconfig_model.specs.ConfigLines.{LineMeaning}
-use Rattle.kc_dotconfig_model.specs.OtherChoices.{other_choices}
-use Rattle.kc_dotconfig_model.specs.between.Formats.{file_format}
-use Rattle.kc_config.specs.ConfigStates.{IsSolved, tree_in}
-use Rattle.kc_files.specs.TreeContents.{FileContent}
-use Rattle.kmin_options.specs.Jobs.{explain_job_view, settings_view}
-use Rattle.kmin_options.specs.declared.job.ExplainJob.{ExplainJob}
+use Rattle.kmin_explain_command.proofs.Common.{◌≡◌, ℕ, List, [], ◌∷◌, ◌++◌, Option, Result, Ok, Err, IfOk, IfErr, inl, refl, sym, subst, arith, Group, Settled,
+    tree_of_settled, profile_of, empty_assignment, LineMeaning, other_choices, file_format, IsSolved, tree_in, FileContent, explain_job_view, settings_view,
+    ExplainJob, ErrorLine, refused_line, SpelledBytes, TakesLines, RunError, status_of, lines_append, LinedTree, StopsAmongFiles, JobOutput, AreNoticed,
+    lists_of, StopsOverTree, IsExplained, task_of, AnswersOver, StopsOver, AreLined, AreOfSources, StopsAfterFiles, paths_of_job, sources_of, LinedFiles}
 use Rattle.kmin_options.specs.declared.job.Verb.TheVariants.{Min}
-use Rattle.kmin_report.specs.Reports.{ErrorLine, notice_lines, choice_notice_lines, refused_line}
-use Rattle.kmin_report.specs.StandardError.{SpelledBytes, TakesLines}
-use Rattle.kmin_report.specs.declared.run_error.RunError.{RunError}
-use Rattle.kmin_report.specs.between.RunErrors.{status_of}
-use Rattle.kmin_report.proofs.WriterLemmas.{lines_append}
-use Rattle.kmin_trees.specs.declared.lined_trees.LinedTree.{LinedTree}
-use Rattle.kmin_outputs.specs.Stops.{StopsAmongFiles}
-use Rattle.kmin_outputs.specs.declared.verb_texts.JobOutput.{JobOutput}
-use Rattle.kmin_outputs.specs.between.Comparisons.{AreNoticed}
-use Rattle.kmin_outputs.specs.between.LoadResults.{lists_of}
-use Rattle.kmin_outputs.specs.between.LoadStops.{StopsOverTree}
+use Rattle.kmin_report.specs.Reports.{notice_lines, choice_notice_lines}
 use Rattle.kmin_outputs.proofs.ReadFailures.{noticing_unfailed}
 use Rattle.kmin_outputs.proofs.JobOutputs.{noticed_are, stopped_noticing, stopped_after}
-use Rattle.kmin_explain_command.specs.Explains.{IsExplained}
-use Rattle.kmin_explain_command.specs.Stops.{task_of}
-use Rattle.kmin_explain_command.specs.between.Ends.{AnswersOver, StopsOver}
 use Rattle.kmin_explain_command.specs.between.Ends as ends
-use Rattle.kmin_explain_command.specs.between.LinedFiles.{AreLined}
-use Rattle.kmin_explain_command.specs.between.Texts.{AreOfSources, StopsAfterFiles, paths_of_job, sources_of}
 use Rattle.kmin_explain_command.specs.between.Texts as after_files
-use Rattle.kmin_explain_command.specs.declared.lined_files.LinedFiles.{LinedFiles}
 use Rattle.kmin_explain_command.proofs.SourceParts.{are_of_sources, are_sources}
 
 module _ (content_of : List ℕ → FileContent) (job : ExplainJob) (tree : LinedTree) (found : LinedFiles) (taken middle after : SpelledBytes)

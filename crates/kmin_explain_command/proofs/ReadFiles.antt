@@ -1,18 +1,13 @@
 -- Configuration files that aren't accepted: what ends a run there.
-use Rattle.std.proofs.Common.{◌≡◌, ℕ, Bool, List, [], refl, sym, subst, arith}
-use Rattle.kc_tree_model.specs.Trees.{Tree}
-use Rattle.kc_dotconfig_model.specs.Formats.{FileFormat}
+use Rattle.kmin_explain_command.proofs.Common.{◌≡◌, ℕ, Bool, List, [], refl, sym, subst, arith, Tree, FileFormat, FileContent, ErrorLine, SpelledBytes,
+    TakesLines, StopsAmongFiles, StopsAtPath, load_lines}
 use Rattle.kc_dotconfig_model.specs.LoadFaults.{IsFirstFault, complete, OccursAt}
 use Rattle.kc_dotconfig_model.specs.declared.fault.LoadKind.{LoadKind}
 use Rattle.kc_dotconfig_model.specs.declared.fault.LoadKind.TheVariants.{Malformed, NotUtf8, LineTooLong, TooManyLines, Read, OutOfMemory, TooLarge}
-use Rattle.kc_files.specs.TreeContents.{FileContent}
-use Rattle.kmin_report.specs.Reports.{ErrorLine}
-use Rattle.kmin_report.specs.StandardError.{SpelledBytes, TakesLines}
 use Rattle.kmin_report.specs.StandardError as taking
 use Rattle.kmin_outputs.specs.Outputs as answers
-use Rattle.kmin_outputs.specs.Stops.{StopsAmongFiles}
 use Rattle.kmin_outputs.specs.Stops as stops
-use Rattle.kmin_outputs.specs.between.LoadStops.{StopsAtPath, at_file, for_memory, load_lines, load_status}
+use Rattle.kmin_outputs.specs.between.LoadStops.{at_file, for_memory, load_status}
 use Rattle.kmin_outputs.proofs.LoadLines.{load_lines_one, load_status_4}
 use Rattle.kmin_tidy.specs.checker.Readings.{IsFaulty}
 use Rattle.kmin_tidy.specs.checker.Readings as readings

@@ -1,40 +1,18 @@
 -- What symbols are explained by: the tree with its lines, and the files with theirs.
-use Rattle.std.proofs.Common.{◌≡◌, ℕ, List, [], ◌++◌, Option, map, refl, sym, ap, ◌∙◌, subst}
-use Rattle.std.specs.List.{AllZip}
-use Rattle.kc_tree.specs.TreeModel.{TreeModel}
+use Rattle.kmin_explain_command.proofs.Common.{◌≡◌, ℕ, List, [], ◌++◌, Option, map, refl, sym, ap, ◌∙◌, subst, AllZip, TreeModel, Tree, Group, Settled,
+    tree_model_of, tree_of_settled, profile_of, empty_assignment, LineMeaning, other_choices, file_format, IsSolved, tree_in, FileContent, KeepsLines, FileLines,
+    explain_job_view, settings_view, ExplainJob, SpelledBytes, TreeTexts, IsLinedTree, LinedTree, AllowsNotices, AreNoticed, lists_of, AreLined, AreOfSources,
+    paths_of_job, sources_of, LinedFiles}
 use Rattle.kc_tree_model.specs.TreeFiles.{Files}
-use Rattle.kc_tree_model.specs.Trees.{Tree}
-use Rattle.kc_tree_model.specs.Blocks.{Group}
 use Rattle.kc_tree_model.specs.Contents.{tree_of_groups}
-use Rattle.kc_rules.specs.declared.rules.Settled.{Settled}
-use Rattle.kc_rules.specs.between.SettledViews.{tree_model_of, tree_of_settled, profile_of}
-use Rattle.kc_dotconfig_model.specs.ConfigFiles.{empty_assignment, files_assignment}
-use Rattle.kc_dotconfig_model.specs.ConfigLines.{LineMeaning}
-use Rattle.kc_dotconfig_model.specs.OtherChoices.{other_choices}
-use Rattle.kc_dotconfig_model.specs.between.Formats.{file_format}
-use Rattle.kc_config.specs.ConfigStates.{IsSolved, tree_in}
-use Rattle.kc_files.specs.TreeContents.{FileContent}
+use Rattle.kc_dotconfig_model.specs.ConfigFiles.{files_assignment}
 use Rattle.kc_builder.specs.between.TreeLines.{HasLines, IsTreeWithLines}
 use Rattle.kc_builder.specs.declared.tree_lines.TreeLines.{TreeLines}
-use Rattle.kc_config_reasons.specs.between.FileLines.{KeepsLines}
-use Rattle.kc_config_reasons.specs.declared.file_lines.FileLines.{FileLines}
 use Rattle.kc_symbol_lines.specs.between.Indexes.{IsReadTree}
-use Rattle.kmin_options.specs.Jobs.{explain_job_view, settings_view}
-use Rattle.kmin_options.specs.declared.job.ExplainJob.{ExplainJob}
-use Rattle.kmin_report.specs.StandardError.{SpelledBytes}
 use Rattle.kmin_trees.specs.AcceptedTrees.{AreAccepted}
-use Rattle.kmin_expansions.specs.JobTexts.{TreeTexts}
-use Rattle.kmin_trees.specs.LinedTrees.{IsLinedTree}
-use Rattle.kmin_trees.specs.declared.lined_trees.LinedTree.{LinedTree}
 use Rattle.kmin_outputs.specs.Outputs.{Resolve}
-use Rattle.kmin_outputs.specs.Strictness.{AllowsNotices}
-use Rattle.kmin_outputs.specs.between.Comparisons.{AreNoticed}
-use Rattle.kmin_outputs.specs.between.LoadResults.{lists_of}
 use Rattle.kmin_outputs.proofs.JobOutputs.{resolved, allowed_are}
 use Rattle.kmin_explain_command.specs.Explains.{AreSourcesOfJob}
-use Rattle.kmin_explain_command.specs.between.LinedFiles.{AreLined}
-use Rattle.kmin_explain_command.specs.between.Texts.{AreOfSources, paths_of_job, sources_of}
-use Rattle.kmin_explain_command.specs.declared.lined_files.LinedFiles.{LinedFiles}
 
 -- a tree of groups has their language
 language_is : (files : Files) (root : List ℕ) (t : TreeModel) (lines : TreeLines) (w : IsTreeWithLines files root t lines) → t.tree.language ≡ files.language

@@ -1,8 +1,7 @@
 -- Exit statuses: what follows from what a run gives.
-use Rattle.std.proofs.Common.{◌≡◌, ◌≢◌, ◌≤◌, ◌⊎◌, ℕ, inl, inr, arith}
-use Rattle.kmin_report.specs.declared.run_error.RunError.{RunError}
+use Rattle.std.proofs.Common.{◌≢◌, ◌⊎◌}
+use Rattle.kmin_explain_command.proofs.Common.{◌≡◌, ◌≤◌, ℕ, inl, inr, arith, RunError, status_of}
 use Rattle.kmin_report.specs.declared.run_error.RunError.TheVariants.{Tree, Configuration, Failed, Memory}
-use Rattle.kmin_report.specs.between.RunErrors.{status_of}
 
 -- the status of an error that ends a run is one of a fault
 pub of_fault : (stop : RunError) (status : ℕ) → status ≡ status_of stop → (status ≢ 0) × (status ≢ 1) × (status ≢ 2)

@@ -1,32 +1,22 @@
 -- The text of a command that gives reasons, for a configuration whose files were read, or its end there.
-use Rattle.std.proofs.Common.{◌≡◌, ◌≤◌, ℕ, Bool, true, false, List, [], ◌∷◌, Vec, Option, Some, None, if◌then◌else◌, refl, sym, ap, subst, ◌∙◌, arith}
-use Rattle.std.specs.Borrow.{Bor}
+use Rattle.std.proofs.Common.{Vec, Some, if◌then◌else◌}
+use Rattle.kmin_explain_command.proofs.Common.{◌≡◌, ◌≤◌, ℕ, Bool, true, false, List, [], ◌∷◌, Option, None, refl, sym, ap, subst, ◌∙◌, arith, Bor, Group, Tree,
+    LineMeaning, tree_in, config_of, sources_model, explain_job_view, question_view, ExplainJob, SpelledBytes, TakesLines, LinedTree, AreNoticed, JobOutput,
+    lines_kept, explained_text, IsExplained, symbols_in, unknown_for, AreOfSources, StopsAfterFiles, paths_of_job, sources_of, StopsAtName, LinedFiles}
 use Rattle.std.specs.declared.alloc.AllocError.{AllocError}
 use Rattle.std.specs.declared.alloc.Global.{Global}
 use Rattle.std.specs.Prelude.{option_map, IfOk, Result, Ok, Err}
-use Rattle.kc_tree_model.specs.Blocks.{Group}
-use Rattle.kc_tree_model.specs.Trees.{Tree}
-use Rattle.kc_dotconfig_model.specs.ConfigLines.{LineMeaning}
-use Rattle.kc_config.specs.ConfigStates.{tree_in}
 use Rattle.kmin_explain.specs.Deep.{AreDeep}
 use Rattle.kmin_explain.specs.Explanations.{SourcesModel, is_one_hindered}
-use Rattle.kmin_explain.specs.between.Sources.{AreSourcesOf, config_of, sources_model}
+use Rattle.kmin_explain.specs.between.Sources.{AreSourcesOf}
 use Rattle.kmin_explain.specs.declared.sources.Sources.{Sources}
-use Rattle.kmin_options.specs.Jobs.{explain_job_view, Question, question_view, explain}
+use Rattle.kmin_options.specs.Jobs.{Question, explain}
 use Rattle.kmin_options.specs.declared.job.ExplainFlags.{ExplainFlags}
-use Rattle.kmin_options.specs.declared.job.ExplainJob.{ExplainJob}
 use Rattle.kmin_records.specs.declared.output_form.OutputForm.{OutputForm}
-use Rattle.kmin_report.specs.StandardError.{SpelledBytes, TakesLines}
-use Rattle.kmin_trees.specs.declared.lined_trees.LinedTree.{LinedTree}
-use Rattle.kmin_outputs.specs.between.Comparisons.{AreNoticed}
-use Rattle.kmin_outputs.specs.declared.verb_texts.JobOutput.{JobOutput}
-use Rattle.kmin_outputs.proofs.JobOutputs.{lines_kept}
-use Rattle.kmin_explain_command.specs.Explains.{AreExplainedFor, explained_text, IsExplained, symbols_in, unknown_for}
-use Rattle.kmin_explain_command.specs.between.Texts.{AreOfSources, StopsAfterFiles, IsAnswerFor, IsAnswerOf, IsTextOf, paths_of_job, sources_of, status_by}
+use Rattle.kmin_explain_command.specs.Explains.{AreExplainedFor}
+use Rattle.kmin_explain_command.specs.between.Texts.{IsAnswerFor, IsAnswerOf, IsTextOf, status_by}
 use Rattle.kmin_explain_command.specs.between.Texts as after_files
-use Rattle.kmin_explain_command.specs.between.UnknownNames.{StopsAtName}
 use Rattle.kmin_explain_command.specs.between.UnknownNames as names
-use Rattle.kmin_explain_command.specs.declared.lined_files.LinedFiles.{LinedFiles}
 
 module _ (job : ExplainJob) (tree : LinedTree) (found : LinedFiles) (taken middle after : SpelledBytes) (failed failed_middle failed_after : ℕ)
     (n : AreNoticed job.settings.strict (paths_of_job job) found.read taken failed middle failed_middle) where

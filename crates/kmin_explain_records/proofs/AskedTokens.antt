@@ -1,26 +1,16 @@
 -- The tokens of lines of configuration files, by the lines that files keep.
-use Rattle.std.proofs.Common.{◌≡◌, ℕ, List, [], ◌∷◌, ◌++◌, map, Option, Some, refl, ◌∙◌, ap, append_assoc}
-use Rattle.std.specs.Prelude.{flat_map, All}
+use Rattle.std.proofs.Common.{append_assoc}
+use Rattle.std.specs.Prelude.{All}
 use Rattle.std.specs.List.{AllZip}
 use Rattle.std.proofs.lemmas.List.Elements.{All-head, All-tail}
 use Rattle.json.specs.Token.{Token, begin_array, end_array}
-use Rattle.json.specs.Tree.{json_tokens}
-use Rattle.kc_value.specs.declared.value.Kind.{Kind}
-use Rattle.kc_tree_model.specs.TreeLookup.{unit_of}
-use Rattle.kc_reasons_model.specs.declared.cases.Case.{Case}
-use Rattle.kc_reasons_model.specs.declared.cases.Hindrance.{Hindrance}
-use Rattle.kc_reasons_model.specs.AssigningLines.{AssigningPlace, assigning_place}
-use Rattle.kc_reasons_model.specs.OverriddenLines.{OverriddenPlace, IsOverridden, places_of, overridden}
+use Rattle.kmin_explain_records.proofs.Common.{◌≡◌, ℕ, List, [], ◌∷◌, ◌++◌, map, Option, Some, refl, ◌∙◌, ap, flat_map, json_tokens, Kind, unit_of, Case,
+    Hindrance, AssigningPlace, assigning_place, places_of, overridden, Overridden, line_view, file_numbers, SourcesModel, array_of, overridden_json,
+    deciding_json, asked_list, line_in, overridden_place, overridden_tokens}
+use Rattle.kc_reasons_model.specs.OverriddenLines.{OverriddenPlace, IsOverridden}
 use Rattle.kc_reasons_model.proofs.OverriddenLaws.{listed_overridden}
 use Rattle.kc_config_reasons.specs.declared.file_lines.FileLines.{FileLines}
-use Rattle.kc_config_reasons.specs.declared.places.Overridden.{Overridden}
-use Rattle.kc_config_reasons.specs.between.FileLines.{line_view, KeepsLines}
-use Rattle.kc_config_reasons.specs.between.Places.{file_numbers}
-use Rattle.kmin_explain.specs.Explanations.{SourcesModel}
-use Rattle.kmin_records.specs.JsonValues.{array_of}
-use Rattle.kmin_explain_records.specs.SymbolRecords.{overridden_json, deciding_json, asked_list}
-use Rattle.kmin_explain.specs.checker.FileLineTexts.{line_in}
-use Rattle.kmin_explain_records.specs.checker.LineTokens.{overridden_place, overridden_tokens}
+use Rattle.kc_config_reasons.specs.between.FileLines.{KeepsLines}
 use Rattle.kmin_explain.proofs.AskedTexts.{kept_at}
 use Rattle.kmin_records.proofs.JsonLists.{array_of_both}
 

@@ -1,11 +1,8 @@
 -- Members that are written in four parts.
-use Rattle.std.proofs.Common.{ℕ, List, ◌++◌, Result, OnOk}
-use Rattle.json.specs.Json.{Json}
+use Rattle.std.proofs.Common.{Result, OnOk}
+use Rattle.kmin_explain_records.proofs.Common.{ℕ, List, ◌++◌, Json, AppendsTokens, and_then, and_last, list_tokens, as_last}
 use Rattle.json.specs.Written.{Written}
-use Rattle.kmin_messages.specs.between.MessageViews.{AppendsTokens}
-use Rattle.kmin_messages.proofs.WriterSteps.{and_then, and_last}
-use Rattle.kmin_records.specs.between.RecordTokens.{list_tokens}
-use Rattle.kmin_records.proofs.JsonLists.{as_last, members_joined}
+use Rattle.kmin_records.proofs.JsonLists.{members_joined}
 
 -- four parts are all of it, of which the last may fail
 pub four_parts : {E : Type 0} (r : Result (Unit {0}) E) (old first second third new : Written) (ks ls ms ns : List (List ℕ × Json))

@@ -1,3 +1,4 @@
+pub mod Common
 pub mod RecordDepths
 pub mod RecordTexts
 pub mod AskedTokens

@@ -1,28 +1,18 @@
 -- How deep the JSON of a symbol nests.
-use Rattle.std.proofs.Common.{ℕ, ◌≤◌, Bool, true, false, List, [], ◌∷◌, ◌++◌, map, Option, Some, None, arith, lit≤}
-use Rattle.std.specs.Prelude.{flat_map, slice_get}
-use Rattle.json.specs.Json.{Json, string, max_depth}
+use Rattle.std.proofs.Common.{lit≤}
+use Rattle.kmin_explain_records.proofs.Common.{ℕ, ◌≤◌, Bool, true, false, List, [], ◌∷◌, ◌++◌, map, Option, Some, None, arith, flat_map, slice_get, Json, string,
+    Kind, Tree, Symbol, ReverseDependency, UnitValue, environment, Case, Hindrance, AssigningPlace, assigning_place, places_of, overridden, PlainReasons,
+    SymbolLines, name_of_symbol, is_without_prompt, SourcesModel, reason_places, array_of, or_null, object_of, position_members, overridden_json, deciding_json,
+    asked_list, part_json, parts_json, alternatives_json, needs_json, forcing_json, forcing_list, record_members}
+use Rattle.json.specs.Json.{max_depth}
 use Rattle.json.specs.Tree.{depth, items_depth}
-use Rattle.kc_value.specs.declared.value.Kind.{Kind}
 use Rattle.kc_expr.specs.Expr.{Environment}
-use Rattle.kc_tree_model.specs.Trees.{Tree, Symbol, ReverseDependency}
 use Rattle.kc_tree_model.specs.Blocks.{Position}
-use Rattle.kc_rules_model.specs.declared.values.UnitValue.{UnitValue}
-use Rattle.kc_rules_model.specs.SymbolValues.{environment}
 use Rattle.kc_dotconfig_model.specs.declared.format.Strings.{Strings}
-use Rattle.kc_reasons_model.specs.declared.cases.Case.{Case}
-use Rattle.kc_reasons_model.specs.declared.cases.Hindrance.{Hindrance}
-use Rattle.kc_reasons_model.specs.AssigningLines.{AssigningPlace, assigning_place}
-use Rattle.kc_reasons_model.specs.OverriddenLines.{places_of, overridden}
-use Rattle.kc_reasons_model.specs.PlainReasons.{PlainReasons}
-use Rattle.kc_reasons_model.specs.SymbolLines.{SymbolLines}
-use Rattle.kc_reasons_model.specs.Reasons.{name_of_symbol}
-use Rattle.kc_explanation.specs.Explained.{is_without_prompt}
 use Rattle.kmin_explain_records.specs.ReasonWords.{lift_of_case, hindrance_word}
 use Rattle.kc_located_reasons.specs.LocatedNeeds.{LocatedPart}
-use Rattle.kmin_explain.specs.Explanations.{SourcesModel, unit_for, reason_places}
-use Rattle.kmin_records.specs.JsonValues.{json_items, array_of, or_null, members_of, object_of}
-use Rattle.kmin_explain_records.specs.SymbolRecords.{position_members, overridden_json, deciding_json, asked_list, part_json, parts_json, alternatives_json, needs_json, forcing_json, forcing_list, record_members}
+use Rattle.kmin_explain.specs.Explanations.{unit_for}
+use Rattle.kmin_records.specs.JsonValues.{json_items, members_of}
 use Rattle.kmin_explain_records.specs.RecordLaws.{RecordsAreReadBack}
 use Rattle.kmin_records.proofs.OneLine.{one_object}
 

@@ -1,24 +1,17 @@
 -- The line of JSON for a symbol, as the code makes it.
-use Rattle.std.proofs.Common.{◌≡◌, ℕ, List, [], ◌++◌, Some, subst, ◌∙◌, ap}
-use Rattle.std.specs.Prelude.{option_map, slice_get, unwrap_or}
-use Rattle.json.specs.Json.{Json}
+use Rattle.kmin_explain_records.proofs.Common.{◌≡◌, ℕ, List, [], ◌++◌, Some, subst, ◌∙◌, ap, option_map, slice_get, Json, Tree, Symbol, symbol_view, UnitValue,
+    PlainReasons, wanted_by, SymbolLines, reasons_view, symbol_lines_view, places_view, SourcesModel, reason_places, given_members, asked_members,
+    lacking_members, forcing_members, record_members, explained_as_json_at}
+use Rattle.std.specs.Prelude.{unwrap_or}
 use Rattle.kc_value.specs.declared.tri.Tri.{Tri}
 use Rattle.kc_expr.specs.between.Arena.{Exprs}
-use Rattle.kc_tree_model.specs.Trees.{Tree, Symbol}
-use Rattle.kc_tree.specs.between.Views.{symbol_view}
 use Rattle.kc_tree.specs.declared.symbol.Symbol.{Symbol as CodeSymbol}
-use Rattle.kc_rules_model.specs.declared.values.UnitValue.{UnitValue}
-use Rattle.kc_reasons_model.specs.PlainReasons.{PlainReasons, wanted_by}
-use Rattle.kc_reasons_model.specs.SymbolLines.{SymbolLines}
 use Rattle.kc_reasons.specs.declared.reasons.SymbolReasons.{SymbolReasons}
-use Rattle.kc_reasons.specs.between.ReasonsView.{reasons_view}
 use Rattle.kc_symbol_lines.specs.declared.located.SymbolLines.{SymbolLines as CodeLines}
-use Rattle.kc_symbol_lines.specs.between.LinesView.{symbol_lines_view}
 use Rattle.kc_explanation.specs.Located.{ReasonPlaces}
 use Rattle.kc_explanation.specs.declared.located_explanation.ReasonPlaces.{ReasonPlaces as CodePlaces}
-use Rattle.kc_explanation.specs.between.ReasonPlacesView.{places_view}
-use Rattle.kmin_explain.specs.Explanations.{SourcesModel, user_for, reason_places}
-use Rattle.kmin_explain_records.specs.SymbolRecords.{first_place, given_members, asked_members, lacking_members, forcing_members, record_members, explained_as_json, explained_as_json_at}
+use Rattle.kmin_explain.specs.Explanations.{user_for}
+use Rattle.kmin_explain_records.specs.SymbolRecords.{first_place, explained_as_json}
 use Rattle.kmin_explain.proofs.ReasonTexts.{places_for, places_are}
 
 -- the members as the code writes them, over a valuation

@@ -1,31 +1,30 @@
 -- The first definitions of symbols in a listing are those among the statements that it represents.
-use Rattle.std.proofs.Common.{◌≡◌, ◌⊎◌, inl, inr, ℕ, zero, suc, ◌+◌, ◌<◌, ◌≤◌, Bool, true, false, cond, ◌&&◌, ◌||◌, ◌==◌, List, [], ◌∷◌, ◌++◌, length, map, reverse, Option, Some, None, refl, ap, sym, subst, ◌∙◌, arith}
-use Rattle.std.specs.Prelude.{bytes_eq, filter_map, find, is_some, nat_le, option_and_then, option_map, slice_get, slice_range}
-use Rattle.std.specs.List.{list_any, range_with_len}
+use Rattle.std.proofs.Common.{◌⊎◌}
+use Rattle.std.specs.Prelude.{bytes_eq}
+use Rattle.kmin_faults.proofs.Common.{◌≡◌, inl, inr, ℕ, zero, suc, ◌+◌, ◌<◌, ◌≤◌, Bool, true, false, cond, ◌&&◌, ◌||◌, ◌==◌, List, [], ◌∷◌, ◌++◌, length, map,
+    reverse, Option, Some, None, refl, ap, sym, subst, ◌∙◌, arith, filter_map, find, is_some, nat_le, option_and_then, option_map, slice_get, slice_range,
+    list_any, range_with_len, cases_Bool, eq-eqb, ne_eqb, false≢true, reverse-append, reverse-reverse, Exprs, Group, GroupHead, from_head, Listing,
+    RepresentsHead, RepresentsGroups, group_at, later, TextPlace, begins_before, defined_by, definition_at, defines, gives_type, has_type, is_typed, last_line,
+    position_of}
 use Rattle.std.specs.Option.{option_or}
-use Rattle.std.proofs.lemmas.Bool.{cases_Bool, eq-eqb, eqb-true, ne_eqb, false≢true}
-use Rattle.std.proofs.lemmas.List.{reverse-append, reverse-reverse}
+use Rattle.std.proofs.lemmas.Bool.{eqb-true}
 use Rattle.std.proofs.lemmas.List.Folds.{find-append}
-use Rattle.kc_expr.specs.between.Arena.{Exprs}
 use Rattle.kc_statements.specs.declared.statement.Attribute.{Attribute}
 use Rattle.kc_statements.specs.declared.statement.Attribute.TheVariants as attributes
 use Rattle.kc_statements.specs.between.StatementViews.{attribute_in}
 use Rattle.kc_tree_model.specs.Statements.{name_of_head, type_of}
-use Rattle.kc_tree_model.specs.Blocks.{Group, GroupHead, Line, Position, defined_name, from_head}
+use Rattle.kc_tree_model.specs.Blocks.{Line, Position, defined_name}
 use Rattle.kc_tree_model.specs.Limits.{names_defined}
 use Rattle.kc_tree_model.proofs.Consistency.Lists.{Differ, Differ-once, at_most_once, same_text, text_same}
 use Rattle.kc_parser.specs.declared.listing.Group.{Group as CodeGroup}
 use Rattle.kc_parser.specs.declared.listing.Line.{Line as CodeLine}
-use Rattle.kc_parser.specs.declared.listing.Listing.{Listing}
 use Rattle.kc_parser.specs.declared.listing.GroupHead.{GroupHead as CodeHead}
 use Rattle.kc_parser.specs.declared.listing.GroupHead.TheVariants as codes
-use Rattle.kc_parser.specs.between.ListingView.{RepresentsListing, RepresentsHead, RepresentsGroup, RepresentsGroups, line_in}
-use Rattle.kc_checks.specs.between.Summaries.{attributes_end, group_at, read_before}
+use Rattle.kc_parser.specs.between.ListingView.{RepresentsListing, RepresentsGroup, line_in}
+use Rattle.kc_checks.specs.between.Summaries.{attributes_end, read_before}
 use Rattle.kc_checks.proofs.GroupPlaces.{IsShownAt, all_before, count_is, none_before, shown_at}
 use Rattle.kmin_faults.specs.FirstPlaces as model
-use Rattle.kmin_faults.specs.FirstPlaces.{later}
-use Rattle.kmin_faults.specs.declared.first_places.TextPlace.{TextPlace}
-use Rattle.kmin_faults.specs.between.StoredDefinitions.{begins_before, defined_by, definition_at, defines, first_of, first_type_in, first_typed, gives_type, has_type, is_typed, last_line, other_definition_in, other_place, place_of, position_of, unless_same}
+use Rattle.kmin_faults.specs.between.StoredDefinitions.{first_of, first_type_in, first_typed, other_definition_in, other_place, place_of, unless_same}
 use Rattle.kmin_faults.proofs.StoredTypes.{has_type_within}
 
 -- an attribute gives a type if the one that it represents does

@@ -1,3 +1,4 @@
+pub mod Common
 pub mod ReverseNames
 pub mod StoredNames
 pub mod StoredCauses

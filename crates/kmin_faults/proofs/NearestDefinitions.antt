@@ -1,12 +1,11 @@
 -- The definition whose line is nearest to a place, statement by statement.
-use Rattle.std.proofs.Common.{◌≡◌, inl, inr, ℕ, ◌+◌, ◌<◌, ◌≤◌, Bool, true, false, cond, ◌&&◌, ◌==◌, List, [], ◌∷◌, Option, Some, take, length, get_or, reverse, refl, ap, sym, subst, ◌∙◌, arith}
-use Rattle.std.specs.Prelude.{find, nat_le, option_and_then}
-use Rattle.std.proofs.lemmas.Bool.{cases_Bool, eq-eqb, leb-false, ne_eqb, false≢true}
-use Rattle.std.proofs.lemmas.List.{reverse-append, take_all, take_more}
+use Rattle.std.proofs.Common.{get_or}
+use Rattle.kmin_faults.proofs.Common.{◌≡◌, inl, inr, ℕ, ◌+◌, ◌<◌, ◌≤◌, Bool, true, false, cond, ◌&&◌, ◌==◌, List, [], ◌∷◌, Option, Some, take, length, reverse,
+    refl, ap, sym, subst, ◌∙◌, arith, find, nat_le, option_and_then, cases_Bool, eq-eqb, ne_eqb, false≢true, reverse-append, later, TextPlace, begins_before,
+    defined_by, definition_at, last_line}
+use Rattle.std.proofs.lemmas.Bool.{leb-false}
+use Rattle.std.proofs.lemmas.List.{take_all, take_more}
 use Rattle.kc_parser.specs.declared.listing.Group.{Group}
-use Rattle.kmin_faults.specs.FirstPlaces.{later}
-use Rattle.kmin_faults.specs.declared.first_places.TextPlace.{TextPlace}
-use Rattle.kmin_faults.specs.between.StoredDefinitions.{begins_before, defined_by, definition_at, last_line}
 
 -- of these statements, the newest first, the definition of this symbol is nearest to a place, at this line
 pub record HasNearest (newest : List Group) (at : TextPlace) (found : Option ℕ) (nearest : ℕ) : Type 0 where

@@ -1,13 +1,10 @@
 -- Tests of the names in an expression, in either order.
-use Rattle.std.proofs.Common.{◌≡◌, ℕ, Bool, ◌||◌, List, [], ◌∷◌, ◌++◌, map, refl, sym, ap, ◌∙◌}
-use Rattle.std.specs.Prelude.{slice_index_or}
-use Rattle.std.specs.List.{list_any}
+use Rattle.kmin_faults.proofs.Common.{◌≡◌, ℕ, Bool, ◌||◌, List, [], ◌∷◌, ◌++◌, map, refl, sym, ap, ◌∙◌, slice_index_or, list_any, any_map}
 use Rattle.std.proofs.Math.Bool.{or_comm}
 use Rattle.std.proofs.lemmas.List.Folds.{list_any-append}
 use Rattle.kc_expr.specs.Expr.{Expr, alone, related, negated, both, either, shown}
 use Rattle.kc_expr.specs.ExpressionNames.{names_in}
 use Rattle.kc_expr.specs.between.ReverseNames.{names_in_reverse}
-use Rattle.kc_dependencies.proofs.Pushes.{any_map}
 
 module _ (p : List ℕ → Bool) where
   turned : (xs ys vs ws : List (List ℕ)) → list_any p vs ≡ list_any p xs → list_any p ws ≡ list_any p ys → list_any p (ws ++ vs) ≡ list_any p (xs ++ ys)

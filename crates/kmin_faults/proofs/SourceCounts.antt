@@ -1,19 +1,17 @@
 -- How many files were sourced.
-use Rattle.std.proofs.Common.{◌≡◌, ℕ, suc, ◌+◌, Bool, true, false, cond, List, [], ◌∷◌, ◌++◌, length, reverse, Option, Some, None, refl, ap, sym, ◌∙◌, arith}
-use Rattle.std.specs.Prelude.{filter_map, is_some, nat_le, sum_by}
+use Rattle.kmin_faults.proofs.Common.{◌≡◌, ℕ, suc, ◌+◌, Bool, true, false, cond, List, [], ◌∷◌, ◌++◌, length, reverse, Option, Some, None, refl, ap, sym, ◌∙◌,
+    arith, filter_map, is_some, nat_le, reverse-append, reverse-reverse, Exprs, Group, GroupHead, from_head, Listing, RepresentsHead, RepresentsGroups}
+use Rattle.std.specs.Prelude.{sum_by}
 use Rattle.kc_value.specs.declared.limits.TheConstants.{MAX_FILES}
 use Rattle.std.specs.List.{cons_option, count_by}
-use Rattle.std.proofs.lemmas.List.{reverse-append, reverse-reverse}
 use Rattle.std.proofs.lemmas.List.Sums.{sum_by-append}
-use Rattle.kc_expr.specs.between.Arena.{Exprs}
 use Rattle.kc_tree_model.specs.Statements.{path_of_head}
-use Rattle.kc_tree_model.specs.Blocks.{Group, GroupHead, from_head, sourced_path}
+use Rattle.kc_tree_model.specs.Blocks.{sourced_path}
 use Rattle.kc_parser.specs.declared.listing.Group.{Group as CodeGroup}
 use Rattle.kc_parser.specs.declared.listing.Line.{Line as CodeLine}
-use Rattle.kc_parser.specs.declared.listing.Listing.{Listing}
 use Rattle.kc_parser.specs.declared.listing.GroupHead.{GroupHead as CodeHead}
 use Rattle.kc_parser.specs.declared.listing.GroupHead.TheVariants as codes
-use Rattle.kc_parser.specs.between.ListingView.{RepresentsListing, RepresentsHead, RepresentsGroups}
+use Rattle.kc_parser.specs.between.ListingView.{RepresentsListing}
 use Rattle.kmin_faults.specs.PassedLimits.{limit_of_source}
 use Rattle.kmin_faults.specs.declared.passed_limits.Limit.{Limit}
 use Rattle.kmin_faults.specs.declared.passed_limits.Limit.TheVariants.{Files, TreeBytes}

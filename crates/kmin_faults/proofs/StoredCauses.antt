@@ -1,15 +1,11 @@
 -- Causes by the stored parts of a symbol or a choice.
-use Rattle.std.proofs.Common.{◌≡◌, ℕ, Bool, false, ◌||◌, List, map, Option, Some, None, refl, ap, sym, ◌∙◌}
-use Rattle.std.specs.Prelude.{find, slice_get}
-use Rattle.std.specs.List.{list_any}
-use Rattle.kc_expr.specs.between.Arena.{Exprs, node_expr}
-use Rattle.kc_dependencies.proofs.Pushes.{any_map}
-use Rattle.kc_tree.specs.between.Views.{symbol_view}
+use Rattle.kmin_faults.proofs.Common.{◌≡◌, ℕ, Bool, false, ◌||◌, List, map, Option, Some, None, refl, ap, sym, ◌∙◌, find, slice_get, list_any, Exprs, node_expr,
+    any_map, symbol_view, Tree, choice_depends, names_unit, prompts_name_unit, symbol_depends}
 use Rattle.kc_tree.specs.declared.symbol.Symbol.{Symbol as KeptSymbol}
-use Rattle.kc_tree_model.specs.Trees.{Tree, Symbol, Choice}
+use Rattle.kc_tree_model.specs.Trees.{Symbol, Choice}
 use Rattle.kc_tree_model.specs.declared.ids.Unit.TheVariants.{Symbol as of_symbol, Choice as of_choice}
 use Rattle.kc_tree_model.specs.declared.ids.Unit.{Unit as TreeUnit}
-use Rattle.kmin_faults.specs.Causes.{all_causes, cause_of, choice_depends, names_unit, prompts_name_unit, symbol_depends, unit_depends}
+use Rattle.kmin_faults.specs.Causes.{all_causes, cause_of, unit_depends}
 
 -- the test of a prompt that is stored
 pub prompts_shown : (tree : Tree) (exprs : Exprs) (unit s : ℕ) (k : KeptSymbol) → slice_get tree.symbols s ≡ Some (symbol_view exprs k)

@@ -1,8 +1,6 @@
 -- Names of a tree, by their numbers in its arena.
-use Rattle.std.proofs.Common.{◌≡◌, ℕ, Bool, false, ◌==◌, List, Option, Some, None, ap}
-use Rattle.kc_tree_model.specs.Trees.{Tree}
+use Rattle.kmin_faults.proofs.Common.{◌≡◌, ℕ, Bool, false, ◌==◌, List, Option, Some, None, ap, Tree, is_of_unit}
 use Rattle.kc_tree_model.specs.TreeLookup.{symbol_named, unit_of}
-use Rattle.kmin_faults.specs.Causes.{is_of_unit}
 
 pub some_of_unit : (tree : Tree) (unit : ℕ) (name : List ℕ) (s : ℕ) → symbol_named tree name ≡ Some s → is_of_unit tree unit name ≡ (unit_of tree s == unit)
 some_of_unit tree unit name s e = ap (λ (o : Option ℕ). elim o as (λ _. Bool) [ None ↦ false | Some s ↦ unit_of tree s == unit ]) e

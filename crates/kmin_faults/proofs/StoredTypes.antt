@@ -1,10 +1,7 @@
 -- Attributes that a list has.
-use Rattle.std.proofs.Common.{◌≡◌, ℕ, ◌≤◌, Bool, ◌&&◌, List, length, ap, ◌∙◌}
-use Rattle.std.specs.Prelude.{nat_le, slice_range}
-use Rattle.std.specs.List.{list_any}
+use Rattle.kmin_faults.proofs.Common.{◌≡◌, ℕ, ◌≤◌, Bool, ◌&&◌, List, length, ap, ◌∙◌, nat_le, slice_range, list_any, gives_type, has_type}
 use Rattle.std.proofs.lemmas.Bool.{le-leb}
 use Rattle.kc_parser.specs.declared.listing.Line.{Line}
-use Rattle.kmin_faults.specs.between.StoredDefinitions.{gives_type, has_type}
 
 pub has_type_within : (lines : List Line) (begin end : ℕ) → begin ≤ end → end ≤ length lines
     → has_type lines begin end ≡ list_any (λ (line : Line). gives_type line.attribute) (slice_range lines begin end)

@@ -1,23 +1,18 @@
 -- Answer files, one after another: what they record, and where a run ends among them.
-use Rattle.std.proofs.Common.{◌≡◌, ℕ, ◌⊎◌, inl, inr, List, [], ◌∷◌, ◌++◌, Option, Some, None, Result, Ok, Err, OnOk, refl, sym, subst, append-nil}
+use Rattle.std.proofs.Common.{append-nil}
 use Rattle.std.specs.Io.KnownBytes.{Consumes}
-use Rattle.kc_macros_model.specs.declared.fault.AnswersKind.{AnswersKind}
-use Rattle.kc_macros_model.specs.declared.fault.AnswersKind.TheVariants.{Malformed, TwoAnswers, NotUtf8, LineTooLong, TooManyLines, TooLarge, Read, OutOfMemory}
-use Rattle.kc_macros_model.specs.declared.fault.AnswersFault.{AnswersFault}
-use Rattle.kc_macros_model.specs.AnswerFiles.{RecordedAnswers, complete, cut_by, answers_read}
-use Rattle.kc_answers.specs.ReadAnswers.{AreRecorded, AreAnswersRefused, ReadsToEnd, end_of_file}
-use Rattle.kc_files.specs.TreeContents.{FileContent}
+use Rattle.kmin_inputs.proofs.Common.{◌≡◌, ℕ, ◌⊎◌, inl, inr, List, [], ◌∷◌, ◌++◌, Option, Some, None, Result, Ok, Err, OnOk, refl, sym, subst, AnswersKind,
+    Malformed, TwoAnswers, NotUtf8, LineTooLong, TooManyLines, TooLarge, Read, OutOfMemory, AnswersFault, RecordedAnswers, complete, cut_by, AreAnswersRefused,
+    ReadsToEnd, end_of_file, FileContent, OpensAs, SpelledBytes, TakesLines, ErrorLine, FilesRecord, answers_status, lines_append, rest_of, whole_content}
+use Rattle.kc_macros_model.specs.AnswerFiles.{answers_read}
+use Rattle.kc_answers.specs.ReadAnswers.{AreRecorded}
 use Rattle.kmin_report.specs.KnownBytes.{AreKnownBytes}
-use Rattle.kmin_disk.specs.Contents.{OpensAs}
-use Rattle.kmin_report.specs.StandardError.{SpelledBytes, TakesLines}
-use Rattle.kmin_report.specs.Reports.{ErrorLine, answers_line}
-use Rattle.kmin_inputs.specs.JobAnswers.{FilesRecord, none, file}
-use Rattle.kmin_inputs.specs.AnswerStops.{StopsAtAnswers, StopsAmongAnswers, answers_status, refused}
+use Rattle.kmin_report.specs.Reports.{answers_line}
+use Rattle.kmin_inputs.specs.JobAnswers.{none, file}
+use Rattle.kmin_inputs.specs.AnswerStops.{StopsAtAnswers, StopsAmongAnswers, refused}
 use Rattle.kmin_inputs.specs.AnswerStops as stops
 use Rattle.kmin_inputs.specs.between.AnswerSteps.{StopsReading, StopsAtAnswersPath, ReportsAnswersFault, answers_lines}
 use Rattle.kmin_inputs.specs.between.AnswerSteps as steps
-use Rattle.kmin_report.proofs.WriterLemmas.{lines_append}
-use Rattle.kmin_report.proofs.KnownContents.{rest_of, whole_content}
 
 -- answer files that add to earlier answers, and then more of them, do so as one list of files
 pub record_append : (content_of : List ℕ → FileContent) (xs ys : List (List ℕ)) (a b c : RecordedAnswers) → FilesRecord content_of xs a b

@@ -1,22 +1,18 @@
 -- Answers from definitions, answer files and the environment, one after another.
-use Rattle.std.proofs.Common.{◌≡◌, ℕ, suc, ◌+◌, ◌<◌, Bool, true, false, List, [], ◌∷◌, ◌++◌, length, map, take, get_or, Option, Some, None, refl, sym, ap, ◌∙◌, subst, arith}
-use Rattle.std.proofs.lemmas.List.{map-append}
+use Rattle.kmin_inputs.proofs.Common.{◌≡◌, ℕ, suc, ◌+◌, ◌<◌, Bool, true, false, List, [], ◌∷◌, ◌++◌, length, map, take, get_or, Option, Some, None, refl, sym,
+    ap, ◌∙◌, subst, arith, map-append, option_or, bytes_eq, is_some, if◌then◌else◌, keyword_in_table, Answer, RecordedAnswers, FileContent, definition_view,
+    VariableContent, defined_answer, FilesRecord, AreLent}
 use Rattle.std.proofs.Math.Seq.{take-suc}
-use Rattle.std.specs.Option.{option_or}
-use Rattle.std.specs.Prelude.{bytes_eq, is_some, ◌||◌, if◌then◌else◌}
+use Rattle.std.specs.Prelude.{◌||◌}
 use Rattle.std.proofs.lemmas.Slice.Eq.{bytes_eq-Decides}
 use Rattle.std.proofs.lemmas.List.Folds.{list_any-append}
-use Rattle.kc_tree_model.specs.Keywords.{keyword_in_table}
 use Rattle.kc_tree_model.specs.Limits.{is_in_list}
-use Rattle.kc_macros_model.specs.Programs.{Answer}
-use Rattle.kc_macros_model.specs.AnswerFiles.{RecordedAnswers}
-use Rattle.kc_files.specs.TreeContents.{FileContent}
 use Rattle.kmin_options.specs.declared.job.Definition.{Definition as DeclaredDefinition}
-use Rattle.kmin_options.specs.Jobs.{Definition, Expansion, definition_view}
-use Rattle.kmin_inputs.specs.FileContents.{VariableContent, MatchVariable}
-use Rattle.kmin_inputs.specs.JobAnswers.{defined_answer, answer_of_variable, lent_answer, FilesRecord, AreJobAnswers}
+use Rattle.kmin_options.specs.Jobs.{Definition, Expansion}
+use Rattle.kmin_inputs.specs.FileContents.{MatchVariable}
+use Rattle.kmin_inputs.specs.JobAnswers.{answer_of_variable, lent_answer, AreJobAnswers}
 use Rattle.kc_answers.specs.RunStates.{questions_of}
-use Rattle.kmin_inputs.specs.between.AnswerSteps.{AreLent, AnswersAndQuestions}
+use Rattle.kmin_inputs.specs.between.AnswerSteps.{AnswersAndQuestions}
 
 pub or_none : (a : Option Answer) → option_or a None ≡ a
 or_none None = refl

@@ -1,3 +1,4 @@
+pub mod Common
 pub mod FailureCounts
 pub mod AnswerReads
 pub mod AnswerFileLists

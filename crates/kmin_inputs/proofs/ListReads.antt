@@ -1,19 +1,17 @@
 -- Files that are read whole, by what is known of them.
-use Rattle.std.proofs.Common.{◌≡◌, Bool, Result, Ok, Err, OnOk, ℕ, ◌+◌, ◌≤◌, inl, inr, true, false, List, [], ◌∷◌, ◌++◌, Option, Some, None, refl, sym, ap, ◌∙◌, subst, arith, codes, option_map}
-use Rattle.std.specs.Prelude.{bytes_eq}
+use Rattle.std.proofs.Common.{codes, option_map}
+use Rattle.kmin_inputs.proofs.Common.{◌≡◌, Bool, Result, Ok, Err, OnOk, ℕ, ◌+◌, ◌≤◌, inl, inr, true, false, List, [], ◌∷◌, ◌++◌, Option, Some, None, refl, sym,
+    ap, ◌∙◌, subst, arith, bytes_eq, FileContent, OpensAs, SpelledBytes, TakesLines, ErrorLine, lines_append, inputs_named, list_content, AreFilesRead,
+    for_memory}
 use Rattle.std.proofs.lemmas.List.Sums.{sum_by-append}
 use Rattle.std.proofs.lemmas.Bool.{cases_Bool, false≢true}
-use Rattle.kc_files.specs.TreeContents.{FileContent}
-use Rattle.kmin_disk.specs.Contents.{OpensAs}
-use Rattle.kmin_report.specs.StandardError.{SpelledBytes, TakesLines}
-use Rattle.kmin_report.specs.Reports.{ErrorLine, last_lines}
-use Rattle.kmin_report.proofs.WriterLemmas.{lines_append}
+use Rattle.kmin_report.specs.Reports.{last_lines}
 use Rattle.kmin_lines.specs.WordFiles.{files_of}
-use Rattle.kmin_cli.specs.Inputs.{inputs_named, is_input}
-use Rattle.kmin_inputs.specs.ListFiles.{IsListRead, StopsReadingList, list_content}
-use Rattle.kmin_inputs.specs.WordFiles.{AreFilesRead, none, file, StopsAtWords, unread}
+use Rattle.kmin_cli.specs.Inputs.{is_input}
+use Rattle.kmin_inputs.specs.ListFiles.{IsListRead, StopsReadingList}
+use Rattle.kmin_inputs.specs.WordFiles.{none, file, StopsAtWords, unread}
 use Rattle.kmin_inputs.specs.WordFiles as stops
-use Rattle.kmin_inputs.specs.between.ReadFiles.{StopsAmongLists, at_file, for_memory}
+use Rattle.kmin_inputs.specs.between.ReadFiles.{StopsAmongLists, at_file}
 
 -- reading standard input agrees with what is known of it
 pub input_opens : (left : Option (List ℕ)) → OpensAs (option_map (λ (bytes : List ℕ). Some bytes) left) (Some left)

@@ -1,13 +1,10 @@
 -- The counts of a bag of lines after one line is added or taken away.
-use Rattle.std.proofs.Common.{◌≡◌, ℕ, ◌+◌, ◌-◌, ◌<◌, ◌≤◌, ◌==◌, Bool, true, false, cond, List, [], ◌∷◌, ◌++◌, Option, Some, length, refl, sym, ap, ◌∙◌, arith}
+use Rattle.std.proofs.Common.{◌≤◌}
 use Rattle.std.specs.Prelude.{unwrap_or}
-use Rattle.std.specs.Str.{bytes_eq}
-use Rattle.std.specs.List.{onto_first}
+use Rattle.kmin_lines.proofs.Common.{◌≡◌, ℕ, ◌+◌, ◌-◌, ◌<◌, ◌==◌, Bool, true, false, cond, List, [], ◌∷◌, ◌++◌, Option, Some, length, refl, sym, ap, ◌∙◌, arith,
+    bytes_eq, onto_first, pieces, without_one, lines_of, without_carriage_return, times_among}
 use Rattle.std.proofs.lemmas.Slice.Eq.{bytes_eq-Decides}
 use Rattle.std.proofs.lemmas.List.{length-map}
-use Rattle.kc_value.specs.Lines.{pieces}
-use Rattle.kmin_lines.specs.Lines.{without_one, lines_of, without_carriage_return}
-use Rattle.kmin_lines.specs.checker.Bags.{times_among}
 
 -- 1 if a line equals another one, else 0
 abbrev pub one_if : (line other : List ℕ) → ℕ

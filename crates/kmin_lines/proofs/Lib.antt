@@ -1,3 +1,4 @@
+pub mod Common
 pub mod PieceLemmas
 pub mod BagLemmas
 pub mod PathLemmas

@@ -1,9 +1,7 @@
 -- Texts of which one has no line.
-use Rattle.std.proofs.Common.{◌≡◌, ℕ, suc, Bool, true, false, cond, ◌==◌, List, [], ◌∷◌, map, length, refl, sym, ◌∙◌, arith}
-use Rattle.std.proofs.lemmas.Bool.{false_from_ne_true, eqb-true}
-use Rattle.std.specs.List.{onto_first}
-use Rattle.kc_value.specs.Lines.{pieces}
-use Rattle.kmin_lines.specs.Lines.{are_same, have_same_lines, without_carriage_return}
+use Rattle.kmin_lines.proofs.Common.{◌≡◌, ℕ, suc, Bool, true, false, cond, ◌==◌, List, [], ◌∷◌, map, length, refl, sym, ◌∙◌, arith, false_from_ne_true, eqb-true,
+    onto_first, pieces, have_same_lines, without_carriage_return}
+use Rattle.kmin_lines.specs.Lines.{are_same}
 
 -- a text that isn't empty has a line, so it hasn't the lines of an empty text
 some_line : (b : ℕ) (rest : List (List ℕ)) (is_end : Bool)

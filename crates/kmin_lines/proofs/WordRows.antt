@@ -1,8 +1,7 @@
 -- Words of a command line and of files, worked out.
-use Rattle.std.proofs.Common.{◌≡◌, [], ◌∷◌, refl}
+use Rattle.kmin_lines.proofs.Common.{◌≡◌, [], ◌∷◌, refl, words_in, files_of}
 use Rattle.std.specs.Prelude.{codes}
-use Rattle.kmin_lines.specs.WordLines.{words_in}
-use Rattle.kmin_lines.specs.WordFiles.{files_of, with_files}
+use Rattle.kmin_lines.specs.WordFiles.{with_files}
 
 -- a word a line, with its spaces; no empty line, no comment, and one carriage return less
 lines_are_words : words_in (codes "--root\na b\r\n\n\r\n# c\n #d\ne\r\r\nf") ≡ codes "--root" ∷ codes "a b" ∷ codes " #d" ∷ codes "e\r" ∷ codes "f" ∷ []

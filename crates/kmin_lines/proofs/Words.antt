@@ -1,14 +1,11 @@
 -- Words `@FILE`, and words that are put together of lists.
-use Rattle.std.proofs.Common.{◌≡◌, ◌≢◌, ℕ, suc, ◌+◌, ◌<◌, ◌==◌, true, false, List, [], ◌∷◌, ◌++◌, Option, Some, None, option_map, MatchOption, length, map, take, drop, get_or, refl, ap, sym, ◌∙◌, add-one, drop-cons, take-append-drop}
+use Rattle.std.proofs.Common.{◌≢◌, None, option_map, MatchOption, add-one, drop-cons, take-append-drop}
 use Rattle.std.specs.Borrow.{Bor}
 use Rattle.std.specs.Global.{Vec}
-use Rattle.std.specs.List.{list_all}
-use Rattle.std.proofs.lemmas.Bool.{false_from_ne_true, eqb-true}
+use Rattle.kmin_lines.proofs.Common.{◌≡◌, ℕ, suc, ◌+◌, ◌<◌, ◌==◌, true, false, List, [], ◌∷◌, ◌++◌, Option, Some, length, map, take, drop, get_or, refl, ap, sym,
+    ◌∙◌, list_all, false_from_ne_true, eqb-true, is_utf8, are_utf8, words_in, with_lists, files_view, lists_view, words_view}
 use Rattle.std.proofs.lemmas.List.{map-append, drop-map}
-use Rattle.std.specs.Str.{is_utf8}
-use Rattle.kmin_lines.specs.WordLines.{are_utf8, words_in}
-use Rattle.kmin_lines.specs.WordFiles.{ends_options, file_of, with_lists}
-use Rattle.kmin_lines.specs.between.Words.{files_view, lists_view, words_view}
+use Rattle.kmin_lines.specs.WordFiles.{ends_options, file_of}
 use Rattle.kmin_lines.proofs.PathLemmas.{one_fails}
 
 -- what comes after the `@` of a word is the path of its file

@@ -1,28 +1,17 @@
 -- What keeps a symbol from its assigned value, and what selects it against its dependencies, as the code finds it.
-use Rattle.std.proofs.Common.{◌≡◌, ℕ, List, [], ◌++◌, Some, subst, ◌∙◌, ap, append_assoc}
-use Rattle.std.specs.Prelude.{slice_get, option_map, unwrap_or, codes}
+use Rattle.kmin_missed.proofs.Common.{◌≡◌, ℕ, List, [], ◌++◌, Some, subst, ◌∙◌, ap, append_assoc, slice_get, option_map, unwrap_or, codes, pieces, Exprs, Tree,
+    Symbol, symbol_view, UnitValue, value_of_symbol, PlainReasons, wanted_by, value_text, SymbolLines, SymbolReasons, reasons_view, symbol_lines_view,
+    SourcesModel, in_one_line, cause_at, cause_by}
 use Rattle.kc_value.specs.declared.tri.Tri.{Tri}
-use Rattle.kc_value.specs.Lines.{pieces}
-use Rattle.kc_expr.specs.between.Arena.{Exprs}
-use Rattle.kc_tree_model.specs.Trees.{Tree, Symbol}
-use Rattle.kc_tree.specs.between.Views.{symbol_view}
 use Rattle.kc_tree.specs.declared.symbol.Symbol.{Symbol as CodeSymbol}
-use Rattle.kc_rules_model.specs.declared.values.UnitValue.{UnitValue}
-use Rattle.kc_rules_model.specs.SymbolValues.{value_of_symbol}
-use Rattle.kc_reasons_model.specs.PlainReasons.{PlainReasons, wanted_by}
-use Rattle.kc_reasons_model.specs.Reasons.{value_text}
-use Rattle.kc_reasons_model.specs.SymbolLines.{SymbolLines}
-use Rattle.kc_reasons.specs.declared.reasons.SymbolReasons.{SymbolReasons}
-use Rattle.kc_reasons.specs.between.ReasonsView.{reasons_view}
 use Rattle.kc_symbol_lines.specs.declared.located.SymbolLines.{SymbolLines as CodeLines}
-use Rattle.kc_symbol_lines.specs.between.LinesView.{symbol_lines_view}
 use Rattle.kc_explanation.specs.Asked.{why_text}
 use Rattle.kc_explanation.specs.Located.{located_details, located_details_at}
 use Rattle.kc_explanation.specs.declared.located_explanation.ReasonPlaces.{ReasonPlaces as CodePlaces}
 use Rattle.kc_explanation.specs.between.ReasonPlacesView.{places_view}
 use Rattle.kc_explanation.proofs.ExplanationLemmas.{located_details_is}
-use Rattle.kmin_explain.specs.Explanations.{SourcesModel, user_for, reason_places}
-use Rattle.kmin_missed.specs.MissedLines.{in_one_line, cause, cause_at, cause_by}
+use Rattle.kmin_explain.specs.Explanations.{user_for, reason_places}
+use Rattle.kmin_missed.specs.MissedLines.{cause}
 use Rattle.kmin_explain.proofs.ReasonTexts.{places_for, places_are}
 
 pub details_are : (g : SourcesModel) (e m : Exprs) (s : ℕ) (symbol : Symbol) (code : CodeSymbol) (reasons : SymbolReasons) (lines : CodeLines) (places : CodePlaces)

@@ -1,3 +1,4 @@
+pub mod Common
 pub mod OneLine
 pub mod CauseTexts
 pub mod RowTexts

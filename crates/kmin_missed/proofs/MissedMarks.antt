@@ -1,23 +1,19 @@
 -- Marks of the symbols that are missed.
-use Rattle.std.proofs.Common.{◌≡◌, ℕ, ◌<◌, ◌+◌, ◌==◌, Bool, true, false, cond, ◌||◌, List, [], ◌∷◌, ◌++◌, length, All, refl, sym, subst, ◌∙◌, ap, append-nil, arith}
-use Rattle.std.specs.List.{list_any, range_with_len, slice_index_or}
+use Rattle.kmin_missed.proofs.Common.{◌≡◌, ℕ, ◌<◌, ◌+◌, ◌==◌, Bool, true, false, cond, ◌||◌, List, [], ◌∷◌, ◌++◌, length, All, refl, sym, subst, ◌∙◌, ap,
+    append-nil, arith, list_any, range_with_len, slice_get, flat_map, option_map, unwrap_or, flat_map-append, Tree, Symbol, UnitValue, missed, Option,
+    SourcesModel, missed_rows, missed_rows_at, range_more, symbol_there}
+use Rattle.std.specs.List.{slice_index_or}
 use Rattle.std.proofs.lemmas.List.Elements.{All-filter}
-use Rattle.std.specs.Prelude.{Some, slice_get, flat_map, option_map, unwrap_or}
+use Rattle.std.specs.Prelude.{Some}
 use Rattle.std.proofs.lemmas.Bool.{eqb-true}
-use Rattle.std.proofs.lemmas.Grind.{flat_map-append}
-use Rattle.kc_tree_model.specs.Trees.{Tree, Symbol}
-use Rattle.kc_rules_model.specs.declared.values.UnitValue.{UnitValue}
 use Rattle.kc_rules_model.specs.declared.values.UserValue.{UserValue}
 use Rattle.kc_rules_model.specs.Reports.{is_unmet, unmet}
-use Rattle.kc_dotconfig_model.specs.MissedAssignments.{is_missed, missed}
-use Rattle.std.specs.Prelude.{Option}
+use Rattle.kc_dotconfig_model.specs.MissedAssignments.{is_missed}
 use Rattle.kmin_explain.specs.checker.Marks.{AreMarked}
 use Rattle.kmin_explain.specs.declared.each_once.SymbolsOnce.{SymbolsOnce}
 use Rattle.kmin_explain.specs.Names.{each_once_after, with_number}
-use Rattle.kmin_explain.specs.Explanations.{SourcesModel}
-use Rattle.kmin_missed.specs.MissedLines.{missed_of, missed_rows, missed_rows_at}
-use Rattle.kmin_explain.proofs.EachOnce.{range_below, range_more}
-use Rattle.kmin_explain.proofs.SymbolTexts.{symbol_there}
+use Rattle.kmin_missed.specs.MissedLines.{missed_of}
+use Rattle.kmin_explain.proofs.EachOnce.{range_below}
 
 or_false : (b : Bool) → (b || false) ≡ b
 or_false true = refl

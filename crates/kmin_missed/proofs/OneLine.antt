@@ -1,8 +1,5 @@
 -- Inner lines of a text, in one line.
-use Rattle.std.proofs.Common.{◌≡◌, ℕ, List, ◌∷◌, ◌++◌, drop, sym, ◌∙◌, ap, append_assoc}
-use Rattle.std.specs.Prelude.{codes}
-use Rattle.kc_value.specs.Lines.{pieces}
-use Rattle.kmin_missed.specs.MissedLines.{in_one_line}
+use Rattle.kmin_missed.proofs.Common.{◌≡◌, ℕ, List, ◌∷◌, ◌++◌, drop, sym, ◌∙◌, ap, append_assoc, codes, pieces, in_one_line}
 
 -- one more line
 pub one_more_line : (old one two lead line cut rest after all : List ℕ) → one ≡ old ++ lead → two ≡ one ++ cut → cut ≡ drop 2 line

@@ -1,23 +1,17 @@
 -- The rows of lines that later files override, by the lines that files keep.
-use Rattle.std.proofs.Common.{◌≡◌, ℕ, List, [], ◌∷◌, ◌++◌, map, Some, refl, sym, ◌∙◌, ap, append-nil, Bool, true, false, append_assoc}
-use Rattle.std.specs.Prelude.{flat_map, All, Option}
+use Rattle.kmin_missed.proofs.Common.{◌≡◌, ℕ, List, [], ◌∷◌, ◌++◌, map, Some, refl, sym, ◌∙◌, ap, append-nil, Bool, true, false, append_assoc, flat_map, Option,
+    Symbol, unit_of, assigning_place, Overridden, joined_three, SourcesModel, missed_row, missed_rows, line_in, overridden_row_text}
+use Rattle.std.specs.Prelude.{All}
 use Rattle.std.specs.List.{AllZip}
 use Rattle.std.proofs.lemmas.List.Elements.{All-head, All-tail}
 use Rattle.kc_value.specs.declared.value.Kind.{Kind}
-use Rattle.kc_tree_model.specs.Trees.{Symbol}
-use Rattle.kc_tree_model.specs.TreeLookup.{unit_of}
-use Rattle.kc_reasons_model.specs.AssigningLines.{AssigningPlace, assigning_place}
+use Rattle.kc_reasons_model.specs.AssigningLines.{AssigningPlace}
 use Rattle.kc_reasons_model.specs.OverriddenLines.{OverriddenPlace, IsOverridden, places_of, overridden}
 use Rattle.kc_reasons_model.proofs.OverriddenLaws.{listed_overridden}
 use Rattle.kc_config_reasons.specs.declared.file_lines.FileLines.{FileLines}
-use Rattle.kc_config_reasons.specs.declared.places.Overridden.{Overridden}
 use Rattle.kc_config_reasons.specs.between.FileLines.{line_view, KeepsLines}
 use Rattle.kc_config_reasons.specs.between.Places.{file_numbers}
-use Rattle.kc_explanation.proofs.ExplanationLemmas.{joined_three}
-use Rattle.kmin_explain.specs.Explanations.{SourcesModel}
-use Rattle.kmin_missed.specs.MissedLines.{overridden_row, missed_row, missed_rows}
-use Rattle.kmin_explain.specs.checker.FileLineTexts.{line_in}
-use Rattle.kmin_missed.specs.checker.RowTexts.{overridden_row_text}
+use Rattle.kmin_missed.specs.MissedLines.{overridden_row}
 use Rattle.kmin_explain.proofs.AskedTexts.{kept_at}
 
 -- four texts, each appended to what was there

@@ -1,24 +1,13 @@
 -- What selects a symbol against its dependencies, and what is unmet, as the code finds it.
-use Rattle.std.proofs.Common.{◌≡◌, ℕ, List, [], ◌∷◌, ◌++◌, Some, subst, ◌∙◌, ap, append_assoc}
-use Rattle.std.specs.Prelude.{slice_get, option_map, unwrap_or, codes}
-use Rattle.kc_value.specs.Lines.{pieces}
-use Rattle.kc_expr.specs.between.Arena.{Exprs}
-use Rattle.kc_tree_model.specs.Trees.{Tree, Symbol}
-use Rattle.kc_rules_model.specs.declared.values.UnitValue.{UnitValue}
-use Rattle.kc_rules_model.specs.SymbolValues.{value_of_symbol}
-use Rattle.kc_reasons_model.specs.PlainReasons.{PlainReasons}
-use Rattle.kc_reasons_model.specs.Reasons.{name_of_symbol, value_text}
-use Rattle.kc_reasons_model.specs.SymbolLines.{SymbolLines}
-use Rattle.kc_reasons.specs.declared.reasons.SymbolReasons.{SymbolReasons}
-use Rattle.kc_reasons.specs.between.ReasonsView.{reasons_view}
+use Rattle.kmin_missed.proofs.Common.{◌≡◌, ℕ, List, [], ◌∷◌, ◌++◌, Some, subst, ◌∙◌, ap, append_assoc, slice_get, option_map, unwrap_or, codes, pieces, Exprs,
+    Tree, Symbol, UnitValue, value_of_symbol, PlainReasons, value_text, SymbolLines, SymbolReasons, reasons_view, symbol_lines_view, place_text, SourcesModel,
+    in_one_line, first_place, unmet_row_at, unmet_row_by}
+use Rattle.kc_reasons_model.specs.Reasons.{name_of_symbol}
 use Rattle.kc_symbol_lines.specs.declared.located.SymbolLines.{SymbolLines as CodeLines}
-use Rattle.kc_symbol_lines.specs.between.LinesView.{symbol_lines_view}
 use Rattle.kc_located_reasons.specs.LocatedNeeds.{LocatedPart, dependencies_lack_at}
-use Rattle.kc_explanation.specs.Located.{located_unmet, located_unmet_at, place_text}
+use Rattle.kc_explanation.specs.Located.{located_unmet, located_unmet_at}
 use Rattle.kc_explanation.proofs.ExplanationLemmas.{located_unmet_is}
-use Rattle.kmin_explain.specs.Explanations.{SourcesModel}
-use Rattle.kmin_missed.specs.MissedLines.{in_one_line}
-use Rattle.kmin_missed.specs.UnmetLines.{first_place, unmet_row, unmet_row_at, unmet_row_by}
+use Rattle.kmin_missed.specs.UnmetLines.{unmet_row}
 
 pub unmet_details_are : (g : SourcesModel) (e m : Exprs) (s : ℕ) (symbol code : Symbol) (reasons : SymbolReasons) (lines : CodeLines) (parts : List (List LocatedPart))
     (tree : Tree) (values : List UnitValue) → e ≡ m → tree ≡ g.tree → values ≡ g.values → code ≡ symbol

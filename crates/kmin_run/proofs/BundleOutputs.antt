@@ -1,41 +1,35 @@
 -- The outputs for bundles.
-use Rattle.std.proofs.Common.{◌≡◌, ℕ, false, List, [], ◌∷◌, ◌++◌, Option, Some, Result, Ok, Err, Vec, IfOk, IfErr, codes, cond, map, refl, sym, ap, ◌∙◌, subst, append-nil}
+use Rattle.std.proofs.Common.{Result}
 use Rattle.std.proofs.lemmas.Bool.{false≢true}
 use Rattle.kc_tokens.specs.declared.language.Language.{Language}
 use Rattle.kc_tokens.specs.declared.language.Language.TheVariants.{Strict}
 use Rattle.kc_tree_model.specs.Blocks.{Group}
 use Rattle.kc_tree_model.specs.Contents.{tree_of_groups}
 use Rattle.kc_dotconfig_model.specs.OtherChoices.{has_no_version, choice_lines_from, placed_from, other_places, other_choices}
-use Rattle.std.specs.declared.alloc.Global.{Global}
+use Rattle.kmin_run.proofs.Common.{◌≡◌, ℕ, false, List, [], ◌∷◌, ◌++◌, Option, Some, Ok, Err, Vec, IfOk, IfErr, codes, cond, map, refl, sym, ap, ◌∙◌, subst,
+    append-nil, Global, Settled, tree_of_settled, profile_of, empty_assignment, tree_in, RunError, ErrorLine, last_lines, SpelledBytes, TakesLines, AreAccepted,
+    IsBundle, bundle_content, status_of, StopsAtTexts, for_memory, lines_append}
 use Rattle.kc_tree_model.specs.Trees.{Tree}
 use Rattle.kc_rules_model.specs.declared.profile.Profile.TheVariants.{Present}
 use Rattle.kc_rules_model.specs.declared.values.UnitValue.{UnitValue}
 use Rattle.kc_rules_model.specs.declared.values.UserValue.{UserValue}
-use Rattle.kc_rules.specs.declared.rules.Settled.{Settled}
-use Rattle.kc_rules.specs.between.SettledViews.{tree_of_settled, profile_of}
 use Rattle.kc_dotconfig_model.specs.Formats.{FileFormat, plain_format}
 use Rattle.kc_dotconfig_model.specs.ConfigLines.{LineMeaning}
-use Rattle.kc_dotconfig_model.specs.ConfigFiles.{overlay, empty_assignment}
+use Rattle.kc_dotconfig_model.specs.ConfigFiles.{overlay}
 use Rattle.kc_dotconfig.specs.declared.fragment.Fragment.{Fragment}
-use Rattle.kc_config.specs.ConfigStates.{Configured, IsSolved, tree_in}
+use Rattle.kc_config.specs.ConfigStates.{Configured, IsSolved}
 use Rattle.kc_dotconfig.specs.Fragments.{users_of}
 use Rattle.kc_dotconfig.specs.ReadResults.{IsReadAs}
 use Rattle.kc_minimal_model.specs.FullFile.{full_file}
 use Rattle.kmin_options.specs.declared.job.Verb.TheVariants.{Full}
-use Rattle.kmin_report.specs.declared.run_error.RunError.{RunError}
-use Rattle.kmin_report.specs.Reports.{ErrorLine, notice_lines, choice_notice_lines, last_lines}
-use Rattle.kmin_report.specs.StandardError.{SpelledBytes, TakesLines}
-use Rattle.kmin_trees.specs.AcceptedTrees.{AreAccepted}
+use Rattle.kmin_report.specs.Reports.{notice_lines, choice_notice_lines}
 use Rattle.kmin_outputs.specs.Outputs.{Resolve, of_files}
 use Rattle.kmin_outputs.specs.Stops.{StopsAmongFiles}
-use Rattle.kmin_run.specs.Bundles.{IsBundle}
-use Rattle.kmin_run.specs.BundleOutputs.{AnswersBundle, StopsInBundle, StopsOnBundle, at_tree, in_configuration, bundle_content, bundle_files, bundle_settings}
+use Rattle.kmin_run.specs.BundleOutputs.{AnswersBundle, StopsInBundle, StopsOnBundle, at_tree, in_configuration, bundle_files, bundle_settings}
 use Rattle.kmin_run.specs.BundleOutputs as bundles
 use Rattle.kmin_outputs.specs.between.LoadResults.{AreLoaded}
 use Rattle.kmin_outputs.specs.between.LoadStops.{StopsLoad, fragment_notices}
-use Rattle.kmin_report.specs.between.RunErrors.{status_of}
-use Rattle.kmin_trees.specs.between.TreeStops.{StopsAtTexts, at_texts, for_memory}
-use Rattle.kmin_report.proofs.WriterLemmas.{lines_append}
+use Rattle.kmin_trees.specs.between.TreeStops.{at_texts}
 use Rattle.kmin_outputs.proofs.Sequences.{stopped_at, stopped_path, loaded_from, loaded_one}
 use Rattle.kmin_outputs.proofs.JobOutputs.{resolved}
 

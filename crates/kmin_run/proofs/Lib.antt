@@ -1,3 +1,4 @@
+pub mod Common
 pub mod RunFailures
 pub mod BundleCuts
 pub mod QuestionEnds

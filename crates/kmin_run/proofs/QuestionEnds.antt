@@ -1,16 +1,7 @@
 -- The listing of questions: its end at a write, and its last lines.
-use Rattle.std.proofs.Common.{◌≡◌, ℕ, List, [], ◌∷◌, ◌++◌, Ok, Vec, refl, sym, ap, subst}
-use Rattle.std.specs.List.{flat_map}
-use Rattle.std.specs.declared.alloc.Global.{Global}
-use Rattle.kc_files.specs.TextViews.{items_of}
-use Rattle.kmin_options.specs.Jobs.{Questions}
-use Rattle.kmin_report.specs.declared.run_error.RunError.{RunError}
-use Rattle.kmin_inputs.specs.FileContents.{Surroundings}
-use Rattle.kmin_report.specs.Reports.{ErrorLine, last_lines, output_line}
-use Rattle.kmin_report.specs.StandardError.{SpelledBytes, TakesLines}
-use Rattle.kmin_expansions.specs.WantedQuestions.{AreAsked, StopsWanting, at_write, question_line, questions_text}
-use Rattle.kmin_report.specs.between.RunErrors.{status_of}
-use Rattle.kmin_report.proofs.WriterLemmas.{lines_append}
+use Rattle.kmin_run.proofs.Common.{◌≡◌, ℕ, List, [], ◌∷◌, ◌++◌, Ok, Vec, refl, sym, ap, subst, flat_map, Global, items_of, Questions, RunError, Surroundings,
+    ErrorLine, last_lines, output_line, SpelledBytes, TakesLines, AreAsked, StopsWanting, question_line, questions_text, status_of, lines_append}
+use Rattle.kmin_expansions.specs.WantedQuestions.{at_write}
 
 -- a run of `wants` that failed to write its output, and reported that, ends as `StopsWanting` defines, with all these lines
 pub write_stops : (known : Surroundings) (counted counted_after : ℕ) (questions : Questions) (asked : List (List ℕ)) (status : ℕ) (taken middle taken_after : SpelledBytes)

@@ -1,39 +1,34 @@
 -- Ends of runs, from what the parts of a run ensure.
-use Rattle.std.proofs.Common.{◌≡◌, ◌≢◌, ◌≤◌, ◌==◌, eqb-true, true≢false, map, Bool, false, ◌⊎◌, ℕ, true, List, [], ◌∷◌, ◌++◌, Option, Ok, length, inl, inr, refl, subst, arith, None, ap, sym, ◌∙◌, length-append}
+use Rattle.std.proofs.Common.{eqb-true, true≢false}
 use Rattle.std.proofs.lemmas.Bool.Decides.{eqb_tells}
-use Rattle.std.specs.Io.KnownBytes.{Appends}
-use Rattle.kmin_report.specs.Reports.{ErrorLine, last_lines}
-use Rattle.kmin_report.specs.StandardError.{SpelledBytes, TakesLine, TakesLines, none, one_more}
+use Rattle.kmin_run.proofs.Common.{◌≡◌, ◌≢◌, ◌≤◌, ◌==◌, map, Bool, false, ◌⊎◌, ℕ, true, List, [], ◌∷◌, ◌++◌, Option, Ok, length, inl, inr, refl, subst, arith,
+    None, ap, sym, ◌∙◌, length-append, Appends, ErrorLine, last_lines, SpelledBytes, TakesLine, TakesLines, none, lines_append, lines_one, malformed_line,
+    Represent, RunError, Tree, Configuration, Failed, Memory, status_of, Settings, Questions, Task, AreReadAs, Surroundings, TreeTexts, AreTextsOfJob, AreAsked,
+    StopsWanting, questions_text, Answer, Outputs, BundleEnds, Input}
+use Rattle.kmin_report.specs.StandardError.{one_more}
 use Rattle.kmin_texts.specs.KnownLines.{KnownLines}
 use Rattle.kmin_texts.specs.Spellings.{AskedForm, as_asked}
 use Rattle.kmin_run.specs.between.WordRuns.{FormedEnds}
 use Rattle.kmin_run.specs.between.WordRuns as formed
-use Rattle.kmin_report.proofs.WriterLemmas.{lines_append, lines_one}
 use Rattle.kc_files.specs.TreeContents.{FileContent}
 use Rattle.kmin_lines.specs.WordLines.{are_utf8}
 use Rattle.kmin_lines.specs.WordFiles.{files_of}
-use Rattle.kmin_inputs.specs.ListFiles.{StopsReadingList, too_large, unread, for_memory, malformed_line}
-use Rattle.kmin_inputs.specs.WordFiles.{AreFilesRead, Represent, StopsAtWords, is_input_read_for}
+use Rattle.kmin_inputs.specs.ListFiles.{StopsReadingList, too_large, unread, for_memory}
+use Rattle.kmin_inputs.specs.WordFiles.{AreFilesRead, StopsAtWords, is_input_read_for}
 use Rattle.kmin_inputs.specs.WordFiles as stops
-use Rattle.kmin_report.specs.declared.run_error.RunError.{RunError}
-use Rattle.kmin_report.specs.declared.run_error.RunError.TheVariants.{Tree, Configuration, Failed, Memory}
-use Rattle.kmin_report.specs.between.RunErrors.{status_of}
-use Rattle.kmin_options.specs.Jobs.{ExplainJob, Settings, Questions, Task}
-use Rattle.kmin_cli.specs.Parses.{AreParsedBeside, AreReadAs}
+use Rattle.kmin_options.specs.Jobs.{ExplainJob}
+use Rattle.kmin_cli.specs.Parses.{AreParsedBeside}
 use Rattle.kmin_cli.specs.WordOrder.{command_first}
 use Rattle.kmin_cli.specs.declared.command_line.ParsedWords.{ParsedWords}
-use Rattle.kmin_inputs.specs.FileContents.{Surroundings}
-use Rattle.kmin_expansions.specs.JobTexts.{TreeTexts, AreTextsOfJob}
-use Rattle.kmin_expansions.specs.WantedQuestions.{AreAsked, AsksInPart, StopsWanting, questions_text}
-use Rattle.kmin_outputs.specs.Outputs.{Answer}
+use Rattle.kmin_expansions.specs.WantedQuestions.{AsksInPart}
 use Rattle.kmin_explain_command.specs.Explains.{Explains}
 use Rattle.kmin_explain_command.specs.Stops.{ExplainsInPart, StopsExplaining}
 use Rattle.kmin_run.specs.PartialOutputs.{AnswersInPart}
 use Rattle.kmin_outputs.specs.Statuses.{status_of_list}
 use Rattle.kmin_outputs.specs.Stops.{Stops}
-use Rattle.kmin_run.specs.TidyRuns.{Outputs}
 use Rattle.kmin_run.specs.Runs as runs
-use Rattle.kmin_run.specs.Runs.{AreReadForChanges, AreReadForTidying, AskForChanges, AskForTidying, BundleEnds, Ends, ExplainEnds, Input, JobEnds, MayChangeFiles, QuestionsEnd, ReadEnd, WordsEnd, IsOfFault, IsTidying}
+use Rattle.kmin_run.specs.Runs.{AreReadForChanges, AreReadForTidying, AskForChanges, AskForTidying, Ends, ExplainEnds, JobEnds, MayChangeFiles, QuestionsEnd,
+    ReadEnd, WordsEnd, IsOfFault, IsTidying}
 
 -- a status is 0 or 1, or it is another one
 zero_or_one : (status : ℕ) → ((status ≡ 0) ⊎ (status ≡ 1)) ⊎ ((status ≢ 0) × (status ≢ 1))

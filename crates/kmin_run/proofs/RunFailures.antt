@@ -1,10 +1,7 @@
 -- Runs that end with the status of a failure had one.
-use Rattle.std.proofs.Common.{◌≡◌, ℕ, ◌⊎◌, List, arith}
-use Rattle.kc_files.specs.TreeContents.{HasRisen}
-use Rattle.kmin_report.specs.Reports.{ErrorLine}
-use Rattle.kmin_run.specs.Runs.{BundleEnds, HelpEnds, Input}
+use Rattle.kmin_run.proofs.Common.{◌≡◌, ℕ, ◌⊎◌, List, arith, HasRisen, ErrorLine, BundleEnds, Input, Outputs}
+use Rattle.kmin_run.specs.Runs.{HelpEnds}
 use Rattle.kmin_run.specs.Runs as runs
-use Rattle.kmin_run.specs.TidyRuns.{Outputs}
 
 -- a run on a bundle that ends with the status of a failure had one
 pub bundle_rises : (input input_after : Input) (old new : Outputs) (lines : List ErrorLine) (status : ℕ) → BundleEnds input input_after old new lines status

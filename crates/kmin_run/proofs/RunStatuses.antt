@@ -1,8 +1,5 @@
 -- Exit statuses: what follows from what a run gives.
-use Rattle.std.proofs.Common.{◌≡◌, ◌≢◌, ◌≤◌, ◌⊎◌, ℕ, inl, inr, arith}
-use Rattle.kmin_report.specs.declared.run_error.RunError.{RunError}
-use Rattle.kmin_report.specs.declared.run_error.RunError.TheVariants.{Tree, Configuration, Failed, Memory}
-use Rattle.kmin_report.specs.between.RunErrors.{status_of}
+use Rattle.kmin_run.proofs.Common.{◌≡◌, ◌≢◌, ◌≤◌, ◌⊎◌, ℕ, inl, inr, arith, RunError, Tree, Configuration, Failed, Memory, status_of}
 
 -- the status of an output, 0 or 1
 module _ (status : ℕ) (small : status ≤ 1) where

@@ -1,18 +1,9 @@
 -- Ends of commands with an output file.
-use Rattle.std.proofs.Common.{◌≡◌, ℕ, List, ◌++◌, refl, sym, ◌∙◌, subst}
+use Rattle.kmin_run.proofs.Common.{◌≡◌, ℕ, List, ◌++◌, refl, sym, ◌∙◌, subst, Disk, Settings, Task, Surroundings, TreeTexts, AreTextsOfJob, Answer, ErrorLine,
+    last_lines, SpelledBytes, TakesLines, RunError, status_of, lines_append}
 use Rattle.kmin_disk.specs.declared.fault.UpdateFault.{UpdateFault}
-use Rattle.kmin_disk.specs.Disks.{Disk}
-use Rattle.kmin_options.specs.Jobs.{Settings, Task}
-use Rattle.kmin_inputs.specs.FileContents.{Surroundings}
-use Rattle.kmin_expansions.specs.JobTexts.{TreeTexts, AreTextsOfJob}
-use Rattle.kmin_outputs.specs.Outputs.{Answer}
-use Rattle.kmin_report.specs.Reports.{ErrorLine, last_lines}
-use Rattle.kmin_report.specs.StandardError.{SpelledBytes, TakesLines}
 use Rattle.kmin_outputs.specs.Stops.{StopsBefore}
 use Rattle.kmin_run.specs.Saves.{IsUnsaved, SaveEnds, at_file, before_answer, update_lines, update_status}
-use Rattle.kmin_report.specs.declared.run_error.RunError.{RunError}
-use Rattle.kmin_report.specs.between.RunErrors.{status_of}
-use Rattle.kmin_report.proofs.WriterLemmas.{lines_append}
 
 module _ (known : Surroundings) (counted counted_after : ℕ) (settings : Settings) (task : Task) (path : List ℕ) (old new : Disk) (stop : RunError) (status : ℕ)
     (is : status ≡ status_of stop)

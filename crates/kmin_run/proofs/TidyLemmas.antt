@@ -1,32 +1,24 @@
 -- Ends of runs over files: their statuses, their lines, and where nothing is written.
-use Rattle.std.proofs.Common.{◌≡◌, ◌≢◌, ℕ, ◌≤◌, ◌⊎◌, inl, inr, List, [], ◌∷◌, ◌++◌, Option, Some, None, refl, sym, ap, ◌∙◌, subst, max, arith, codes, option_map}
+use Rattle.std.proofs.Common.{max}
 use Rattle.std.specs.Prelude.{bytes_eq, Bool, true, false}
 use Rattle.kmin_tidy.specs.Options.{TidySettings, settings_of}
-use Rattle.kmin_disk.specs.Disks.{Disk}
+use Rattle.kmin_run.proofs.Common.{◌≡◌, ◌≢◌, ℕ, ◌≤◌, ◌⊎◌, inl, inr, List, [], ◌∷◌, ◌++◌, Option, Some, None, refl, sym, ap, ◌∙◌, subst, arith, codes, option_map,
+    Disk, Appends, SpelledBytes, TakesLine, TakesLines, Surroundings, ErrorLine, last_lines, AreAccepted, TreeTexts, AreTextsOfJob, at_list, Outputs,
+    malformed_line, RunError, lines_append, lines_one, Settled, tree_of_settled, profile_of}
 use Rattle.kmin_tidy.specs.Runs.{DoneFile, status_of, status_with}
 use Rattle.kmin_tidy.specs.Ends.{Ends, whole, part, stopped, Stops, before_write, at_write, at_left}
 use Rattle.kmin_tidy.specs.declared.outcome.FileOutcome.{FileOutcome}
 use Rattle.kmin_tidy.specs.declared.outcome.FileOutcome.TheVariants.{Minimal, NotMinimal, Refused, Failed}
 use Rattle.kmin_tidy.specs.Promises.{IsKeptOrLeft, AreTidy}
-use Rattle.std.specs.Io.KnownBytes.{Appends}
-use Rattle.kmin_report.specs.StandardError.{SpelledBytes, TakesLine, TakesLines}
-use Rattle.kmin_inputs.specs.FileContents.{Surroundings}
-use Rattle.kmin_report.specs.Reports.{ErrorLine, last_lines}
-use Rattle.kmin_trees.specs.AcceptedTrees.{AreAccepted}
-use Rattle.kmin_expansions.specs.JobTexts.{TreeTexts, AreTextsOfJob}
 use Rattle.kmin_trees.specs.Stops.{StopsAtTree}
-use Rattle.kmin_run.specs.TidyRuns.{AreListBytes, AreNamed, AreMalformed, StopsAtList, malformed, PathsEnd, at_tree, over_files, GoesOver, TidyEnds, at_list, over_paths, Outputs, is_ended_by_nul, listed_paths, options_of, run_settings}
-use Rattle.kmin_inputs.specs.ListFiles.{malformed_line}
-use Rattle.kmin_report.specs.declared.run_error.RunError.{RunError}
+use Rattle.kmin_run.specs.TidyRuns.{AreListBytes, AreNamed, AreMalformed, StopsAtList, malformed, PathsEnd, at_tree, over_files, GoesOver, TidyEnds, over_paths,
+    is_ended_by_nul, listed_paths, options_of, run_settings}
 use Rattle.kmin_report.specs.between.RunErrors as errors
-use Rattle.kmin_report.proofs.WriterLemmas.{lines_append, lines_one}
 use Rattle.kmin_lines.specs.Lists.{paths_in}
 use Rattle.kmin_tidy.specs.declared.options.TidyOptions.{TidyOptions}
 use Rattle.kmin_options.specs.declared.job.TidyFlags.{TidyFlags}
 use Rattle.kmin_options.specs.Jobs as jobs
 use Rattle.kmin_options.specs.Jobs.{TidyJob}
-use Rattle.kc_rules.specs.declared.rules.Settled.{Settled}
-use Rattle.kc_rules.specs.between.SettledViews.{tree_of_settled, profile_of}
 use Rattle.kc_dotconfig_model.specs.declared.format.Format.{Format}
 use Rattle.kc_dotconfig_model.specs.between.Formats.{file_format}
 

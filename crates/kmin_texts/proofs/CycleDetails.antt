@@ -1,12 +1,10 @@
 -- The detail of a cycle.
-use Rattle.std.proofs.Common.{◌≡◌, ℕ, List, map, Option, Some, ap, sym, ◌∙◌}
+use Rattle.kmin_texts.proofs.Common.{◌≡◌, ℕ, List, map, Option, Some, ap, sym, ◌∙◌, step_of, Detail, of_cycle}
 use Rattle.kc_tree_model.specs.Trees.{Tree}
 use Rattle.kmin_faults.specs.Cycles.{Step, cycle_steps, unit_names}
-use Rattle.kmin_faults.specs.between.Steps.{step_of}
 use Rattle.kmin_faults.specs.declared.steps.Step.{Step as CodeStep}
-use Rattle.kmin_report.specs.StandardError.{Detail}
 use Rattle.kmin_report.proofs.Lists.{map_twice}
-use Rattle.kmin_texts.specs.LineDetails.{of_cycle, of_steps}
+use Rattle.kmin_texts.specs.LineDetails.{of_steps}
 use Rattle.kmin_details.specs.Texts.{cycle_text}
 
 module _ (tree : Tree) (units : List ℕ) (names : List (List ℕ)) (are : names ≡ unit_names tree units) (found : Option (List Step))

@@ -1,21 +1,19 @@
 -- The details of faults, by their lines.
-use Rattle.std.proofs.Common.{◌≡◌, inl, inr, ℕ, Bool, true, false, ◌||◌, ◌==◌, cond, List, [], ◌∷◌, Option, Some, None, Result, Ok, Err, IfOk, refl, sym, ap, subst}
-use Rattle.std.specs.List.{flat_map}
+use Rattle.std.proofs.Common.{Result, IfOk}
+use Rattle.kmin_texts.proofs.Common.{◌≡◌, inl, inr, ℕ, Bool, true, false, ◌||◌, ◌==◌, cond, List, [], ◌∷◌, Option, Some, None, Ok, Err, refl, sym, ap, subst,
+    flat_map, TooMany, Detail, KnownFile, is_given, is_of_macro_fault, is_of_missing, is_one_of, never, no_detail, of_line, on_expanded_line, sourced_on, unread,
+    line_at, Unreadable, FailedRead, MayBe, kept_detail}
 use Rattle.std.specs.Str.Lossy.{utf8_lossy}
 use Rattle.kc_tokens.specs.declared.language.Language.{Language}
 use Rattle.kc_macros_model.specs.Programs.{Fault}
-use Rattle.kc_macros_model.specs.declared.fault.MacroKind.TheVariants.{TooMany}
-use Rattle.kmin_report.specs.StandardError.{Detail}
 use Rattle.kmin_faults.specs.SourcedPaths.{is_open}
 use Rattle.kmin_faults.specs.declared.passed_limits.Limit.TheVariants.{TreeBytes}
-use Rattle.kmin_texts.specs.KnownLines.{KnownFile, MayBeReason, MayBeUnread}
-use Rattle.kmin_texts.specs.LineDetails.{has_macro, is_given, is_of_macro_fault, is_of_missing, is_one_of, never, no_detail, of_limit, of_line, on_expanded_line, path_details, reasons, sourced, sourced_on, unread, words}
-use Rattle.kmin_texts.specs.NumberedLines.{line_at}
+use Rattle.kmin_texts.specs.KnownLines.{MayBeReason, MayBeUnread}
+use Rattle.kmin_texts.specs.LineDetails.{has_macro, of_limit, path_details, reasons, sourced, words}
 use Rattle.kmin_details.specs.Texts.{missing_text, unreadable_text}
-use Rattle.kmin_details.specs.declared.places.Unreadable.{Unreadable}
-use Rattle.kmin_details.specs.declared.places.Unreadable.TheVariants.{NotThere, NoPermission, Folder, FailedRead}
+use Rattle.kmin_details.specs.declared.places.Unreadable.TheVariants.{NotThere, NoPermission, Folder}
 use Rattle.kmin_texts.specs.declared.kept_details.KeptDetail.{KeptDetail}
-use Rattle.kmin_texts.specs.between.KeptDetails.{HasMacroAt, MayBe, kept_detail, hidden_kept}
+use Rattle.kmin_texts.specs.between.KeptDetails.{HasMacroAt, hidden_kept}
 use Rattle.kmin_texts.proofs.OwnDetails.{first_one, later_one}
 
 -- words of a line

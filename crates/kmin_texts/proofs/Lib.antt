@@ -1,3 +1,4 @@
+pub mod Common
 pub mod NumberedLines
 pub mod OwnDetails
 pub mod FaultSteps

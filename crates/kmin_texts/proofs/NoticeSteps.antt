@@ -1,20 +1,17 @@
 -- The details of notices, by their lines.
-use Rattle.std.proofs.Common.{◌≡◌, ◌⊎◌, inl, inr, ℕ, Bool, true, false, ◌&&◌, List, [], ◌∷◌, Option, Some, None, refl, sym, ap, subst, ◌∙◌}
+use Rattle.std.proofs.Common.{◌⊎◌}
 use Rattle.std.specs.Prelude.{IfSome, IfNone, option_map}
-use Rattle.std.specs.Borrow.{Bor}
+use Rattle.kmin_texts.proofs.Common.{◌≡◌, inl, inr, ℕ, Bool, true, false, ◌&&◌, List, [], ◌∷◌, Option, Some, None, refl, sym, ap, subst, ◌∙◌, Bor, Detail,
+    IsLineOf, KnownFile, is_one_of, never, no_detail, of_line, utf8_line, MayBe, nearest_detail}
 use Rattle.std.proofs.lemmas.Bool.{false≢true}
 use Rattle.kc_tree_model.specs.LogicalLines.{without_white_end}
 use Rattle.kc_dotconfig_model.specs.between.LineMeanings.{value_parts}
 use Rattle.kc_dotconfig_model.specs.declared.notice.NoticeKind.{NoticeKind}
 use Rattle.kc_dotconfig_model.specs.declared.notice.NoticeKind.TheVariants as notices
-use Rattle.kmin_report.specs.StandardError.{Detail}
-use Rattle.kmin_texts.specs.KnownLines.{IsLineOf, KnownFile}
-use Rattle.kmin_texts.specs.LineDetails.{is_of_kind, is_of_notice, is_of_unknown, is_one_of, never, no_detail, of_line, of_unknown, of_value, on_notice_line, on_noticed, unknown, value}
+use Rattle.kmin_texts.specs.LineDetails.{is_of_kind, is_of_notice, is_of_unknown, of_unknown, of_value, on_notice_line, on_noticed, unknown, value}
 use Rattle.kmin_details.specs.NearNames.{nearest}
-use Rattle.kmin_texts.specs.NumberedLines.{utf8_line}
-use Rattle.kmin_texts.specs.between.KeptDetails.{MayBe}
 use Rattle.kmin_details.specs.between.NamedSymbols.{first_name, hidden_text, name_text, named_on, notice_names, notice_text, one_name, parts_text}
-use Rattle.kmin_texts.specs.between.NoticeDetails.{hidden_detail, is_noticed_on, nearest_detail}
+use Rattle.kmin_texts.specs.between.NoticeDetails.{hidden_detail, is_noticed_on}
 use Rattle.kmin_texts.proofs.OwnDetails.{by_line, first_one, later_one}
 
 -- two tests that a detail passes

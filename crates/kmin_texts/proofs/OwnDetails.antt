@@ -1,20 +1,16 @@
 -- Details that are those of lines.
-use Rattle.std.proofs.Common.{◌≡◌, inl, inr, ℕ, Bool, true, false, ◌||◌, ◌&&◌, cond, List, [], ◌∷◌, Option, Some, None, Ok, Err, refl, sym, ap, subst, ◌∙◌}
+use Rattle.kmin_texts.proofs.Common.{◌≡◌, inl, inr, ℕ, Bool, true, false, ◌||◌, ◌&&◌, cond, List, [], ◌∷◌, Option, Some, None, Ok, Err, refl, sym, ap, subst,
+    ◌∙◌, Detail, IsLineOf, KnownFile, is_given, is_one_of, no_detail, line_at, Unreadable, FailedRead, MayBe, IsDetailOf}
 use Rattle.std.specs.Prelude.{bytes_eq}
 use Rattle.std.proofs.Math.Bool.{or-true}
 use Rattle.std.proofs.lemmas.Slice.Eq.{bytes_eq-Decides}
 use Rattle.kmin_messages.specs.ShownTexts.{shown}
 use Rattle.kmin_report.specs.Reports.{ErrorLine}
-use Rattle.kmin_report.specs.StandardError.{Detail}
-use Rattle.kmin_texts.specs.KnownLines.{IsLineOf, KnownFile, KnownLines}
-use Rattle.kmin_texts.specs.LineDetails.{are_same_names, is_detail_of, is_given, is_one_of, is_same_detail, no_detail}
-use Rattle.kmin_texts.specs.NumberedLines.{line_at}
+use Rattle.kmin_texts.specs.KnownLines.{KnownLines}
+use Rattle.kmin_texts.specs.LineDetails.{are_same_names, is_detail_of, is_same_detail}
 use Rattle.kmin_details.specs.ReportMessages.{line_in}
 use Rattle.kmin_texts.specs.Spellings.{AskedForm}
-use Rattle.kmin_details.specs.declared.places.Unreadable.{Unreadable}
-use Rattle.kmin_details.specs.declared.places.Unreadable.TheVariants.{FailedRead}
-use Rattle.kmin_texts.specs.between.KeptDetails.{MayBe}
-use Rattle.kmin_texts.specs.between.Wordings.{IsDetailOf, IsSpelled}
+use Rattle.kmin_texts.specs.between.Wordings.{IsSpelled}
 
 -- each detail is the same as itself
 same_names : (xs : List (List ℕ)) → are_same_names xs xs ≡ true

@@ -1,6 +1,5 @@
-use Rattle.std.proofs.Common.{sym, arith}
-use Rattle.std.proofs.lemmas.List.{length-take-le, take_all}
-use Rattle.kc_value.specs.declared.limits.TheConstants.{MAX_ANSWER_BYTES}
+use Rattle.kc_answers.proofs.Common.{sym, arith, take_all, MAX_ANSWER_BYTES}
+use Rattle.std.proofs.lemmas.List.{length-take-le}
 use Rattle.kc_answers.proofs.answer_files.within_size.Goals as goal
 
 pub slice_bounds-result-end : goal.slice_bounds-result-end

@@ -1,9 +1,5 @@
-use Rattle.std.proofs.Common.{◌∙◌, ap, inl, inr, ⊎_elim, arith, ◌+◌, ◌≤◌}
+use Rattle.kc_answers.proofs.Common.{◌∙◌, ap, inl, inr, ⊎_elim, arith, ◌+◌, ◌≤◌, MAX_ANSWER_LINES, recorded_from, end_of_file, bytes_of, lines_view}
 use Rattle.std.proofs.lemmas.Result.{err_from_is_err_and}
-use Rattle.kc_value.specs.declared.limits.TheConstants.{MAX_ANSWER_LINES}
-use Rattle.kc_macros_model.specs.AnswerFiles.{recorded_from}
-use Rattle.kc_answers.specs.ReadAnswers.{end_of_file}
-use Rattle.kc_answers.specs.checker.LinesView.{bytes_of, lines_view}
 use Rattle.kc_answers.proofs.RecordLemmas.{last_line_split, one_recorded, one_refused, begins_with}
 use Rattle.kc_answers.proofs.file_records.record_lines.Goals as goal
 

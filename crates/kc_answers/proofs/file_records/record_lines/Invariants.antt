@@ -1,9 +1,4 @@
-use Rattle.std.proofs.Common.{◌≡◌, ◌≤◌, length, take}
-use Rattle.kc_value.specs.declared.limits.TheConstants.{MAX_ANSWER_LINES}
-use Rattle.kc_tree_model.specs.LogicalLines.{split_at_newlines}
-use Rattle.kc_macros_model.specs.AnswerFiles.{first_line, recorded_from}
-use Rattle.kc_answers.specs.ReadAnswers.{end_of_file}
-use Rattle.kc_answers.specs.checker.LinesView.{bytes_of, lines_view}
+use Rattle.kc_answers.proofs.Common.{◌≡◌, ◌≤◌, length, take, MAX_ANSWER_LINES, split_at_newlines, first_line, recorded_from, end_of_file, bytes_of, lines_view}
 use Rattle.kc_answers.proofs.file_records.record_lines.Given as goal
 
 -- the lines of the file before `rest` are recorded in the table

@@ -1,6 +1,4 @@
-use Rattle.std.proofs.Common.{◌∙◌, ap, sym}
-use Rattle.kc_macros_model.specs.AnswerFiles.{meaning_of_line, with_meaning}
-use Rattle.kc_answers.specs.checker.LinesView.{bytes_of, lines_view}
+use Rattle.kc_answers.proofs.Common.{◌∙◌, ap, sym, meaning_of_line, with_meaning, bytes_of, lines_view}
 use Rattle.kc_answers.proofs.RecordLemmas.{line_recorded}
 use Rattle.kc_answers.proofs.line_records.record_line.Goals as goal
 

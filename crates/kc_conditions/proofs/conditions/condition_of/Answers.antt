@@ -1,5 +1,4 @@
-use Rattle.std.proofs.Common.{arith}
-use Rattle.std.proofs.lemmas.Grind.{common_steps, elements}
+use Rattle.kc_conditions.proofs.Common.{arith, common_steps, elements}
 use Rattle.kc_conditions.proofs.conditions.condition_of.Goals as goal
 
 pub join_optional-requires-clause-more : goal.join_optional-requires-clause-more

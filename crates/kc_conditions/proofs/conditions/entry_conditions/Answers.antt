@@ -1,6 +1,4 @@
-use Rattle.std.proofs.Common.{arith}
-use Rattle.std.proofs.lemmas.Grind.{common_steps, elements}
-use Rattle.kc_statements.proofs.ArenaGrowth.{grows_on}
+use Rattle.kc_conditions.proofs.Common.{arith, common_steps, elements, grows_on}
 use Rattle.kc_conditions.proofs.Growth.{entry_joined}
 use Rattle.kc_conditions.proofs.conditions.entry_conditions.Goals as goal
 

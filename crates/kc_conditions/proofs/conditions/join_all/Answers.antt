@@ -1,7 +1,4 @@
-use Rattle.std.proofs.Common.{arith}
-use Rattle.std.proofs.lemmas.Grind.{common_steps}
-use Rattle.kc_conditions.specs.checker.Conjunctions.{conjunct}
-use Rattle.kc_statements.proofs.ArenaGrowth.{grows_on}
+use Rattle.kc_conditions.proofs.Common.{arith, common_steps, conjunct, grows_on}
 use Rattle.kc_conditions.proofs.Growth.{conjoins_there, conjoins_own, with_more}
 use Rattle.kc_conditions.proofs.conditions.join_all.Goals as goal
 

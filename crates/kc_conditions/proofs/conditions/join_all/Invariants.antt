@@ -1,8 +1,5 @@
-use Rattle.std.proofs.Common.{◌<◌, ◌++◌, List, length, take, IfSome}
-use Rattle.kc_expr.specs.between.Arena.{Grows}
-use Rattle.kc_expr.specs.Expr.{Expr}
-use Rattle.kc_conditions.specs.checker.Conjunctions.{Conjoins}
-use Rattle.kc_conditions.specs.checker.Conjuncts.{conjunct_views}
+use Rattle.std.proofs.Common.{IfSome}
+use Rattle.kc_conditions.proofs.Common.{◌<◌, ◌++◌, List, length, take, Grows, Expr, Conjoins, conjunct_views}
 use Rattle.kc_conditions.proofs.conditions.join_all.Given as goal
 
 abbrev pub invariant-loop-line : goal.invariant-loop-line

@@ -1,6 +1,4 @@
-use Rattle.std.proofs.Common.{subst, ℕ, Option, arith}
-use Rattle.std.proofs.lemmas.Grind.{common_steps, elements}
-use Rattle.kc_conditions.specs.checker.Conjunctions.{Conjoins}
+use Rattle.kc_conditions.proofs.Common.{subst, ℕ, Option, arith, common_steps, elements, Conjoins}
 use Rattle.kc_conditions.proofs.ConjunctionLemmas.{joined}
 use Rattle.kc_conditions.proofs.conditions.join_optional.Goals as goal
 

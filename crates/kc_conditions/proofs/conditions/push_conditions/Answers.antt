@@ -1,16 +1,8 @@
-use Rattle.std.proofs.Common.{◌≡◌, ◌<◌, ℕ, List, All, get_or, subst, sym, ap, arith, length, length-append, [], ◌∷◌}
-use Rattle.std.proofs.lemmas.Grind.{common_steps}
-use Rattle.std.proofs.lemmas.List.{take_all}
-use Rattle.kc_conditions.specs.checker.Conjuncts.{AreAppended}
-use Rattle.kc_statements.proofs.ArenaGrowth.{grows_on}
+use Rattle.std.proofs.Common.{All}
+use Rattle.kc_conditions.proofs.Common.{◌≡◌, ◌<◌, ℕ, List, get_or, subst, sym, ap, arith, length, length-append, [], ◌∷◌, common_steps, take_all, AreAppended,
+    grows_on, Exprs, Grows, grows_same, LineNodesExist, AttributeNodesExist, attribute_held, represents_on}
 use Rattle.kc_conditions.proofs.Growth.{joined_on, after_more, none_after, there_on}
-use Rattle.kc_expr.specs.between.Arena.{Exprs, Grows}
-use Rattle.kc_parser.proofs.AppendSteps.{grows_same}
-use Rattle.kc_parser.specs.between.ListingView.{LineNodesExist}
 use Rattle.kc_parser.specs.declared.listing.Line.{Line as CodeLine}
-use Rattle.kc_statements.specs.between.StatementViews.{AttributeNodesExist}
-use Rattle.kc_statements.proofs.GrownArenas.{attribute_held}
-use Rattle.kc_expr.proofs.StoreLemmas.{represents_on}
 use Rattle.kc_conditions.proofs.conditions.push_conditions.Goals as goal
 
 line_held : (old mid : Exprs) (lines : List CodeLine) (k : ℕ) (d : CodeLine) → Grows old mid → All (LineNodesExist old) lines → k < length lines

@@ -1,8 +1,4 @@
-use Rattle.std.proofs.Common.{◌≡◌, ◌+◌, [], List, length, take}
-use Rattle.kc_expr.specs.between.Arena.{Grows, Represents}
-use Rattle.kc_expr.specs.Expr.{Expr}
-use Rattle.kc_tree_model.specs.Conditions.{conjunction_of}
-use Rattle.kc_conditions.specs.checker.Conjuncts.{AreJoined, AreAppended}
+use Rattle.kc_conditions.proofs.Common.{◌≡◌, ◌+◌, [], List, length, take, Grows, Represents, Expr, conjunction_of, AreJoined, AreAppended}
 use Rattle.kc_conditions.proofs.conditions.push_conditions.Given as goal
 
 abbrev pub invariant-loop-line : goal.invariant-loop-line

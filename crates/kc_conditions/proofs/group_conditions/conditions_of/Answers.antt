@@ -1,8 +1,4 @@
-use Rattle.std.proofs.Common.{◌≡◌, ◌≤◌, get_or, length, sym, subst, ap, ◌∙◌}
-use Rattle.std.specs.Prelude.{slice_range}
-use Rattle.std.proofs.lemmas.List.{get_or_read}
-use Rattle.kc_conditions.specs.between.GroupConditions.{no_conditions, conditions_at}
-use Rattle.kc_conditions.specs.declared.group_walk.GroupConditions.{GroupConditions}
+use Rattle.kc_conditions.proofs.Common.{◌≡◌, ◌≤◌, get_or, length, sym, subst, ap, ◌∙◌, slice_range, get_or_read, no_conditions, conditions_at, GroupConditions}
 use Rattle.kc_conditions.proofs.GroupConditionLemmas.{conditioned_at}
 use Rattle.kc_conditions.proofs.group_conditions.conditions_of.Goals as goal
 

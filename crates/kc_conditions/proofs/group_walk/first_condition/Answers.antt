@@ -1,5 +1,4 @@
-use Rattle.std.proofs.Common.{◌∙◌, sym, arith}
-use Rattle.std.proofs.lemmas.Grind.{common_steps}
+use Rattle.kc_conditions.proofs.Common.{◌∙◌, sym, arith, common_steps}
 use Rattle.kc_conditions.proofs.WalkSteps.{first_step}
 use Rattle.kc_conditions.proofs.group_walk.first_condition.Goals as goal
 

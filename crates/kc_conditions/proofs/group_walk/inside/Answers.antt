@@ -1,9 +1,4 @@
-use Rattle.std.proofs.Common.{◌≡◌, refl, arith}
-use Rattle.std.proofs.lemmas.Grind.{common_steps}
-use Rattle.kc_expr.specs.between.Arena.{node_expr}
-use Rattle.kc_tree_model.specs.Blocks.{of_head}
-use Rattle.kc_tree_model.specs.Statements.{choice, condition}
-use Rattle.kc_parser.proofs.AppendSteps.{grows_same}
+use Rattle.kc_conditions.proofs.Common.{◌≡◌, refl, arith, common_steps, node_expr, of_head, choice, condition, grows_same}
 use Rattle.kc_conditions.proofs.WalkSteps.{menu_inside, opens_none, source_inside}
 use Rattle.kc_conditions.proofs.group_walk.inside.Goals as goal
 

@@ -1,5 +1,4 @@
-use Rattle.std.proofs.Common.{sym, ◌∙◌}
-use Rattle.kc_parser.proofs.AppendSteps.{grows_same}
+use Rattle.kc_conditions.proofs.Common.{sym, ◌∙◌, grows_same}
 use Rattle.kc_conditions.proofs.WalkSteps.{choice_inside, through_inside}
 use Rattle.kc_conditions.proofs.group_walk.inside_choice.Goals as goal
 

@@ -1,5 +1,4 @@
-use Rattle.kc_expr.proofs.StoreLemmas.{represents_on}
-use Rattle.kc_statements.proofs.ArenaGrowth.{grows_on}
+use Rattle.kc_conditions.proofs.Common.{represents_on, grows_on}
 use Rattle.kc_conditions.proofs.group_walk.yes_and_no.Goals as goal
 
 pub returns-in_err-no-clause-grows : goal.returns-in_err-no-clause-grows

@@ -1,16 +1,10 @@
-use Rattle.std.proofs.Common.{◌≡◌, ◌-◌, length, get_or, drop, map, ap, sym, subst, ◌∙◌, arith}
-use Rattle.std.proofs.lemmas.Grind.{common_steps}
-use Rattle.std.specs.Prelude.{All, slice_range}
-use Rattle.std.proofs.lemmas.List.{get_or_read}
+use Rattle.kc_conditions.proofs.Common.{◌≡◌, ◌-◌, length, get_or, drop, map, ap, sym, subst, ◌∙◌, arith, common_steps, All, slice_range, get_or_read,
+    LineNodesExist, RepresentsHead, line_in, GroupHeadNodesExist, read_before, HasWalked, grows_on}
 use Rattle.std.proofs.lemmas.List.Elements.{All-take, All-drop}
 use Rattle.kc_parser.specs.declared.listing.Group.{Group as CodeGroup}
-use Rattle.kc_parser.specs.between.ListingView.{LineNodesExist, RepresentsHead, line_in}
 use Rattle.kc_parser.proofs.ListingGrowth.{lines_held}
-use Rattle.kc_conditions.specs.between.Firsts.{GroupHeadNodesExist}
-use Rattle.kc_checks.specs.between.Summaries.{no_group, group_at, attributes_end, read_before}
-use Rattle.kc_conditions.specs.between.Walks.{HasWalked}
+use Rattle.kc_checks.specs.between.Summaries.{no_group, group_at, attributes_end}
 use Rattle.kc_checks.proofs.GroupPlaces.{shown_at, count_is, none_before, all_before}
-use Rattle.kc_statements.proofs.ArenaGrowth.{grows_on}
 use Rattle.kc_conditions.proofs.WalkSteps.{what_on, what_held, lines_kept}
 use Rattle.kc_conditions.proofs.listing_walk.walk_through.Goals as goal
 

@@ -1,9 +1,5 @@
-use Rattle.std.proofs.Common.{ℕ, List, length, reverse}
-use Rattle.kc_expr.specs.between.Arena.{Grows}
+use Rattle.kc_conditions.proofs.Common.{ℕ, List, length, reverse, Grows, Group, read_before, HasWalked}
 use Rattle.kc_parser.specs.between.ListingView.{RepresentsGroups}
-use Rattle.kc_tree_model.specs.Blocks.{Group}
-use Rattle.kc_checks.specs.between.Summaries.{read_before}
-use Rattle.kc_conditions.specs.between.Walks.{HasWalked}
 use Rattle.kc_conditions.proofs.listing_walk.walk_through.Given as goal
 
 abbrev pub invariant-loop-i : goal.invariant-loop-i

@@ -1,10 +1,5 @@
-use Rattle.std.proofs.Common.{◌≡◌, ◌++◌, ℕ, List, length, take, ◌∙◌, ap, arith}
-use Rattle.std.proofs.lemmas.Grind.{common_steps}
-use Rattle.std.specs.Prelude.{filter, is_none}
-use Rattle.std.proofs.Math.Seq.{take-length, take-append_seam}
-use Rattle.kc_solver.specs.Solutions.{user_of}
-use Rattle.kc_rules_model.specs.declared.values.UserValue.{UserValue}
-use Rattle.kc_dotconfig.specs.checker.UserValueOrder.{units_of}
+use Rattle.kc_config.proofs.Common.{◌≡◌, ◌++◌, ℕ, List, length, take, ◌∙◌, ap, arith, common_steps, filter, is_none, take-length, user_of, UserValue, units_of}
+use Rattle.std.proofs.Math.Seq.{take-append_seam}
 use Rattle.kc_config.proofs.changes.merge_units.Goals as goal
 
 pub returns-in_err-push-clause-kept : goal.returns-in_err-push-clause-kept

@@ -1,7 +1,5 @@
-use Rattle.std.proofs.Common.{◌≡◌, ◌++◌, take, filter}
-use Rattle.std.specs.Prelude.{is_none}
-use Rattle.kc_solver.specs.Solutions.{user_of}
-use Rattle.kc_dotconfig.specs.checker.UserValueOrder.{units_of}
+use Rattle.std.proofs.Common.{filter}
+use Rattle.kc_config.proofs.Common.{◌≡◌, ◌++◌, take, is_none, user_of, units_of}
 use Rattle.kc_config.proofs.changes.merge_units.Given as goal
 
 abbrev pub invariant-loop-unit : goal.invariant-loop-unit

@@ -1,7 +1,4 @@
-use Rattle.std.proofs.Common.{◌≡◌, ◌++◌, ℕ, List, length, take, ◌∙◌, ap, arith}
-use Rattle.std.proofs.lemmas.Grind.{common_steps}
-use Rattle.std.proofs.Math.Seq.{take-length}
-use Rattle.kc_config.specs.checker.Configs.{clears_of}
+use Rattle.kc_config.proofs.Common.{◌≡◌, ◌++◌, ℕ, List, length, take, ◌∙◌, ap, arith, common_steps, take-length, clears_of}
 use Rattle.kc_config.proofs.changes.push_cleared.Goals as goal
 
 pub returns : goal.returns

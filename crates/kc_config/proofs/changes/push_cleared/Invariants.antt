@@ -1,5 +1,4 @@
-use Rattle.std.proofs.Common.{◌≡◌, ◌++◌, take}
-use Rattle.kc_config.specs.checker.Configs.{clears_of}
+use Rattle.kc_config.proofs.Common.{◌≡◌, ◌++◌, take, clears_of}
 use Rattle.kc_config.proofs.changes.push_cleared.Given as goal
 
 abbrev pub invariant-loop-unit : goal.invariant-loop-unit

@@ -1,8 +1,5 @@
-use Rattle.std.proofs.Common.{◌≡◌, ◌++◌, ◌∷◌, ◌∙◌, ℕ, [], Some, length, take, sym, ap, append_assoc, arith}
-use Rattle.std.proofs.Math.Seq.{take-length}
-use Rattle.std.proofs.lemmas.List.{map-append, take_more}
-use Rattle.kc_rules_model.specs.declared.values.UserValue.{UserValue}
-use Rattle.kc_dotconfig.specs.Fragments.{changes_of}
+use Rattle.kc_config.proofs.Common.{◌≡◌, ◌++◌, ◌∷◌, ◌∙◌, ℕ, [], Some, length, take, sym, ap, append_assoc, arith, take-length, map-append, take_more, UserValue,
+    changes_of}
 use Rattle.kc_config.proofs.changes.push_users.Goals as goal
 
 pub loop-unit-preserved : goal.loop-unit-preserved

@@ -1,5 +1,4 @@
-use Rattle.std.proofs.Common.{◌≡◌, ◌++◌, take}
-use Rattle.kc_dotconfig.specs.Fragments.{changes_of}
+use Rattle.kc_config.proofs.Common.{◌≡◌, ◌++◌, take, changes_of}
 use Rattle.kc_config.proofs.changes.push_users.Given as goal
 
 abbrev pub invariant-loop-unit : goal.invariant-loop-unit

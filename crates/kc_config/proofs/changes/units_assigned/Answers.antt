@@ -1,8 +1,4 @@
-use Rattle.std.proofs.Common.{◌≡◌, ◌++◌, ◌∷◌, ◌∙◌, ℕ, [], length, take, sym, ap, arith}
-use Rattle.std.proofs.Math.Seq.{take-length}
-use Rattle.std.proofs.lemmas.List.{map-append, take_more}
-use Rattle.kc_rules_model.specs.declared.values.UserValue.{UserValue}
-use Rattle.kc_dotconfig.specs.checker.UserValueOrder.{units_of}
+use Rattle.kc_config.proofs.Common.{◌≡◌, ◌++◌, ◌∷◌, ◌∙◌, ℕ, [], length, take, sym, ap, arith, take-length, map-append, take_more, UserValue, units_of}
 use Rattle.kc_config.proofs.changes.units_assigned.Goals as goal
 
 pub loop-unit-preserved : goal.loop-unit-preserved

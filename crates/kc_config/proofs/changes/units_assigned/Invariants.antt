@@ -1,5 +1,4 @@
-use Rattle.std.proofs.Common.{◌≡◌, take}
-use Rattle.kc_dotconfig.specs.checker.UserValueOrder.{units_of}
+use Rattle.kc_config.proofs.Common.{◌≡◌, take, units_of}
 use Rattle.kc_config.proofs.changes.units_assigned.Given as goal
 
 abbrev pub invariant-loop-unit : goal.invariant-loop-unit

@@ -1,9 +1,6 @@
-use Rattle.std.proofs.Common.{◌++◌, ◌∷◌, [], List, Option, None, Some, replicate, slice_set, take, sym, ap, ◌∙◌, arith}
-use Rattle.std.proofs.lemmas.Grind.{common_steps, elements}
-use Rattle.std.proofs.lemmas.List.{take_more, length-set}
-use Rattle.kc_solver.specs.Changes.{changed_users}
-use Rattle.kc_rules_model.specs.declared.values.UserValue.{UserValue}
-use Rattle.kc_dotconfig.specs.Fragments.{changes_of}
+use Rattle.std.proofs.Common.{slice_set}
+use Rattle.kc_config.proofs.Common.{◌++◌, ◌∷◌, [], List, Option, None, Some, replicate, take, sym, ap, ◌∙◌, arith, common_steps, elements, take_more, length-set,
+    changed_users, UserValue, changes_of}
 use Rattle.kc_config.proofs.UserValueUnits.{assigned_push}
 use Rattle.kc_config.proofs.changes.users_assigned.Goals as goal
 

@@ -1,6 +1,5 @@
-use Rattle.std.proofs.Common.{◌≡◌, ◌≤◌, None, replicate, length, take}
-use Rattle.kc_solver.specs.Changes.{changed_users}
-use Rattle.kc_dotconfig.specs.Fragments.{changes_of}
+use Rattle.std.proofs.Common.{◌≤◌}
+use Rattle.kc_config.proofs.Common.{◌≡◌, None, replicate, length, take, changed_users, changes_of}
 use Rattle.kc_config.proofs.changes.users_assigned.Given as goal
 
 abbrev pub invariant-loop-unit : goal.invariant-loop-unit

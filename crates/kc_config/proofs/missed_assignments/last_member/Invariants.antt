@@ -1,5 +1,4 @@
-use Rattle.std.proofs.Common.{◌≡◌, true, None, drop}
-use Rattle.kc_rules_model.specs.MemberLines.{last_y}
+use Rattle.kc_config.proofs.Common.{◌≡◌, true, None, drop, last_y}
 use Rattle.kc_config.proofs.missed_assignments.last_member.Given as goal
 
 abbrev pub invariant-loop-i : goal.invariant-loop-i

@@ -1,5 +1,4 @@
-use Rattle.std.proofs.Common.{◌≡◌, ◌∷◌, ◌++◌, [], sym, ◌∙◌}
-use Rattle.kc_dotconfig_model.specs.MissedAssignments.{is_missed}
+use Rattle.kc_config.proofs.Common.{◌≡◌, ◌∷◌, ◌++◌, [], sym, ◌∙◌, is_missed}
 use Rattle.kc_rules.proofs.Filters.{filter_kept, filter_skipped}
 use Rattle.kc_config.proofs.missed_assignments.missed_symbols.Goals as goal
 use Rattle.kc_config.proofs.missed_assignments.missed_symbols.Goals.{then-is_missed+in_ok-push, else-is_missed}

@@ -1,6 +1,5 @@
-use Rattle.std.proofs.Common.{◌≡◌, not, filter, take}
-use Rattle.kc_rules_model.specs.declared.values.MemberLine.{MemberLine}
-use Rattle.kc_rules_model.specs.MemberLines.{is_listed}
+use Rattle.std.proofs.Common.{not, filter}
+use Rattle.kc_config.proofs.Common.{◌≡◌, take, MemberLine, is_listed}
 use Rattle.kc_config.proofs.overlaid.laid_over.Given as goal
 
 abbrev pub invariant-loop-line : goal.invariant-loop-line

@@ -1,7 +1,5 @@
-use Rattle.std.proofs.Common.{◌≡◌, ℕ, take}
+use Rattle.kc_config.proofs.Common.{◌≡◌, ℕ, take, nat_cmp, is_listed}
 use Rattle.std.specs.BTreeSet.{contains}
-use Rattle.std.specs.Ordering.{nat_cmp}
-use Rattle.kc_rules_model.specs.MemberLines.{is_listed}
 use Rattle.kc_config.proofs.overlaid.listed_members.Given as goal
 
 abbrev pub invariant-loop-line : goal.invariant-loop-line

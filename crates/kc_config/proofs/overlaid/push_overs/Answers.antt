@@ -1,10 +1,5 @@
-use Rattle.std.proofs.Common.{◌≡◌, ◌++◌, ◌∷◌, ◌∙◌, [], Some, length, take, sym, ap, append_assoc, arith}
-use Rattle.std.proofs.Math.Seq.{take-length}
-use Rattle.std.proofs.lemmas.List.{take_more}
-use Rattle.kc_solver.specs.Solutions.{user_of}
-use Rattle.kc_dotconfig_model.specs.ConfigFiles.{over}
-use Rattle.kc_dotconfig.specs.Fragments.{changes_of}
-use Rattle.kc_config.specs.checker.Configs.{overs}
+use Rattle.kc_config.proofs.Common.{◌≡◌, ◌++◌, ◌∷◌, ◌∙◌, [], Some, length, take, sym, ap, append_assoc, arith, take-length, take_more, user_of, over, changes_of,
+    overs}
 use Rattle.kc_config.proofs.MergedValues.{overs_push}
 use Rattle.kc_config.proofs.overlaid.push_overs.Goals as goal
 

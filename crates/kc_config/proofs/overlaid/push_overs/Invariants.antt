@@ -1,6 +1,4 @@
-use Rattle.std.proofs.Common.{◌≡◌, ◌++◌, take}
-use Rattle.kc_dotconfig.specs.Fragments.{changes_of}
-use Rattle.kc_config.specs.checker.Configs.{overs}
+use Rattle.kc_config.proofs.Common.{◌≡◌, ◌++◌, take, changes_of, overs}
 use Rattle.kc_config.proofs.overlaid.push_overs.Given as goal
 
 abbrev pub invariant-loop-unit : goal.invariant-loop-unit

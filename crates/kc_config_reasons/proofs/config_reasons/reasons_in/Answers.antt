@@ -1,9 +1,4 @@
-use Rattle.std.proofs.Common.{◌≡◌, ap, ◌∙◌}
-use Rattle.std.specs.Option.{option_copied}
-use Rattle.kc_solver.specs.Solutions.{user_of}
-use Rattle.kc_tree.specs.TreeModel.{TreeModel}
-use Rattle.kc_tree_model.specs.TreeLookup.{unit_of}
-use Rattle.kc_rules.specs.between.SettledViews.{tree_model_of, profile_of}
+use Rattle.kc_config_reasons.proofs.Common.{◌≡◌, ap, ◌∙◌, option_copied, user_of, TreeModel, unit_of, tree_model_of, profile_of}
 use Rattle.kc_config_reasons.proofs.ReasonsHold.{unit_inside, all_hold}
 use Rattle.kc_config_reasons.proofs.config_reasons.reasons_in.Goals as goal
 

@@ -1,8 +1,6 @@
-use Rattle.std.proofs.Common.{ap, sym, subst, ◌∙◌}
+use Rattle.kc_config_reasons.proofs.Common.{ap, sym, subst, ◌∙◌, user_of, tree_in}
 use Rattle.std.specs.Prelude.{IfSome, IsTrue}
-use Rattle.kc_solver.specs.Solutions.{user_of}
 use Rattle.kc_rules_model.specs.Shapes.{user_fits}
-use Rattle.kc_config.specs.ConfigStates.{tree_in}
 use Rattle.kc_config_reasons.proofs.config_reasons.user_in.Goals as goal
 
 pub returns-clause-fits : goal.returns-clause-fits

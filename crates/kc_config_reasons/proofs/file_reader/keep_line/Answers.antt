@@ -1,5 +1,4 @@
-use Rattle.kc_rules.specs.between.SettledViews.{tree_of_settled}
-use Rattle.kc_dotconfig_model.specs.between.Formats.{file_format}
+use Rattle.kc_config_reasons.proofs.Common.{tree_of_settled, file_format}
 use Rattle.kc_config_reasons.proofs.LineReads.{keeps_read, none_read, no_utf8}
 use Rattle.kc_config_reasons.proofs.file_reader.keep_line.Goals as goal
 

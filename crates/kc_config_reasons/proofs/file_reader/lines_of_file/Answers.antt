@@ -1,6 +1,4 @@
-use Rattle.std.proofs.Common.{◌+◌, refl, arith}
-use Rattle.kc_rules.specs.between.SettledViews.{tree_of_settled}
-use Rattle.kc_dotconfig_model.specs.between.Formats.{file_format}
+use Rattle.kc_config_reasons.proofs.Common.{◌+◌, refl, arith, tree_of_settled, file_format}
 use Rattle.kc_config_reasons.proofs.FileSteps.{leads_at_first, leads_on, leads_to_end}
 use Rattle.kc_config_reasons.proofs.file_reader.lines_of_file.Goals as goal
 

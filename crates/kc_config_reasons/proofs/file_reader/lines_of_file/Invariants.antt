@@ -1,6 +1,5 @@
-use Rattle.std.proofs.Common.{◌+◌, ◌≤◌, length}
-use Rattle.kc_rules.specs.between.SettledViews.{tree_of_settled}
-use Rattle.kc_dotconfig_model.specs.between.Formats.{file_format}
+use Rattle.std.proofs.Common.{◌≤◌}
+use Rattle.kc_config_reasons.proofs.Common.{◌+◌, length, tree_of_settled, file_format}
 use Rattle.kc_config_reasons.proofs.FileSteps.{Leads}
 use Rattle.kc_config_reasons.proofs.file_reader.lines_of_file.Given as goal
 

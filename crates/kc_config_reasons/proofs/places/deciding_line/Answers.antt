@@ -1,6 +1,4 @@
-use Rattle.std.proofs.Common.{◌≡◌, ◌-◌, suc, ap, sym, ◌∙◌, None, drop, arith}
-use Rattle.kc_reasons_model.specs.AssigningLines.{assigning_place}
-use Rattle.kc_config_reasons.specs.checker.PlaceSteps.{place_kept}
+use Rattle.kc_config_reasons.proofs.Common.{◌≡◌, ◌-◌, suc, ap, sym, ◌∙◌, None, drop, arith, assigning_place, place_kept}
 use Rattle.kc_config_reasons.proofs.PlaceLaws.{place_is, found_at, none_at, none_behind}
 use Rattle.kc_config_reasons.proofs.places.deciding_line.Goals as goal
 

@@ -1,5 +1,4 @@
-use Rattle.std.proofs.Common.{◌≡◌, None, drop}
-use Rattle.kc_config_reasons.specs.checker.PlaceSteps.{place_kept}
+use Rattle.kc_config_reasons.proofs.Common.{◌≡◌, None, drop, place_kept}
 use Rattle.kc_config_reasons.proofs.places.deciding_line.Given as goal
 
 abbrev pub invariant-loop-file : goal.invariant-loop-file

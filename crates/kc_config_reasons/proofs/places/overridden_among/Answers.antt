@@ -1,6 +1,4 @@
-use Rattle.std.proofs.Common.{◌≡◌, ◌-◌, suc, map, drop, ap, ◌∙◌, get_or, arith}
-use Rattle.kc_reasons_model.specs.OverriddenLines.{overridden}
-use Rattle.kc_config_reasons.specs.between.Places.{place_view, file_numbers}
+use Rattle.kc_config_reasons.proofs.Common.{◌≡◌, ◌-◌, suc, map, drop, ap, ◌∙◌, get_or, arith, overridden, place_view, file_numbers}
 use Rattle.kc_config_reasons.proofs.PlaceLaws.{more_overridden}
 use Rattle.kc_config_reasons.proofs.places.overridden_among.Goals as goal
 

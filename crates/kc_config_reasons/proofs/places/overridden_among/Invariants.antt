@@ -1,8 +1,4 @@
-use Rattle.std.proofs.Common.{◌≡◌, map, drop}
-use Rattle.std.specs.Prelude.{reverse}
-use Rattle.kc_reasons_model.specs.OverriddenLines.{overridden}
-use Rattle.kc_config_reasons.specs.between.Places.{place_view, file_numbers}
-use Rattle.kc_config_reasons.specs.checker.PlaceSteps.{file_asking_otherwise}
+use Rattle.kc_config_reasons.proofs.Common.{◌≡◌, map, drop, reverse, overridden, place_view, file_numbers, file_asking_otherwise}
 use Rattle.kc_config_reasons.proofs.places.overridden_among.Given as goal
 
 abbrev pub invariant-loop-i : goal.invariant-loop-i

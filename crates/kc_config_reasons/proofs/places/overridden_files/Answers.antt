@@ -1,5 +1,4 @@
-use Rattle.std.proofs.Common.{sym, map}
-use Rattle.kc_config_reasons.specs.between.Places.{place_view}
+use Rattle.kc_config_reasons.proofs.Common.{sym, map, place_view}
 use Rattle.kc_config_reasons.proofs.PlaceLaws.{all_found}
 use Rattle.kc_config_reasons.proofs.places.overridden_files.Goals as goal
 

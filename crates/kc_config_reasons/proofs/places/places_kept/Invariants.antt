@@ -1,6 +1,4 @@
-use Rattle.std.proofs.Common.{◌≡◌, ◌++◌, map, drop}
-use Rattle.kc_config_reasons.specs.between.Places.{place_view}
-use Rattle.kc_config_reasons.specs.checker.PlaceSteps.{places_kept}
+use Rattle.kc_config_reasons.proofs.Common.{◌≡◌, ◌++◌, map, drop, place_view, places_kept}
 use Rattle.kc_config_reasons.proofs.places.places_kept.Given as goal
 
 abbrev pub invariant-loop-file : goal.invariant-loop-file

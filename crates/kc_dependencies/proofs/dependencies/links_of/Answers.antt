@@ -1,6 +1,4 @@
-use Rattle.std.proofs.Common.{◌∙◌, subst, arith}
-use Rattle.std.proofs.lemmas.Grind.{common_steps}
-use Rattle.kc_dependencies.specs.checker.Links.{LinksBelow}
+use Rattle.kc_dependencies.proofs.Common.{◌∙◌, subst, arith, common_steps, LinksBelow}
 use Rattle.kc_dependencies.proofs.Chains.{linked}
 use Rattle.kc_dependencies.proofs.dependencies.links_of.Goals as goal
 

@@ -1,5 +1,4 @@
-use Rattle.std.proofs.Common.{◌≡◌, length}
-use Rattle.kc_dependencies.specs.checker.Links.{LinksBelow}
+use Rattle.kc_dependencies.proofs.Common.{◌≡◌, length, LinksBelow}
 use Rattle.kc_dependencies.proofs.dependencies.links_of.Given as goal
 
 abbrev pub invariant-loop-u : goal.invariant-loop-u

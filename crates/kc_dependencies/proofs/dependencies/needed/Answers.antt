@@ -1,5 +1,4 @@
-use Rattle.std.proofs.Common.{eqb, rules, arith}
-use Rattle.std.proofs.lemmas.Grind.{common_steps}
+use Rattle.kc_dependencies.proofs.Common.{eqb, rules, arith, common_steps}
 use Rattle.std.proofs.lemmas.List.Filters.{dedup_is}
 use Rattle.kc_dependencies.proofs.Chains.{sorted_needs}
 use Rattle.kc_dependencies.proofs.dependencies.needed.Goals as goal

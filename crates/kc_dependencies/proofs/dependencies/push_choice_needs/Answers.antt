@@ -1,8 +1,4 @@
-use Rattle.std.proofs.Common.{ap, arith}
-use Rattle.std.proofs.lemmas.Grind.{common_steps, elements}
-use Rattle.std.proofs.lemmas.Result.{on_ok_weaker}
-use Rattle.kc_expr.specs.between.Visits.{passes_some_name}
-use Rattle.kc_dependencies.specs.checker.Links.{has, is_of}
+use Rattle.kc_dependencies.proofs.Common.{ap, arith, common_steps, elements, on_ok_weaker, passes_some_name, has, is_of}
 use Rattle.kc_dependencies.proofs.Needs.{names_needed, choice_needed}
 use Rattle.kc_dependencies.proofs.dependencies.push_choice_needs.Goals as goal
 

@@ -1,8 +1,4 @@
-use Rattle.std.proofs.Common.{◌||◌, ap, ◌∙◌}
-use Rattle.std.specs.Option.{option_map}
-use Rattle.std.proofs.lemmas.Result.{on_ok_weaker}
-use Rattle.kc_tree_model.specs.TreeLookup.{unit_of}
-use Rattle.kc_dependencies.specs.checker.Links.{has, is_at}
+use Rattle.kc_dependencies.proofs.Common.{◌||◌, ap, ◌∙◌, option_map, on_ok_weaker, unit_of, has, is_at}
 use Rattle.kc_dependencies.proofs.Needs.{symbol_of_name_number}
 use Rattle.kc_dependencies.proofs.dependencies.push_named.Goals as goal
 

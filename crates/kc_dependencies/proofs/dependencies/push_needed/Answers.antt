@@ -1,8 +1,4 @@
-use Rattle.std.proofs.Common.{ap, ◌∙◌, arith}
-use Rattle.std.proofs.lemmas.Grind.{common_steps, elements}
-use Rattle.std.proofs.lemmas.Result.{on_ok_weaker}
-use Rattle.kc_tree.specs.between.Views.{symbol_view, choice_view}
-use Rattle.kc_dependencies.specs.checker.Links.{has}
+use Rattle.kc_dependencies.proofs.Common.{ap, ◌∙◌, arith, common_steps, elements, on_ok_weaker, symbol_view, choice_view, has}
 use Rattle.kc_dependencies.proofs.Needs.{needed_symbol, needed_choice}
 use Rattle.kc_dependencies.proofs.dependencies.push_needed.Goals as goal
 

@@ -1,8 +1,5 @@
-use Rattle.std.proofs.Common.{◌||◌, ◌==◌, ap, ◌∙◌, arith}
-use Rattle.std.proofs.lemmas.Grind.{common_steps, elements}
+use Rattle.kc_dependencies.proofs.Common.{◌||◌, ◌==◌, ap, ◌∙◌, arith, common_steps, elements, unit_of, has}
 use Rattle.kc_tree.specs.declared.symbol.ReverseDependency.{ReverseDependency}
-use Rattle.kc_tree_model.specs.TreeLookup.{unit_of}
-use Rattle.kc_dependencies.specs.checker.Links.{has}
 use Rattle.kc_dependencies.proofs.Pushes.{any_pushed, has_pushed, units_pushed}
 use Rattle.kc_dependencies.proofs.dependencies.push_reverse_dependencies.Goals as goal
 

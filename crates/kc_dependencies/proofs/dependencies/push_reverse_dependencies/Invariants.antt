@@ -1,5 +1,4 @@
-use Rattle.std.proofs.Common.{◌≡◌, ℕ, ◌||◌, take}
-use Rattle.kc_dependencies.specs.checker.Links.{has, depends_on_reverse, AreUnits}
+use Rattle.kc_dependencies.proofs.Common.{◌≡◌, ℕ, ◌||◌, take, has, depends_on_reverse, AreUnits}
 use Rattle.kc_dependencies.proofs.dependencies.push_reverse_dependencies.Given as goal
 
 abbrev pub invariant-loop-force : goal.invariant-loop-force

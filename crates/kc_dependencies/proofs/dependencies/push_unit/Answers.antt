@@ -1,5 +1,4 @@
-use Rattle.std.proofs.Common.{arith}
-use Rattle.std.proofs.lemmas.Grind.{common_steps}
+use Rattle.kc_dependencies.proofs.Common.{arith, common_steps}
 use Rattle.kc_dependencies.proofs.dependencies.push_unit.Goals as goal
 
 pub unit_of-requires : goal.unit_of-requires

@@ -1,7 +1,5 @@
-use Rattle.std.proofs.Common.{ℕ, arith}
-use Rattle.std.proofs.lemmas.Grind.{common_steps, elements}
-use Rattle.std.specs.Prelude.{slice_index_or, []}
-use Rattle.kc_dependencies.specs.checker.Links.{is_of}
+use Rattle.kc_dependencies.proofs.Common.{ℕ, arith, common_steps, elements, slice_index_or, is_of}
+use Rattle.std.specs.Prelude.{[]}
 use Rattle.kc_dependencies.proofs.Pushes.{any_pushed}
 use Rattle.kc_dependencies.proofs.dependencies.push_units.Goals as goal
 

@@ -1,7 +1,4 @@
-use Rattle.std.proofs.Common.{◌≡◌, ℕ, ◌||◌, [], take}
-use Rattle.std.specs.Prelude.{slice_index_or}
-use Rattle.std.specs.List.{list_any}
-use Rattle.kc_dependencies.specs.checker.Links.{has, is_of, AreUnits}
+use Rattle.kc_dependencies.proofs.Common.{◌≡◌, ℕ, ◌||◌, [], take, slice_index_or, list_any, has, is_of, AreUnits}
 use Rattle.kc_dependencies.proofs.dependencies.push_units.Given as goal
 
 abbrev pub invariant-loop-name : goal.invariant-loop-name

@@ -1,6 +1,4 @@
-use Rattle.std.proofs.Common.{◌∙◌, sym, arith}
-use Rattle.std.proofs.lemmas.Grind.{common_steps}
-use Rattle.kc_expr.specs.Expr.{modules}
+use Rattle.kc_dependencies.proofs.Common.{◌∙◌, sym, arith, common_steps, modules}
 use Rattle.kc_dependencies.proofs.ModulesLemmas.{found_as_named}
 use Rattle.kc_dependencies.proofs.modules.modules_of.Goals as goal
 

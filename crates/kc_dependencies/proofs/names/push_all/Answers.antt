@@ -1,5 +1,4 @@
-use Rattle.std.proofs.Common.{arith}
-use Rattle.std.proofs.lemmas.Grind.{common_steps}
+use Rattle.kc_dependencies.proofs.Common.{arith, common_steps}
 use Rattle.kc_dependencies.proofs.Pushes.{any_pushed}
 use Rattle.kc_dependencies.proofs.names.push_all.Goals as goal
 

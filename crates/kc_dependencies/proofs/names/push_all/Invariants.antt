@@ -1,6 +1,5 @@
-use Rattle.std.proofs.Common.{◌≡◌, ℕ, Bool, ◌||◌, List, take}
-use Rattle.std.specs.List.{list_any}
-use Rattle.kc_expr.specs.between.Visits.{passes_some_name, HasFound}
+use Rattle.kc_dependencies.proofs.Common.{◌≡◌, ℕ, Bool, ◌||◌, List, take, list_any, passes_some_name}
+use Rattle.kc_expr.specs.between.Visits.{HasFound}
 use Rattle.kc_dependencies.proofs.names.push_all.Given as goal
 
 abbrev pub invariant-loop-part : goal.invariant-loop-part

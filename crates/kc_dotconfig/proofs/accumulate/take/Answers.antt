@@ -1,6 +1,5 @@
-use Rattle.std.proofs.Common.{◌+◌, refl, ap}
+use Rattle.kc_dotconfig.proofs.Common.{◌+◌, refl, ap, meaning_view}
 use Rattle.kc_rules_model.specs.declared.values.UserValue.TheVariants.{Tri as TriUser, Text as TextUser, Member as MemberUser}
-use Rattle.kc_dotconfig.specs.between.MeaningViews.{meaning_view}
 use Rattle.kc_dotconfig.proofs.LineAccumulation.{takes_user, takes_escaped, none_chosen, takes_unchosen, takes_line, takes_notice, takes_nothing}
 use Rattle.kc_dotconfig.proofs.accumulate.take.Goals as goal
 

@@ -1,8 +1,4 @@
-use Rattle.std.proofs.Common.{rules, arith}
-use Rattle.std.proofs.lemmas.Grind.{common_steps}
-use Rattle.kc_rules.specs.between.SettledViews.{tree_of_settled}
-use Rattle.kc_dotconfig_model.specs.between.Formats.{file_format}
-use Rattle.kc_dotconfig.specs.between.MeaningViews.{meaning_view}
+use Rattle.kc_dotconfig.proofs.Common.{rules, arith, common_steps, tree_of_settled, file_format, meaning_view}
 use Rattle.kc_dotconfig.proofs.LineAccumulation.{means_of_view, malformed_of, within_of}
 use Rattle.kc_dotconfig.proofs.accumulate.take_line.Goals as goal
 

@@ -1,5 +1,4 @@
-use Rattle.std.proofs.Common.{arith}
-use Rattle.std.proofs.lemmas.Grind.{common_steps}
+use Rattle.kc_dotconfig.proofs.Common.{arith, common_steps}
 use Rattle.kc_dotconfig.proofs.AscendingUnits.{above_last}
 use Rattle.kc_dotconfig.proofs.assigned_values.is_above.Goals as goal
 

@@ -1,7 +1,4 @@
-use Rattle.std.proofs.Common.{arith}
-use Rattle.std.proofs.lemmas.Grind.{common_steps}
-use Rattle.kc_rules.specs.between.SettledViews.{tree_of_settled}
-use Rattle.kc_dotconfig_model.specs.between.Formats.{file_format}
+use Rattle.kc_dotconfig.proofs.Common.{arith, common_steps, tree_of_settled, file_format}
 use Rattle.kc_dotconfig.proofs.WholeReads.{fault_of, ends_whole}
 use Rattle.kc_dotconfig.proofs.fragment_reader.finish.Goals as goal
 

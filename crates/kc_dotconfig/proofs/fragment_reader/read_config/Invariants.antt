@@ -1,7 +1,4 @@
-use Rattle.std.proofs.Common.{◌≡◌, ◌-◌, ◌≤◌}
-use Rattle.kc_rules.specs.between.SettledViews.{tree_of_settled}
-use Rattle.kc_value.specs.declared.limits.TheConstants.{MAX_CONFIG_BYTES, MAX_CONFIG_LINES}
-use Rattle.kc_dotconfig_model.specs.between.Formats.{file_format}
+use Rattle.kc_dotconfig.proofs.Common.{◌≡◌, ◌-◌, ◌≤◌, tree_of_settled, MAX_CONFIG_BYTES, MAX_CONFIG_LINES, file_format}
 use Rattle.kc_dotconfig.proofs.WholeReads.{HasRead}
 use Rattle.kc_dotconfig.proofs.fragment_reader.read_config.Given as goal
 

@@ -1,8 +1,4 @@
-use Rattle.std.proofs.Common.{inr, arith}
-use Rattle.std.proofs.lemmas.Grind.{common_steps, elements}
-use Rattle.std.proofs.lemmas.Result.{err_from_is_err_and}
-use Rattle.kc_rules.specs.between.SettledViews.{tree_of_settled}
-use Rattle.kc_dotconfig_model.specs.between.Formats.{file_format}
+use Rattle.kc_dotconfig.proofs.Common.{inr, arith, common_steps, elements, err_from_is_err_and, tree_of_settled, file_format}
 use Rattle.kc_dotconfig.proofs.ReadingSteps.{block_faulty, part_refused, part_too_large}
 use Rattle.kc_dotconfig.proofs.fragment_reader.take_block.Goals as goal
 

@@ -1,8 +1,4 @@
-use Rattle.std.proofs.Common.{[], refl, arith}
-use Rattle.std.proofs.lemmas.Grind.{common_steps, elements}
-use Rattle.std.proofs.lemmas.Result.{err_from_is_err_and}
-use Rattle.kc_rules.specs.between.SettledViews.{tree_of_settled}
-use Rattle.kc_dotconfig_model.specs.between.Formats.{file_format}
+use Rattle.kc_dotconfig.proofs.Common.{[], refl, arith, common_steps, elements, err_from_is_err_and, tree_of_settled, file_format}
 use Rattle.kc_dotconfig.proofs.ReadingSteps.{nothing_taken, first_newline, no_newline, step_taken, step_refused, last_taken, last_refused}
 use Rattle.kc_dotconfig.proofs.fragment_reader.take_bytes.Goals as goal
 

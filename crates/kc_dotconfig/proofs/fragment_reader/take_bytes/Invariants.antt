@@ -1,8 +1,4 @@
-use Rattle.std.proofs.Common.{◌≡◌, ◌≤◌, List, ℕ, ◌++◌, length}
-use Rattle.kc_rules.specs.between.SettledViews.{tree_of_settled}
-use Rattle.kc_value.specs.declared.limits.TheConstants.{MAX_CONFIG_LINES}
-use Rattle.kc_dotconfig_model.specs.between.Formats.{file_format}
-use Rattle.kc_dotconfig.specs.checker.Accumulation.{AcceptsBytes}
+use Rattle.kc_dotconfig.proofs.Common.{◌≡◌, ◌≤◌, List, ℕ, ◌++◌, length, tree_of_settled, MAX_CONFIG_LINES, file_format, AcceptsBytes}
 use Rattle.kc_dotconfig.proofs.fragment_reader.take_bytes.Given as goal
 
 -- the bytes before `rest` are accepted

@@ -1,9 +1,5 @@
-use Rattle.std.proofs.Common.{◌≡◌, List, ℕ, [], length, ◌<◌, ◌∙◌, ap, sym, subst, inl, inr, arith}
-use Rattle.std.proofs.lemmas.Grind.{elements}
-use Rattle.kc_rules.specs.between.SettledViews.{tree_of_settled}
-use Rattle.kc_value.specs.declared.limits.TheConstants.{MAX_CONFIG_LINES}
-use Rattle.kc_dotconfig_model.specs.between.Formats.{file_format}
-use Rattle.kc_dotconfig.specs.checker.Accumulation.{EndsWell}
+use Rattle.kc_dotconfig.proofs.Common.{◌≡◌, List, ℕ, [], length, ◌<◌, ◌∙◌, ap, sym, subst, inl, inr, arith, elements, tree_of_settled, MAX_CONFIG_LINES,
+    file_format, EndsWell}
 use Rattle.kc_dotconfig.proofs.ReadingSteps.{none_of, some_of, ends_empty, result_ends, result_ends_badly, lines_bound}
 use Rattle.kc_dotconfig.proofs.fragment_reader.take_end.Goals as goal
 

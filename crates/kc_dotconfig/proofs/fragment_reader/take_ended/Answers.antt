@@ -1,12 +1,5 @@
-use Rattle.std.proofs.Common.{◌≡◌, ◌+◌, ◌∷◌, subst, inr, List, ℕ, [], ◌++◌, length, ◌<◌, ◌≤◌, ◌∙◌, ap, sym, refl, arith}
-use Rattle.std.proofs.lemmas.Grind.{common_steps}
-use Rattle.std.specs.Prelude.{Err}
-use Rattle.std.proofs.lemmas.Result.{err_from_is_err_and}
-use Rattle.kc_rules.specs.between.SettledViews.{tree_of_settled}
-use Rattle.kc_dotconfig_model.specs.declared.fault.LoadKind.TheVariants.{LineTooLong}
-use Rattle.kc_value.specs.declared.limits.TheConstants.{MAX_CONFIG_LINES, MAX_LINE_BYTES}
-use Rattle.kc_dotconfig_model.specs.between.Formats.{file_format}
-use Rattle.kc_dotconfig.specs.checker.Accumulation.{AcceptsBytes}
+use Rattle.kc_dotconfig.proofs.Common.{◌≡◌, ◌+◌, ◌∷◌, subst, inr, List, ℕ, [], ◌++◌, length, ◌<◌, ◌≤◌, ◌∙◌, ap, sym, refl, arith, common_steps, Err,
+    err_from_is_err_and, tree_of_settled, LineTooLong, MAX_CONFIG_LINES, MAX_LINE_BYTES, file_format, AcceptsBytes}
 use Rattle.kc_dotconfig.proofs.ReadingSteps.{none_of, line_taken, many_refuses, long_stops, stops_refuses, result_refused, result_taken, push_refused, lines_bound}
 use Rattle.kc_dotconfig.proofs.fragment_reader.take_ended.Goals as goal
 

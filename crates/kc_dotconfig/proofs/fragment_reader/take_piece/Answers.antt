@@ -1,6 +1,4 @@
-use Rattle.std.proofs.Common.{inr, ◌<◌, ◌∙◌, sym, arith}
-use Rattle.std.proofs.lemmas.Grind.{common_steps}
-use Rattle.kc_value.specs.declared.limits.TheConstants.{MAX_CONFIG_LINES}
+use Rattle.kc_dotconfig.proofs.Common.{inr, ◌<◌, ◌∙◌, sym, arith, common_steps, MAX_CONFIG_LINES}
 use Rattle.kc_dotconfig.proofs.ReadingSteps.{some_of, many_stops, push_stops}
 use Rattle.kc_dotconfig.proofs.fragment_reader.take_piece.Goals as goal
 

@@ -1,9 +1,6 @@
-use Rattle.std.proofs.Common.{◌≡◌, ℕ, drop}
+use Rattle.kc_dotconfig.proofs.Common.{◌≡◌, ℕ, drop, nat_cmp, is_listed, kept_last}
 use Rattle.std.specs.Prelude.{reverse}
 use Rattle.std.specs.BTreeSet.{contains}
-use Rattle.std.specs.Ordering.{nat_cmp}
-use Rattle.kc_rules_model.specs.MemberLines.{is_listed}
-use Rattle.kc_dotconfig_model.specs.OtherChoices.{kept_last}
 use Rattle.kc_dotconfig.proofs.gathered_lines.last_lines.Given as goal
 
 abbrev pub invariant-loop-i : goal.invariant-loop-i

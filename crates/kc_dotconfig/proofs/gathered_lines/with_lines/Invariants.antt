@@ -1,5 +1,4 @@
-use Rattle.std.proofs.Common.{◌≡◌}
-use Rattle.kc_dotconfig.specs.checker.GatheredLines.{joined}
+use Rattle.kc_dotconfig.proofs.Common.{◌≡◌, joined}
 use Rattle.kc_dotconfig.proofs.gathered_lines.with_lines.Given as goal
 
 abbrev pub invariant-loop-unit : goal.invariant-loop-unit

@@ -1,8 +1,5 @@
-use Rattle.std.proofs.Common.{rules, ◌≡◌, None}
+use Rattle.kc_dotconfig.proofs.Common.{rules, ◌≡◌, None, lookup, is_at, nat_cmp}
 use Rattle.std.proofs.lemmas.Result.{on_ok_weaker}
-use Rattle.std.specs.Map.{lookup}
-use Rattle.std.specs.BTreeMap.{is_at}
-use Rattle.std.specs.Ordering.{nat_cmp}
 use Rattle.kc_dotconfig.proofs.Groups.{items_put}
 use Rattle.kc_dotconfig.proofs.maps.add_item.Goals as goal
 

@@ -1,11 +1,4 @@
-use Rattle.std.proofs.Common.{ap, arith}
-use Rattle.std.proofs.lemmas.Grind.{common_steps, elements}
-use Rattle.std.specs.Prelude.{option_map}
-use Rattle.kc_tree.specs.TreeModel.{TreeModel}
-use Rattle.kc_rules.specs.between.SettledViews.{tree_of_settled}
-use Rattle.kc_tree_model.specs.LogicalLines.{without_white_end}
-use Rattle.kc_dotconfig_model.specs.between.Formats.{file_format}
-use Rattle.kc_dotconfig.specs.between.MeaningViews.{meaning_view}
+use Rattle.kc_dotconfig.proofs.Common.{ap, arith, common_steps, elements, option_map, TreeModel, tree_of_settled, without_white_end, file_format, meaning_view}
 use Rattle.kc_dotconfig.proofs.LineMeanings.{value_line_means, unset_line_means, other_line_means}
 use Rattle.kc_dotconfig.proofs.meanings.read_line.Goals as goal
 

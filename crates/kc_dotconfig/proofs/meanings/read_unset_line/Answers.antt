@@ -1,5 +1,4 @@
-use Rattle.std.proofs.Common.{arith}
-use Rattle.std.proofs.lemmas.Grind.{common_steps, elements}
+use Rattle.kc_dotconfig.proofs.Common.{arith, common_steps, elements}
 use Rattle.kc_dotconfig.proofs.meanings.read_unset_line.Goals as goal
 
 pub returns-in-Some-clause-within : goal.returns-in-Some-clause-within

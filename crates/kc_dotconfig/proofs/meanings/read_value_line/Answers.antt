@@ -1,5 +1,4 @@
-use Rattle.std.proofs.Common.{arith}
-use Rattle.std.proofs.lemmas.Grind.{common_steps, elements}
+use Rattle.kc_dotconfig.proofs.Common.{arith, common_steps, elements}
 use Rattle.kc_dotconfig.proofs.meanings.read_value_line.Goals as goal
 
 pub returns-in-None-clause-meaning : goal.returns-in-None-clause-meaning

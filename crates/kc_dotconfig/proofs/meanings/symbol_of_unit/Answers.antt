@@ -1,5 +1,4 @@
-use Rattle.std.proofs.Common.{rules, arith}
-use Rattle.std.proofs.lemmas.Grind.{common_steps, elements}
+use Rattle.kc_dotconfig.proofs.Common.{rules, arith, common_steps, elements}
 use Rattle.kc_dotconfig.proofs.LineMeanings.{named_there}
 use Rattle.kc_dotconfig.proofs.meanings.symbol_of_unit.Goals as goal
 

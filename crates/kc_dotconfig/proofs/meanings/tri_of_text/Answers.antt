@@ -1,5 +1,4 @@
-use Rattle.std.proofs.Common.{arith}
-use Rattle.std.proofs.lemmas.Grind.{common_steps}
+use Rattle.kc_dotconfig.proofs.Common.{arith, common_steps}
 use Rattle.kc_dotconfig.proofs.meanings.tri_of_text.Goals as goal
 
 pub bounds-0-then-this-lt2-2 : goal.bounds-0-then-this-lt2-2

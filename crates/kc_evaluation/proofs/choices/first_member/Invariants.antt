@@ -1,6 +1,4 @@
-use Rattle.std.proofs.Common.{◌≡◌, find, drop}
-use Rattle.kc_rules_model.specs.Rule.{is_visible_member}
-use Rattle.kc_evaluation.specs.checker.ValuationView.{valuation_tree, valuation_values}
+use Rattle.kc_evaluation.proofs.Common.{◌≡◌, find, drop, is_visible_member, valuation_tree, valuation_values}
 use Rattle.kc_evaluation.proofs.choices.first_member.Given as goal
 
 abbrev pub invariant-loop-s : goal.invariant-loop-s

@@ -1,5 +1,4 @@
-use Rattle.std.proofs.Common.{arith}
-use Rattle.std.proofs.lemmas.Grind.{common_steps, elements}
+use Rattle.kc_evaluation.proofs.Common.{arith, common_steps, elements}
 use Rattle.kc_evaluation.proofs.choices.member_by_default.Goals as goal
 
 pub is_default_open-requires-clause-condition : goal.is_default_open-requires-clause-condition

@@ -1,7 +1,6 @@
-use Rattle.std.proofs.Common.{◌≡◌, map, drop}
+use Rattle.kc_evaluation.proofs.Common.{◌≡◌, map, drop, valuation_tree, valuation_exprs, valuation_values}
 use Rattle.kc_tree.specs.between.Views.{member_default_view}
 use Rattle.kc_dependencies.specs.checker.StoredRules.{default_member_of}
-use Rattle.kc_evaluation.specs.checker.ValuationView.{valuation_tree, valuation_exprs, valuation_values}
 use Rattle.kc_evaluation.proofs.choices.member_by_default.Given as goal
 
 abbrev pub invariant-loop-default : goal.invariant-loop-default

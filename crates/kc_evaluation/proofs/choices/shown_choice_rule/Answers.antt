@@ -1,5 +1,4 @@
-use Rattle.std.proofs.Common.{arith}
-use Rattle.std.proofs.lemmas.Grind.{common_steps, elements}
+use Rattle.kc_evaluation.proofs.Common.{arith, common_steps, elements}
 use Rattle.kc_evaluation.proofs.choices.shown_choice_rule.Goals as goal
 
 pub is_member_visible-requires : goal.is_member_visible-requires

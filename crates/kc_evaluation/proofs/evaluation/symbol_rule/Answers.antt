@@ -1,5 +1,4 @@
-use Rattle.std.proofs.Common.{arith}
-use Rattle.std.proofs.lemmas.Grind.{common_steps}
+use Rattle.kc_evaluation.proofs.Common.{arith, common_steps}
 use Rattle.kc_evaluation.proofs.evaluation.symbol_rule.Goals as goal
 
 pub number_rule-requires-in-Hex-clause-number : goal.number_rule-requires-in-Hex-clause-number

@@ -1,8 +1,7 @@
-use Rattle.std.proofs.Common.{ap, ◌∙◌, arith}
-use Rattle.std.proofs.lemmas.Grind.{common_steps, elements}
+use Rattle.kc_evaluation.proofs.Common.{ap, ◌∙◌, arith, common_steps, elements, symbol_view}
 use Rattle.std.specs.Option.{option_copied}
 use Rattle.std.proofs.lemmas.Result.{IfOk-weaker}
-use Rattle.kc_tree.specs.between.Views.{choice_view, symbol_view}
+use Rattle.kc_tree.specs.between.Views.{choice_view}
 use Rattle.kc_rules_model.specs.declared.values.UnitValue.TheVariants.{Member as MemberValue}
 use Rattle.kc_evaluation.proofs.Evaluations.{rule_symbol, rule_choice, member_there}
 use Rattle.kc_evaluation.proofs.evaluation.value_of.Goals as goal

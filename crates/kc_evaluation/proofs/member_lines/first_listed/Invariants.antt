@@ -1,7 +1,5 @@
-use Rattle.std.proofs.Common.{◌≡◌, drop}
+use Rattle.kc_evaluation.proofs.Common.{◌≡◌, drop, is_visible_member, valuation_tree, valuation_values}
 use Rattle.kc_rules_model.specs.MemberLines.{first_listed}
-use Rattle.kc_rules_model.specs.Rule.{is_visible_member}
-use Rattle.kc_evaluation.specs.checker.ValuationView.{valuation_tree, valuation_values}
 use Rattle.kc_evaluation.proofs.member_lines.first_listed.Given as goal
 
 abbrev pub invariant-loop-line : goal.invariant-loop-line

@@ -1,6 +1,5 @@
-use Rattle.std.proofs.Common.{◌≡◌, find, drop}
+use Rattle.kc_evaluation.proofs.Common.{◌≡◌, find, drop, valuation_tree, valuation_values}
 use Rattle.kc_evaluation.specs.checker.Choices.{is_free}
-use Rattle.kc_evaluation.specs.checker.ValuationView.{valuation_tree, valuation_values}
 use Rattle.kc_evaluation.proofs.member_lines.first_without_number.Given as goal
 
 abbrev pub invariant-loop-s : goal.invariant-loop-s

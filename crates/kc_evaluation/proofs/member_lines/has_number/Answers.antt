@@ -1,5 +1,4 @@
-use Rattle.std.proofs.Common.{◌==◌, ap, ◌∙◌}
-use Rattle.std.specs.List.{list_any}
+use Rattle.kc_evaluation.proofs.Common.{◌==◌, ap, ◌∙◌, list_any}
 use Rattle.kc_evaluation.proofs.AssignedMembers.{has_is}
 use Rattle.kc_evaluation.proofs.member_lines.has_number.Goals as goal
 

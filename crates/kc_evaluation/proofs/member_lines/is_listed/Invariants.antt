@@ -1,5 +1,4 @@
-use Rattle.std.proofs.Common.{◌≡◌, drop}
-use Rattle.kc_rules_model.specs.MemberLines.{is_listed}
+use Rattle.kc_evaluation.proofs.Common.{◌≡◌, drop, is_listed}
 use Rattle.kc_evaluation.proofs.member_lines.is_listed.Given as goal
 
 abbrev pub invariant-loop-line : goal.invariant-loop-line

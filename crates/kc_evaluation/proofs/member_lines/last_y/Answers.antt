@@ -1,8 +1,6 @@
-use Rattle.std.proofs.Common.{◌≡◌, ◌+◌, ◌-◌, drop, sym, ap, ◌∙◌, arith}
+use Rattle.std.proofs.Common.{◌-◌}
 use Rattle.std.proofs.lemmas.Bool.{and_from}
-use Rattle.kc_rules_model.specs.MemberLines.{last_y}
-use Rattle.kc_rules_model.specs.Rule.{is_visible_member}
-use Rattle.kc_evaluation.specs.checker.ValuationView.{valuation_tree, valuation_values}
+use Rattle.kc_evaluation.proofs.Common.{◌≡◌, ◌+◌, drop, sym, ap, ◌∙◌, arith, last_y, is_visible_member, valuation_tree, valuation_values}
 use Rattle.kc_evaluation.proofs.AssignedMembers.{last_at}
 use Rattle.kc_evaluation.proofs.member_lines.last_y.Goals as goal
 

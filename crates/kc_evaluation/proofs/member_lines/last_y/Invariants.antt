@@ -1,7 +1,4 @@
-use Rattle.std.proofs.Common.{◌≡◌, None, drop}
-use Rattle.kc_rules_model.specs.MemberLines.{last_y}
-use Rattle.kc_rules_model.specs.Rule.{is_visible_member}
-use Rattle.kc_evaluation.specs.checker.ValuationView.{valuation_tree, valuation_values}
+use Rattle.kc_evaluation.proofs.Common.{◌≡◌, None, drop, last_y, is_visible_member, valuation_tree, valuation_values}
 use Rattle.kc_evaluation.proofs.member_lines.last_y.Given as goal
 
 abbrev pub invariant-loop-i : goal.invariant-loop-i

@@ -1,7 +1,6 @@
-use Rattle.std.proofs.Common.{ap, map, ◌∙◌, arith}
+use Rattle.kc_evaluation.proofs.Common.{ap, map, ◌∙◌, arith, MemberLine}
 use Rattle.std.proofs.lemmas.List.{take_all}
 use Rattle.std.proofs.lemmas.List.Sorted.{IsNonDecreasingBy-from_sort}
-use Rattle.kc_rules_model.specs.declared.values.MemberLine.{MemberLine}
 use Rattle.kc_evaluation.proofs.AssignedMembers.{sorted_listed}
 use Rattle.kc_evaluation.proofs.member_lines.listed_numbers.Goals as goal
 

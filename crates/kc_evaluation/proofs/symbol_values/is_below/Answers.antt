@@ -1,5 +1,4 @@
-use Rattle.std.proofs.Common.{arith}
-use Rattle.std.proofs.lemmas.Grind.{common_steps, elements}
+use Rattle.kc_evaluation.proofs.Common.{arith, common_steps, elements}
 use Rattle.kc_evaluation.proofs.symbol_values.is_below.Goals as goal
 
 pub returns-in-M-M : goal.returns-in-M-M

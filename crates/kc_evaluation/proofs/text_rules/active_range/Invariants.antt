@@ -1,7 +1,6 @@
-use Rattle.std.proofs.Common.{◌≡◌, map, drop}
+use Rattle.kc_evaluation.proofs.Common.{◌≡◌, map, drop, valuation_tree, valuation_exprs, valuation_values}
 use Rattle.kc_tree.specs.between.Views.{range_view}
 use Rattle.kc_evaluation.specs.checker.Texts.{active_range_of}
-use Rattle.kc_evaluation.specs.checker.ValuationView.{valuation_tree, valuation_exprs, valuation_values}
 use Rattle.kc_evaluation.proofs.text_rules.active_range.Given as goal
 
 abbrev pub invariant-loop-range : goal.invariant-loop-range

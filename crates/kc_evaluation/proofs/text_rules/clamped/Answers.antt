@@ -1,5 +1,4 @@
-use Rattle.std.proofs.Common.{arith}
-use Rattle.std.proofs.lemmas.Grind.{common_steps}
+use Rattle.kc_evaluation.proofs.Common.{arith, common_steps}
 use Rattle.kc_evaluation.proofs.text_rules.clamped.Goals as goal
 
 pub returns-in-None : goal.returns-in-None

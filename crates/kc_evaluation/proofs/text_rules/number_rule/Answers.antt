@@ -1,5 +1,4 @@
-use Rattle.std.proofs.Common.{arith}
-use Rattle.std.proofs.lemmas.Grind.{common_steps, elements}
+use Rattle.kc_evaluation.proofs.Common.{arith, common_steps, elements}
 use Rattle.kc_evaluation.proofs.text_rules.number_rule.Goals as goal
 
 pub number_default-requires-clause-range : goal.number_default-requires-clause-range

@@ -1,7 +1,4 @@
-use Rattle.std.proofs.Common.{◌≡◌, map, drop}
-use Rattle.kc_tree.specs.between.Views.{default_view}
-use Rattle.kc_evaluation.specs.checker.RuleParts.{active_default_of}
-use Rattle.kc_evaluation.specs.checker.ValuationView.{valuation_tree, valuation_exprs, valuation_values}
+use Rattle.kc_evaluation.proofs.Common.{◌≡◌, map, drop, default_view, active_default_of, valuation_tree, valuation_exprs, valuation_values}
 use Rattle.kc_evaluation.proofs.tristate_rules.default_value.Given as goal
 
 abbrev pub invariant-loop-default : goal.invariant-loop-default

@@ -1,6 +1,5 @@
-use Rattle.std.proofs.Common.{sym, ◌∙◌}
+use Rattle.kc_evaluation.proofs.Common.{sym, ◌∙◌, default_view}
 use Rattle.kc_tree_model.specs.Trees.{Default}
-use Rattle.kc_tree.specs.between.Views.{default_view}
 use Rattle.kc_dependencies.proofs.Pushes.{any_map}
 use Rattle.kc_evaluation.proofs.tristate_rules.is_from_environment.Goals as goal
 

@@ -1,9 +1,5 @@
-use Rattle.std.proofs.Common.{◌≡◌, map, drop}
-use Rattle.kc_value.specs.Tri.{tri_or}
-use Rattle.kc_expr.specs.between.Arena.{node_expr}
-use Rattle.kc_rules_model.specs.Kinds.{largest}
+use Rattle.kc_evaluation.proofs.Common.{◌≡◌, map, drop, tri_or, node_expr, largest, valuation_tree, valuation_exprs, valuation_values}
 use Rattle.kc_rules_model.specs.Rule.{conditions}
-use Rattle.kc_evaluation.specs.checker.ValuationView.{valuation_tree, valuation_exprs, valuation_values}
 use Rattle.kc_evaluation.proofs.tristate_rules.largest.Given as goal
 
 abbrev pub invariant-loop-id : goal.invariant-loop-id

@@ -1,5 +1,4 @@
-use Rattle.std.proofs.Common.{arith}
-use Rattle.std.proofs.lemmas.Grind.{common_steps, elements}
+use Rattle.kc_evaluation.proofs.Common.{arith, common_steps, elements}
 use Rattle.kc_evaluation.proofs.tristate_rules.reverse_limit.Goals as goal
 
 pub reverse_value-requires-clause-condition : goal.reverse_value-requires-clause-condition

@@ -1,9 +1,6 @@
-use Rattle.std.proofs.Common.{◌≡◌, map, drop}
-use Rattle.kc_value.specs.Tri.{tri_or}
+use Rattle.kc_evaluation.proofs.Common.{◌≡◌, map, drop, tri_or, largest, valuation_tree, valuation_exprs, valuation_values}
 use Rattle.kc_tree.specs.between.Views.{reverse_dependency_view}
-use Rattle.kc_rules_model.specs.Kinds.{largest}
 use Rattle.kc_rules_model.specs.Rule.{reverse_dependency_limit}
-use Rattle.kc_evaluation.specs.checker.ValuationView.{valuation_tree, valuation_exprs, valuation_values}
 use Rattle.kc_evaluation.proofs.tristate_rules.reverse_limit.Given as goal
 
 abbrev pub invariant-loop-force : goal.invariant-loop-force

@@ -1,10 +1,6 @@
-use Rattle.std.proofs.Common.{ap, cond, ◌∙◌, arith}
-use Rattle.std.proofs.lemmas.Grind.{elements}
-use Rattle.kc_value.specs.Tri.{tri_or}
-use Rattle.kc_tree.specs.between.Views.{symbol_view}
+use Rattle.kc_evaluation.proofs.Common.{ap, cond, ◌∙◌, arith, elements, tri_or, symbol_view, valuation_tree, valuation_exprs, valuation_values}
 use Rattle.kc_value.specs.Tri.{y_for_m}
 use Rattle.kc_rules_model.specs.Rule.{base, promoted, leaves_no_m}
-use Rattle.kc_evaluation.specs.checker.ValuationView.{valuation_tree, valuation_exprs, valuation_values}
 use Rattle.kc_evaluation.proofs.tristate_rules.tri_rule.Goals as goal
 
 pub returns : goal.returns

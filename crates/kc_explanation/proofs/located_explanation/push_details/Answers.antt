@@ -1,7 +1,4 @@
-use Rattle.std.proofs.Common.{◌++◌, ap, map, ◌∙◌}
-use Rattle.std.proofs.lemmas.Result.{on_ok_weaker}
-use Rattle.kc_explanation.specs.checker.Contexts.{exprs_of}
-use Rattle.kc_explanation.specs.checker.PartLines.{needed_lines}
+use Rattle.kc_explanation.proofs.Common.{◌++◌, ap, map, ◌∙◌, on_ok_weaker, exprs_of, needed_lines}
 use Rattle.kc_explanation.proofs.ExplanationLemmas.{joined_three}
 use Rattle.kc_explanation.proofs.located_explanation.push_details.Goals as goal
 

@@ -1,8 +1,4 @@
-use Rattle.std.proofs.Common.{◌++◌, ap, sym, ◌∙◌}
-use Rattle.std.proofs.lemmas.Result.{on_ok_weaker}
-use Rattle.kc_tree.specs.between.Views.{symbol_view}
-use Rattle.kc_evaluation.specs.checker.ValuationView.{valuation_tree, valuation_exprs, valuation_values}
-use Rattle.kc_reasons.specs.between.ReasonsView.{reasons_view}
+use Rattle.kc_explanation.proofs.Common.{◌++◌, ap, sym, ◌∙◌, on_ok_weaker, symbol_view, valuation_tree, valuation_exprs, valuation_values, reasons_view}
 use Rattle.kc_explanation.proofs.PartLines.{low_details, low_details_are}
 use Rattle.kc_explanation.proofs.ExplanationLemmas.{explained_is, joined_three}
 use Rattle.kc_explanation.proofs.located_explanation.push_explanation.Goals as goal

@@ -1,10 +1,5 @@
-use Rattle.std.proofs.Common.{◌++◌, ap, map, ◌∙◌}
-use Rattle.std.specs.Prelude.{codes}
-use Rattle.std.proofs.lemmas.Result.{on_ok_weaker}
-use Rattle.kc_tree.specs.between.Views.{symbol_view}
-use Rattle.kc_symbol_lines.specs.between.LinesView.{position_view}
-use Rattle.kc_explanation.specs.Located.{located_forcing_lines}
-use Rattle.kc_explanation.specs.checker.Contexts.{exprs_of, tree_of, values_of}
+use Rattle.kc_explanation.proofs.Common.{◌++◌, ap, map, ◌∙◌, codes, on_ok_weaker, symbol_view, position_view, located_forcing_lines, exprs_of, tree_of,
+    values_of}
 use Rattle.kc_explanation.proofs.ExplanationLemmas.{joined_two}
 use Rattle.kc_explanation.proofs.located_explanation.push_forces.Goals as goal
 

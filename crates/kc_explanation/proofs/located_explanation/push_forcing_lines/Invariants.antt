@@ -1,8 +1,5 @@
-use Rattle.std.proofs.Common.{◌≡◌, ◌++◌, map, drop}
+use Rattle.kc_explanation.proofs.Common.{◌≡◌, ◌++◌, map, drop, position_view, located_forcing_lines, exprs_of, tree_of, values_of}
 use Rattle.kc_tree.specs.between.Views.{reverse_dependency_view}
-use Rattle.kc_symbol_lines.specs.between.LinesView.{position_view}
-use Rattle.kc_explanation.specs.Located.{located_forcing_lines}
-use Rattle.kc_explanation.specs.checker.Contexts.{exprs_of, tree_of, values_of}
 use Rattle.kc_explanation.proofs.located_explanation.push_forcing_lines.Given as goal
 
 abbrev pub invariant-loop-number : goal.invariant-loop-number

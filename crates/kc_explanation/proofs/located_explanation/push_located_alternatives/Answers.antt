@@ -1,7 +1,4 @@
-use Rattle.std.proofs.Common.{◌++◌, ap, ◌∙◌}
-use Rattle.std.proofs.lemmas.Result.{on_ok_weaker}
-use Rattle.kc_evaluation.specs.checker.ValuationView.{valuation_tree, valuation_exprs, valuation_values}
-use Rattle.kc_rules_model.specs.SymbolValues.{environment}
+use Rattle.kc_explanation.proofs.Common.{◌++◌, ap, ◌∙◌, on_ok_weaker, valuation_tree, valuation_exprs, valuation_values, environment}
 use Rattle.kc_explanation.proofs.PartLines.{located_lines}
 use Rattle.kc_explanation.proofs.located_explanation.push_located_alternatives.Goals as goal
 

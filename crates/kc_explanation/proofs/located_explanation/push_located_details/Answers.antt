@@ -1,10 +1,5 @@
-use Rattle.std.proofs.Common.{◌++◌, ap, sym, map, ◌∙◌}
-use Rattle.std.proofs.lemmas.Result.{on_ok_weaker}
-use Rattle.kc_tree.specs.between.Views.{symbol_view}
-use Rattle.kc_evaluation.specs.checker.ValuationView.{valuation_tree, valuation_exprs, valuation_values}
-use Rattle.kc_reasons.specs.between.ReasonsView.{reasons_view}
-use Rattle.kc_symbol_lines.specs.between.LinesView.{position_view, symbol_lines_view}
-use Rattle.kc_explanation.specs.between.ReasonPlacesView.{places_view}
+use Rattle.kc_explanation.proofs.Common.{◌++◌, ap, sym, map, ◌∙◌, on_ok_weaker, symbol_view, valuation_tree, valuation_exprs, valuation_values, reasons_view,
+    position_view, symbol_lines_view, places_view}
 use Rattle.kc_explanation.proofs.PartLines.{placed_details, placed_details_are}
 use Rattle.kc_explanation.proofs.ExplanationLemmas.{located_details_is}
 use Rattle.kc_explanation.proofs.located_explanation.push_located_details.Goals as goal

@@ -1,9 +1,5 @@
-use Rattle.std.proofs.Common.{◌++◌, ap, sym, ◌∙◌}
-use Rattle.std.proofs.lemmas.Result.{on_ok_weaker}
-use Rattle.kc_evaluation.specs.checker.ValuationView.{valuation_tree, valuation_exprs, valuation_values}
-use Rattle.kc_reasons.specs.between.ReasonsView.{reasons_view}
-use Rattle.kc_symbol_lines.specs.between.LinesView.{symbol_lines_view}
-use Rattle.kc_explanation.specs.between.ReasonPlacesView.{places_view}
+use Rattle.kc_explanation.proofs.Common.{◌++◌, ap, sym, ◌∙◌, on_ok_weaker, valuation_tree, valuation_exprs, valuation_values, reasons_view, symbol_lines_view,
+    places_view}
 use Rattle.kc_explanation.proofs.ExplanationLemmas.{located_explained_at_is, joined_three}
 use Rattle.kc_explanation.proofs.located_explanation.push_located_explanation.Goals as goal
 

@@ -1,11 +1,5 @@
-use Rattle.std.proofs.Common.{◌++◌, ap, sym, map, ◌∙◌}
-use Rattle.std.specs.Prelude.{codes}
-use Rattle.std.proofs.lemmas.Result.{on_ok_weaker}
-use Rattle.kc_tree.specs.between.Views.{symbol_view}
-use Rattle.kc_evaluation.specs.checker.ValuationView.{valuation_tree, valuation_exprs, valuation_values}
-use Rattle.kc_rules_model.specs.SymbolValues.{environment}
-use Rattle.kc_symbol_lines.specs.between.LinesView.{position_view}
-use Rattle.kc_located_reasons.specs.between.PartsView.{located_alternatives_view}
+use Rattle.kc_explanation.proofs.Common.{◌++◌, ap, sym, map, ◌∙◌, codes, on_ok_weaker, symbol_view, valuation_tree, valuation_exprs, valuation_values,
+    environment, position_view, located_alternatives_view}
 use Rattle.kc_explanation.proofs.PartLines.{located_lines}
 use Rattle.kc_explanation.proofs.ExplanationLemmas.{located_unmet_is, joined_two}
 use Rattle.kc_explanation.proofs.located_explanation.push_located_unmet.Goals as goal

@@ -1,5 +1,4 @@
-use Rattle.std.proofs.Common.{◌≡◌, ◌++◌, map, drop}
-use Rattle.kc_explanation.specs.checker.PartLines.{part_lines}
+use Rattle.kc_explanation.proofs.Common.{◌≡◌, ◌++◌, map, drop, part_lines}
 use Rattle.kc_explanation.proofs.part_texts.push_part_lines.Given as goal
 
 abbrev pub invariant-loop-list : goal.invariant-loop-list

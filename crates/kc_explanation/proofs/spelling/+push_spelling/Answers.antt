@@ -1,8 +1,6 @@
-use Rattle.std.proofs.Common.{◌≡◌, true, false, ap, sym, ◌∙◌, subst, arith}
-use Rattle.std.proofs.lemmas.Result.{on_ok_weaker}
-use Rattle.kc_expr.specs.between.Arena.{node_expr}
+use Rattle.std.proofs.Common.{subst}
+use Rattle.kc_explanation.proofs.Common.{◌≡◌, true, false, ap, sym, ◌∙◌, arith, on_ok_weaker, node_expr, is_enclosed, spelling_in_reverse}
 use Rattle.kc_expr.specs.between.ExprParts.{expr_of_parts, ArePartsOf}
-use Rattle.kc_explanation.specs.checker.SpellingWalk.{is_enclosed, spelling_in_reverse}
 use Rattle.kc_explanation.proofs.SpellingLemmas.{in_whole, bare_both, bare_either, closed, past_operator, ended, ended_by_not, alone_token, relation_tokens}
 use Rattle.kc_explanation.proofs.spelling.+push_spelling.Goals as goal
 

@@ -1,5 +1,4 @@
-use Rattle.std.proofs.Common.{◌++◌, ap, ◌∙◌}
-use Rattle.std.proofs.lemmas.Result.{on_ok_weaker}
+use Rattle.kc_explanation.proofs.Common.{◌++◌, ap, ◌∙◌, on_ok_weaker}
 use Rattle.kc_explanation.proofs.Spellings.{spelled_is}
 use Rattle.kc_explanation.proofs.token_texts.push_text_of_kind.Goals as goal
 

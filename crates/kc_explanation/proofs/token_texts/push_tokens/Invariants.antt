@@ -1,9 +1,8 @@
-use Rattle.std.proofs.Common.{◌≡◌, ◌++◌, drop}
+use Rattle.kc_explanation.proofs.Common.{◌≡◌, ◌++◌, drop, exprs_of, lexemes_of}
 use Rattle.std.specs.Prelude.{flat_map}
 use Rattle.kc_reasons_model.specs.Reasons.{valued_token}
 use Rattle.kc_explanation.specs.Explained.{token_with_value}
-use Rattle.kc_explanation.specs.checker.Contexts.{exprs_of, names_of}
-use Rattle.kc_explanation.specs.between.SpelledTokens.{lexemes_of}
+use Rattle.kc_explanation.specs.checker.Contexts.{names_of}
 use Rattle.kc_explanation.proofs.token_texts.push_tokens.Given as goal
 
 abbrev pub invariant-loop-token : goal.invariant-loop-token

@@ -1,12 +1,7 @@
-use Rattle.std.proofs.Common.{◌≡◌, not, map, ap, ◌∙◌}
-use Rattle.std.specs.Prelude.{slice_get}
-use Rattle.std.specs.Option.{option_and_then}
+use Rattle.kc_located_reasons.proofs.Common.{◌≡◌, not, map, ap, ◌∙◌, slice_get, option_and_then, valuation_tree, valuation_exprs, valuation_values, is_n,
+    condition, position_view}
 use Rattle.kc_tree_model.specs.Trees.{Range}
 use Rattle.kc_tree.specs.between.Views.{range_view}
-use Rattle.kc_evaluation.specs.checker.ValuationView.{valuation_tree, valuation_exprs, valuation_values}
-use Rattle.kc_rules_model.specs.Kinds.{is_n}
-use Rattle.kc_rules_model.specs.SymbolValues.{condition}
-use Rattle.kc_symbol_lines.specs.between.LinesView.{position_view}
 use Rattle.kc_located_reasons.proofs.Searches.{position_mapped}
 use Rattle.kc_located_reasons.proofs.given_places.range_place.Goals as goal
 

@@ -1,10 +1,5 @@
-use Rattle.std.proofs.Common.{◌≡◌, ap, ◌∙◌}
-use Rattle.kc_evaluation.specs.checker.ValuationView.{valuation_tree, valuation_exprs, valuation_values}
-use Rattle.kc_rules_model.specs.SymbolValues.{environment}
-use Rattle.kc_symbol_lines.specs.between.LinesView.{located_view}
-use Rattle.kc_located_reasons.specs.LocatedNeeds.{lacking_at}
-use Rattle.kc_located_reasons.specs.between.PartsView.{located_parts_view}
-use Rattle.std.proofs.Common.{◌++◌}
+use Rattle.kc_located_reasons.proofs.Common.{◌≡◌, ap, ◌∙◌, valuation_tree, valuation_exprs, valuation_values, environment, located_view, lacking_at,
+    located_parts_view, ◌++◌}
 use Rattle.kc_located_reasons.proofs.PartLemmas.{more_lines}
 use Rattle.kc_located_reasons.proofs.located_parts.located_lacking.Goals as goal
 

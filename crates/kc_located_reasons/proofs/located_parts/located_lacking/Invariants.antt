@@ -1,10 +1,6 @@
-use Rattle.std.proofs.Common.{◌≡◌, ◌++◌, drop}
+use Rattle.kc_located_reasons.proofs.Common.{◌≡◌, ◌++◌, drop, valuation_tree, valuation_exprs, valuation_values, environment, all_located, located_lacking,
+    located_parts_view, IsPartThere}
 use Rattle.std.specs.List.{All}
-use Rattle.kc_evaluation.specs.checker.ValuationView.{valuation_tree, valuation_exprs, valuation_values}
-use Rattle.kc_rules_model.specs.SymbolValues.{environment}
-use Rattle.kc_symbol_lines.specs.between.LinesView.{all_located}
-use Rattle.kc_located_reasons.specs.LocatedNeeds.{located_lacking}
-use Rattle.kc_located_reasons.specs.between.PartsView.{located_parts_view, IsPartThere}
 use Rattle.kc_located_reasons.proofs.located_parts.located_lacking.Given as goal
 
 abbrev pub invariant-loop-part : goal.invariant-loop-part

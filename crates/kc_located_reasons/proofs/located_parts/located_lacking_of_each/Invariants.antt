@@ -1,8 +1,4 @@
-use Rattle.std.proofs.Common.{◌≡◌, ◌++◌, map, drop}
-use Rattle.kc_evaluation.specs.checker.ValuationView.{valuation_tree, valuation_exprs, valuation_values}
-use Rattle.kc_rules_model.specs.SymbolValues.{environment}
-use Rattle.kc_symbol_lines.specs.between.LinesView.{each_located}
-use Rattle.kc_located_reasons.specs.LocatedNeeds.{located_lacking}
+use Rattle.kc_located_reasons.proofs.Common.{◌≡◌, ◌++◌, map, drop, valuation_tree, valuation_exprs, valuation_values, environment, each_located, located_lacking}
 use Rattle.kc_located_reasons.specs.between.PartsView.{located_alternatives_view, ArePartsThere}
 use Rattle.kc_located_reasons.proofs.located_parts.located_lacking_of_each.Given as goal
 

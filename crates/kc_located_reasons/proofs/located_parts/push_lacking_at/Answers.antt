@@ -1,14 +1,10 @@
-use Rattle.std.proofs.Common.{◌≡◌, map, ap, sym, ◌∙◌, subst}
-use Rattle.std.specs.Prelude.{All}
+use Rattle.std.proofs.Common.{subst}
+use Rattle.kc_located_reasons.proofs.Common.{◌≡◌, map, ap, sym, ◌∙◌, All, valuation_tree, valuation_exprs, valuation_values, environment, lacking, parts_view,
+    IsPartThere, part_at}
 use Rattle.std.proofs.lemmas.Result.{on_ok_weaker}
 use Rattle.std.proofs.lemmas.List.Elements.{All-append, All-map, All-same}
 use Rattle.kc_expr.specs.between.Arena.{node_expr}
-use Rattle.kc_evaluation.specs.checker.ValuationView.{valuation_tree, valuation_exprs, valuation_values}
-use Rattle.kc_rules_model.specs.SymbolValues.{environment}
-use Rattle.kc_reasons_model.specs.Conjuncts.{lacking}
-use Rattle.kc_reasons.specs.between.Parts.{parts_view, IsThere}
-use Rattle.kc_located_reasons.specs.between.PartsView.{IsPartThere}
-use Rattle.kc_located_reasons.specs.checker.PartLists.{part_at}
+use Rattle.kc_reasons.specs.between.Parts.{IsThere}
 use Rattle.kc_located_reasons.proofs.PartLemmas.{parts_added}
 use Rattle.kc_located_reasons.proofs.located_parts.push_lacking_at.Goals as goal
 

@@ -1,5 +1,4 @@
-use Rattle.std.proofs.Common.{◌≡◌, ◌++◌, map, drop}
-use Rattle.kc_located_reasons.specs.checker.PartLists.{part_at}
+use Rattle.kc_located_reasons.proofs.Common.{◌≡◌, ◌++◌, map, drop, part_at}
 use Rattle.kc_located_reasons.proofs.located_parts.push_parts.Given as goal
 
 abbrev pub invariant-loop-part : goal.invariant-loop-part

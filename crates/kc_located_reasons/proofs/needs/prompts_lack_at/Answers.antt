@@ -1,14 +1,9 @@
-use Rattle.std.proofs.Common.{map, ap, sym, ◌∙◌}
+use Rattle.kc_located_reasons.proofs.Common.{map, ap, sym, ◌∙◌, valuation_tree, valuation_exprs, valuation_values, environment, each_located, located_lacking,
+    LocatedPart, located_part_view, IsPartThere}
 use Rattle.std.specs.Global.{Vec}
 use Rattle.std.specs.List.{All}
-use Rattle.kc_evaluation.specs.checker.ValuationView.{valuation_tree, valuation_exprs, valuation_values}
-use Rattle.kc_rules_model.specs.SymbolValues.{environment}
 use Rattle.kc_reasons.proofs.EmptyLists.{unless_empty, all_kept}
-use Rattle.kc_symbol_lines.specs.between.LinesView.{each_located}
 use Rattle.kc_located_reasons.specs.LocatedNeeds as model
-use Rattle.kc_located_reasons.specs.LocatedNeeds.{located_lacking}
-use Rattle.kc_located_reasons.specs.declared.located_parts.LocatedPart.{LocatedPart}
-use Rattle.kc_located_reasons.specs.between.PartsView.{located_part_view, IsPartThere}
 use Rattle.kc_located_reasons.proofs.needs.prompts_lack_at.Goals as goal
 
 pub returns : goal.returns

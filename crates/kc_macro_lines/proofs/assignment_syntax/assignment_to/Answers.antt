@@ -1,5 +1,4 @@
-use Rattle.std.proofs.Common.{◌∙◌, Some, sym, ap}
-use Rattle.kc_macros_model.specs.Assignments.{assigned, operator_at}
+use Rattle.kc_macro_lines.proofs.Common.{◌∙◌, Some, sym, ap, assigned, operator_at}
 use Rattle.kc_macro_lines.proofs.FrontLemmas.{assigns_by, assigns_nothing}
 use Rattle.kc_macro_lines.proofs.assignment_syntax.assignment_to.Goals as goal
 

@@ -1,5 +1,4 @@
-use Rattle.std.proofs.Common.{◌≡◌, ℕ, Bool, length}
-use Rattle.kc_macros_model.specs.Assignments.{without_front}
+use Rattle.kc_macro_lines.proofs.Common.{◌≡◌, ℕ, Bool, length, without_front}
 use Rattle.kc_macro_lines.proofs.assignment_syntax.without_front.Given as goal
 
 -- the bytes of the text before `rest` pass the test

@@ -1,5 +1,4 @@
-use Rattle.std.proofs.Common.{◌≡◌, ◌∙◌, true, false, sym}
-use Rattle.kc_macro_lines.specs.checker.LineFronts.{assigned_of}
+use Rattle.kc_macro_lines.proofs.Common.{◌≡◌, ◌∙◌, true, false, sym, assigned_of}
 use Rattle.kc_macro_lines.proofs.CopiedLineLemmas.{none_found, not_so}
 use Rattle.kc_macro_lines.proofs.QuietLemmas.{prompts_not}
 use Rattle.kc_macro_lines.proofs.copied_lines.begins_nothing_to_expand.Goals as goal

@@ -1,5 +1,4 @@
-use Rattle.std.proofs.Common.{◌≡◌, ◌∙◌, false, sym, arith}
-use Rattle.kc_macro_lines.specs.checker.QuietLines.{has_dollar_or_wide}
+use Rattle.kc_macro_lines.proofs.Common.{◌≡◌, ◌∙◌, false, sym, arith, has_dollar_or_wide}
 use Rattle.kc_macro_lines.proofs.CopiedLineLemmas.{copied}
 use Rattle.kc_macro_lines.proofs.QuietLemmas.{no_dollar_in, narrow_is_utf8}
 use Rattle.kc_macro_lines.proofs.copied_lines.is_copied.Goals as goal

@@ -1,5 +1,4 @@
-use Rattle.std.proofs.Common.{◌≡◌, take}
-use Rattle.kc_macro_lines.specs.checker.LineTexts.{has_equals_sign}
+use Rattle.kc_macro_lines.proofs.Common.{◌≡◌, take, has_equals_sign}
 use Rattle.kc_macro_lines.proofs.environment_lines.has_equals_sign.Given as goal
 
 -- `found` is whether a `=` is among the bytes passed so far

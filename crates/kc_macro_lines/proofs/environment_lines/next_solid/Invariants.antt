@@ -1,6 +1,4 @@
-use Rattle.std.proofs.Common.{◌≡◌, length}
-use Rattle.kc_macros_model.specs.LineTokens.{line_tokens}
-use Rattle.kc_macros_model.specs.EnvironmentLines.{solid_tokens}
+use Rattle.kc_macro_lines.proofs.Common.{◌≡◌, length, line_tokens, solid_tokens}
 use Rattle.kc_macro_lines.proofs.environment_lines.next_solid.Given as goal
 
 -- the tokens of the whole text without gaps are those of `rest`

@@ -1,11 +1,5 @@
-use Rattle.std.proofs.Common.{◌∙◌, ◌<◌, ◌∷◌, ◌++◌, [], length, sym, ap, arith}
-use Rattle.kc_macros_model.specs.LineTokens.{line_tokens}
-use Rattle.kc_macros_model.specs.Assignments.{assigned}
-use Rattle.kc_macros.specs.Runs.{place_of}
-use Rattle.kc_macros.specs.between.Variables.{bindings_of}
-use Rattle.kc_macro_forms.specs.between.WrittenTokens.{tokens_of}
-use Rattle.kc_macro_lines.specs.checker.LineFronts.{assigned_of}
-use Rattle.kc_macros.proofs.ProgramLemmas.{steps_stopped, steps_out}
+use Rattle.kc_macro_lines.proofs.Common.{◌∙◌, ◌<◌, ◌∷◌, ◌++◌, [], length, sym, ap, arith, line_tokens, assigned, place_of, bindings_of, tokens_of, assigned_of,
+    steps_stopped, steps_out}
 use Rattle.kc_macro_lines.proofs.FrontLemmas.{none_of, some_of}
 use Rattle.kc_macro_lines.proofs.LineContentLemmas.{tokens_pushed, name_stopped, name_unknown, name_empty, name_assigned}
 use Rattle.kc_macro_lines.proofs.line_content.assigned_or_gap.Goals as goal

@@ -1,5 +1,4 @@
-use Rattle.std.proofs.Common.{◌≡◌, ◌∙◌, false, true, sym}
-use Rattle.kc_macro_forms.specs.between.WrittenTokens.{token_of}
+use Rattle.kc_macro_lines.proofs.Common.{◌≡◌, ◌∙◌, false, true, sym, token_of}
 use Rattle.kc_macro_lines.proofs.FrontLemmas.{open_so}
 use Rattle.kc_macro_lines.proofs.line_content.is_open_front.Goals.{then-may_assign, else-may_assign}
 use Rattle.kc_macro_lines.proofs.line_content.is_open_front.Goals as goal

@@ -1,10 +1,4 @@
-use Rattle.std.proofs.Common.{◌∙◌, sym}
-use Rattle.kc_macros_model.specs.LineTokens.{line_tokens}
-use Rattle.kc_macros.specs.Runs.{place_of}
-use Rattle.kc_macros.specs.between.Variables.{bindings_of}
-use Rattle.kc_macro_forms.specs.between.WrittenTokens.{token_of, tokens_of}
-use Rattle.kc_macro_lines.specs.checker.LineTexts.{token_view}
-use Rattle.kc_macros.proofs.ProgramLemmas.{steps_stopped, steps_out}
+use Rattle.kc_macro_lines.proofs.Common.{◌∙◌, sym, line_tokens, place_of, bindings_of, token_of, tokens_of, token_view, steps_stopped, steps_out}
 use Rattle.kc_macro_lines.proofs.LineContentLemmas.{tokens_pushed, token_stopped, token_open, token_pushed}
 use Rattle.kc_macro_lines.proofs.line_content.push_token.Goals as goal
 

@@ -1,9 +1,4 @@
-use Rattle.std.proofs.Common.{ap, rules}
-use Rattle.kc_macros_model.specs.LineTokens.{line_tokens}
-use Rattle.kc_macros.specs.Runs.{place_of}
-use Rattle.kc_macros.specs.between.Variables.{bindings_of}
-use Rattle.kc_macro_forms.specs.between.WrittenTokens.{tokens_of}
-use Rattle.kc_macros.proofs.NameLemmas.{no_element}
+use Rattle.kc_macro_lines.proofs.Common.{ap, rules, line_tokens, place_of, bindings_of, tokens_of, no_element}
 use Rattle.kc_macro_lines.proofs.LineContentLemmas.{content_begins, content_ends, content_assigned}
 use Rattle.kc_macro_lines.proofs.line_content.read_tokens.Goals as goal
 

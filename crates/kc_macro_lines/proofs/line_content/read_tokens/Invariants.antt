@@ -1,9 +1,4 @@
-use Rattle.std.proofs.Common.{true, length}
-use Rattle.kc_macros_model.specs.LineTokens.{line_tokens}
-use Rattle.kc_macros_model.specs.Assignments.{line_content}
-use Rattle.kc_macros.specs.Runs.{place_of}
-use Rattle.kc_macros.specs.between.Variables.{bindings_of}
-use Rattle.kc_macros.specs.checker.ProgramSteps.{Leads}
+use Rattle.kc_macro_lines.proofs.Common.{true, length, line_tokens, line_content, place_of, bindings_of, Leads}
 use Rattle.kc_macro_lines.specs.checker.LineFronts.{front_left}
 use Rattle.kc_macro_lines.proofs.line_content.read_tokens.Given as goal
 

@@ -1,7 +1,4 @@
-use Rattle.std.proofs.Common.{◌≡◌, ◌∙◌, ◌<◌, length, sym, rules}
-use Rattle.std.specs.Prelude.{is_some}
-use Rattle.kc_macros_model.specs.References.{item_bytes}
-use Rattle.kc_macro_lines.specs.checker.LineTexts.{first_item_of, ends_extent}
+use Rattle.kc_macro_lines.proofs.Common.{◌≡◌, ◌∙◌, ◌<◌, length, sym, rules, is_some, item_bytes, first_item_of, ends_extent}
 use Rattle.kc_macro_lines.proofs.TokenLemmas.{later_within, later_counted}
 use Rattle.kc_macro_lines.proofs.line_tokens.extent.Goals as goal
 

@@ -1,7 +1,4 @@
-use Rattle.std.proofs.Common.{◌≡◌, ◌≤◌, ◌+◌, ◌-◌, length}
-use Rattle.std.specs.Prelude.{is_some}
-use Rattle.kc_macros_model.specs.LineTokens.{extent}
-use Rattle.kc_macro_lines.specs.checker.LineTexts.{ends_extent}
+use Rattle.kc_macro_lines.proofs.Common.{◌≡◌, ◌≤◌, ◌+◌, ◌-◌, length, is_some, extent, ends_extent}
 use Rattle.kc_macro_lines.proofs.line_tokens.extent.Given as goal
 
 -- no item of the text before `rest` begins with a byte that ends the extent

@@ -1,6 +1,4 @@
-use Rattle.std.proofs.Common.{◌≡◌, length}
-use Rattle.std.specs.List.{list_any}
-use Rattle.kc_macros_model.specs.References.{items, is_unterminated}
+use Rattle.kc_macro_lines.proofs.Common.{◌≡◌, length, list_any, items, is_unterminated}
 use Rattle.kc_macro_lines.proofs.line_tokens.has_unterminated.Given as goal
 
 -- no `$(` of the text before `rest` is without its `)`

@@ -1,6 +1,5 @@
-use Rattle.std.proofs.Common.{ℕ, leb, cond}
-use Rattle.std.proofs.lemmas.Simd.{length-chunk, zip2_splat, zip2_splat_left, zip2_of_maps}
-use lib.Lanes.{chunk}
+use Rattle.kc_macro_lines.proofs.Common.{ℕ, leb, cond, length-chunk, chunk}
+use Rattle.std.proofs.lemmas.Simd.{zip2_splat, zip2_splat_left, zip2_of_maps}
 use Rattle.kc_macro_lines.proofs.MarkLemmas.{block_marked}
 use Rattle.kc_macro_lines.proofs.marked_bytes.block_has_mark.Goals as goal
 

@@ -1,5 +1,4 @@
-use Rattle.std.proofs.Common.{◌≡◌, ◌≤◌, ◌-◌, false, length, take}
-use Rattle.kc_macro_lines.specs.checker.QuietLines.{has_dollar_or_wide}
+use Rattle.kc_macro_lines.proofs.Common.{◌≡◌, ◌≤◌, ◌-◌, false, length, take, has_dollar_or_wide}
 use Rattle.kc_macro_lines.proofs.marked_bytes.blocks_have_mark.Given as goal
 
 abbrev pub invariant-loop-at : goal.invariant-loop-at

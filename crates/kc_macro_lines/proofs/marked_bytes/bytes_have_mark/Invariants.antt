@@ -1,5 +1,4 @@
-use Rattle.std.proofs.Common.{◌≡◌, take}
-use Rattle.kc_macro_lines.specs.checker.QuietLines.{has_dollar_or_wide}
+use Rattle.kc_macro_lines.proofs.Common.{◌≡◌, take, has_dollar_or_wide}
 use Rattle.kc_macro_lines.proofs.marked_bytes.bytes_have_mark.Given as goal
 
 -- `found` is whether a `$` or a byte that isn't ASCII is among the bytes passed so far

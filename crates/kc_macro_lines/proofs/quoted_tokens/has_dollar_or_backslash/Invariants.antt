@@ -1,5 +1,4 @@
-use Rattle.std.proofs.Common.{◌≡◌, take}
-use Rattle.kc_macro_lines.specs.checker.Bodies.{has_dollar_or_backslash}
+use Rattle.kc_macro_lines.proofs.Common.{◌≡◌, take, has_dollar_or_backslash}
 use Rattle.kc_macro_lines.proofs.quoted_tokens.has_dollar_or_backslash.Given as goal
 
 -- `found` is whether a `$` or a `\` is among the bytes passed so far

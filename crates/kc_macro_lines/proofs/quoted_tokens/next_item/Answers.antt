@@ -1,9 +1,5 @@
-use Rattle.std.proofs.Common.{◌∙◌, ◌+◌, true, length, take, drop, get_or, refl, sym}
-use Rattle.kc_macros_model.specs.References.{byte, escaped, unterminated, items}
-use Rattle.kc_macros.specs.Runs.{place_of}
-use Rattle.kc_macros.specs.between.Variables.{bindings_of}
-use Rattle.kc_macro_lines.specs.checker.Bodies.{body_of_code}
-use Rattle.kc_macros.proofs.ProgramLemmas.{steps_stopped, steps_out}
+use Rattle.kc_macro_lines.proofs.Common.{◌∙◌, ◌+◌, true, length, take, drop, get_or, refl, sym, byte, escaped, unterminated, items, place_of, bindings_of,
+    body_of_code, steps_stopped, steps_out}
 use Rattle.kc_macro_lines.proofs.TokenLemmas.{pair_front, byte_front}
 use Rattle.kc_macro_lines.proofs.BodyLemmas.{item_fails, value_stopped, value_written, item_written}
 use Rattle.kc_macro_lines.proofs.quoted_tokens.next_item.Goals as goal

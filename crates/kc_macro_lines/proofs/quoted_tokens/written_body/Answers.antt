@@ -1,12 +1,5 @@
-use Rattle.std.proofs.Common.{◌∙◌, true, sym, ap, rules}
+use Rattle.kc_macro_lines.proofs.Common.{◌∙◌, true, sym, ap, rules, items, place_of, bindings_of, body_of_code, no_element, runs_out, returns_so}
 use Rattle.kc_macros_model.specs.Programs.{returns as returns_value}
-use Rattle.kc_macros_model.specs.References.{items}
-use Rattle.kc_macros.specs.Runs.{place_of}
-use Rattle.kc_macros.specs.between.Variables.{bindings_of}
-use Rattle.kc_macro_lines.specs.checker.Bodies.{body_of_code}
-use Rattle.kc_macros.proofs.NameLemmas.{no_element}
-use Rattle.kc_macros.proofs.RunLemmas.{runs_out}
-use Rattle.kc_macros.proofs.ExpansionLemmas.{returns_so}
 use Rattle.kc_macro_lines.proofs.QuietLemmas.{plain_written}
 use Rattle.kc_macro_lines.proofs.BodyLemmas.{body_begins, body_ends}
 use Rattle.kc_macro_lines.proofs.quoted_tokens.written_body.Goals as goal

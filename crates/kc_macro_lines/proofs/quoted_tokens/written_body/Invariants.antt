@@ -1,10 +1,4 @@
-use Rattle.std.proofs.Common.{true, length}
-use Rattle.kc_macros_model.specs.References.{items}
-use Rattle.kc_macros_model.specs.WrittenTokens.{written_items}
-use Rattle.kc_macros.specs.Runs.{place_of}
-use Rattle.kc_macros.specs.between.Variables.{bindings_of}
-use Rattle.kc_macro_lines.specs.checker.Bodies.{body_of_code, bodies_left}
-use Rattle.kc_macros.specs.checker.ProgramSteps.{Leads}
+use Rattle.kc_macro_lines.proofs.Common.{true, length, items, written_items, place_of, bindings_of, body_of_code, bodies_left, Leads}
 use Rattle.kc_macro_lines.proofs.quoted_tokens.written_body.Given as goal
 
 -- the body of the whole text is the bytes written so far followed by the items of `rest`

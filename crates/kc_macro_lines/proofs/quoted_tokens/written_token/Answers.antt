@@ -1,14 +1,6 @@
-use Rattle.std.proofs.Common.{◌∙◌, sym, ap}
+use Rattle.kc_macro_lines.proofs.Common.{◌∙◌, sym, ap, written_token, place_of, bindings_of, token_view, token_of, body_of_code, quoted_written, runs_out,
+    passes_on, runs_same, fails_so, returns_so}
 use Rattle.kc_macros_model.specs.Programs.{returns as returns_value}
-use Rattle.kc_macros_model.specs.WrittenTokens.{written_token}
-use Rattle.kc_macros.specs.Runs.{place_of}
-use Rattle.kc_macros.specs.between.Variables.{bindings_of}
-use Rattle.kc_macro_lines.specs.checker.LineTexts.{token_view}
-use Rattle.kc_macro_forms.specs.between.WrittenTokens.{token_of}
-use Rattle.kc_macro_lines.specs.checker.Bodies.{body_of_code, quoted_written}
-use Rattle.kc_macros.proofs.RunLemmas.{runs_out, passes_on}
-use Rattle.kc_macros.proofs.ProgramLemmas.{runs_same}
-use Rattle.kc_macros.proofs.ExpansionLemmas.{fails_so, returns_so}
 use Rattle.kc_macro_lines.proofs.BodyLemmas.{quoted_stopped, quoted_returned}
 use Rattle.kc_macro_lines.proofs.quoted_tokens.written_token.Goals as goal
 

@@ -1,8 +1,5 @@
-use Rattle.std.proofs.Common.{◌≡◌, ◌∙◌, ◌||◌, ◌-◌, false, [], length, take, drop, sym, ap, rules}
-use Rattle.std.specs.List.{list_any}
-use Rattle.kc_macros_model.specs.References.{items, is_reference, is_plain_dollar}
-use Rattle.kc_macros.proofs.NameLemmas.{no_element}
-use Rattle.kc_macro_lines.specs.checker.LineTexts.{first_item_of}
+use Rattle.kc_macro_lines.proofs.Common.{◌≡◌, ◌∙◌, ◌||◌, ◌-◌, false, [], length, take, drop, sym, ap, rules, list_any, items, is_reference, is_plain_dollar,
+    no_element, first_item_of}
 use Rattle.kc_macro_lines.proofs.TokenLemmas.{item_here, item_later, item_either}
 use Rattle.kc_macro_lines.proofs.token_values.run_content.Goals as goal
 use Rattle.kc_macro_lines.proofs.token_values.run_content.Goals.{then-has_reference, else-has_reference}

@@ -1,6 +1,4 @@
-use Rattle.std.proofs.Common.{◌≡◌, ◌||◌, false, length}
-use Rattle.std.specs.List.{list_any}
-use Rattle.kc_macros_model.specs.References.{items, is_reference, is_plain_dollar}
+use Rattle.kc_macro_lines.proofs.Common.{◌≡◌, ◌||◌, false, length, list_any, items, is_reference, is_plain_dollar}
 use Rattle.kc_macro_lines.proofs.token_values.run_content.Given as goal
 
 -- no item of the text before `rest` is a `$` that begins no reference, and `has_reference` tells whether one is a reference

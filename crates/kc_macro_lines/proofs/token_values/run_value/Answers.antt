@@ -1,9 +1,5 @@
-use Rattle.std.proofs.Common.{◌∙◌, Some, sym, ap}
+use Rattle.kc_macro_lines.proofs.Common.{◌∙◌, Some, sym, ap, place_of, bindings_of, runs_out, returns_so}
 use Rattle.kc_macros_model.specs.Programs.{returns as returns_value}
-use Rattle.kc_macros.specs.Runs.{place_of}
-use Rattle.kc_macros.specs.between.Variables.{bindings_of}
-use Rattle.kc_macros.proofs.RunLemmas.{runs_out}
-use Rattle.kc_macros.proofs.ExpansionLemmas.{returns_so}
 use Rattle.kc_macro_lines.proofs.WrittenTokenLemmas.{plain_run}
 use Rattle.kc_macro_lines.proofs.token_values.run_value.Goals as goal
 

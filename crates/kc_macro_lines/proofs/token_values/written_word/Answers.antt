@@ -1,10 +1,5 @@
-use Rattle.std.proofs.Common.{◌∙◌, sym, ap}
+use Rattle.kc_macro_lines.proofs.Common.{◌∙◌, sym, ap, place_of, bindings_of, token_of, runs_out, passes_on, returns_so}
 use Rattle.kc_macros_model.specs.Programs.{returns as returns_value}
-use Rattle.kc_macros.specs.Runs.{place_of}
-use Rattle.kc_macros.specs.between.Variables.{bindings_of}
-use Rattle.kc_macro_forms.specs.between.WrittenTokens.{token_of}
-use Rattle.kc_macros.proofs.RunLemmas.{runs_out, passes_on}
-use Rattle.kc_macros.proofs.ExpansionLemmas.{returns_so}
 use Rattle.kc_macro_lines.proofs.WrittenTokenLemmas.{run_stays, run_is_word, run_stopped, run_valued}
 use Rattle.kc_macro_lines.proofs.token_values.written_word.Goals as goal
 

@@ -1,6 +1,4 @@
-use Rattle.std.proofs.Common.{Some, ap}
-use Rattle.kc_macros.specs.Runs.{place_of}
-use Rattle.kc_macros.specs.between.Variables.{bindings_of, variable_of}
+use Rattle.kc_macros.proofs.Common.{Some, ap, place_of, bindings_of, variable_of}
 use Rattle.kc_macros.proofs.RunLemmas.{runs_out, passes_on}
 use Rattle.kc_macros.proofs.AssignmentLemmas.{append_unstored, append_stored}
 use Rattle.kc_macros.proofs.assignments.appended.Goals as goal

@@ -1,5 +1,4 @@
-use Rattle.kc_macros.specs.Runs.{place_of}
-use Rattle.kc_macros.specs.between.Variables.{bindings_of, variable_of}
+use Rattle.kc_macros.proofs.Common.{place_of, bindings_of, variable_of}
 use Rattle.kc_macros.proofs.RunLemmas.{runs_out, passes_on}
 use Rattle.kc_macros.proofs.AssignmentLemmas.{bound_stopped, bound_so}
 use Rattle.kc_macros.proofs.assignments.assign.Goals as goal

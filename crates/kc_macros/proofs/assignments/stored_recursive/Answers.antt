@@ -1,6 +1,4 @@
-use Rattle.std.proofs.Common.{Some}
-use Rattle.kc_macros_model.specs.Variables.{recursive}
-use Rattle.kc_macros.specs.Runs.{place_of}
+use Rattle.kc_macros.proofs.Common.{Some, recursive, place_of}
 use Rattle.kc_macros.proofs.RunLemmas.{passes_on}
 use Rattle.kc_macros.proofs.AssignmentLemmas.{stored_stopped, stored_returned}
 use Rattle.kc_macros.proofs.assignments.stored_recursive.Goals as goal

@@ -1,5 +1,4 @@
-use Rattle.kc_macros_model.specs.Variables.{simple}
-use Rattle.kc_macros.specs.Runs.{place_of}
+use Rattle.kc_macros.proofs.Common.{simple, place_of}
 use Rattle.kc_macros.proofs.RunLemmas.{passes_on}
 use Rattle.kc_macros.proofs.AssignmentLemmas.{stored_stopped, stored_returned}
 use Rattle.kc_macros.proofs.assignments.stored_simple.Goals as goal

@@ -1,5 +1,4 @@
-use Rattle.kc_macros.specs.Runs.{place_of}
-use Rattle.kc_macros.specs.between.Variables.{bindings_of}
+use Rattle.kc_macros.proofs.Common.{place_of, bindings_of}
 use Rattle.kc_macros.proofs.RunLemmas.{passes_on}
 use Rattle.kc_macros.proofs.AssignmentLemmas.{set_unstored, set_stored}
 use Rattle.kc_macros.proofs.assignments.variable_assigned.Goals as goal

@@ -1,8 +1,5 @@
-use Rattle.std.proofs.Common.{ℕ, List, Bor, Some, sym}
-use Rattle.std.specs.Prelude.{option_map}
-use Rattle.kc_macros_model.specs.Variables.{value_of_answer}
-use Rattle.kc_macros_model.specs.Expansion.{asked_value}
-use Rattle.kc_macros.specs.Runs.{place_of}
+use Rattle.std.proofs.Common.{Bor}
+use Rattle.kc_macros.proofs.Common.{ℕ, List, Some, sym, option_map, value_of_answer, asked_value, place_of}
 use Rattle.kc_macros.proofs.RunLemmas.{runs_out, returns_as}
 use Rattle.kc_macros.proofs.EventLemmas.{noted, asks_answered}
 use Rattle.kc_macros.proofs.events.ask.Goals as goal

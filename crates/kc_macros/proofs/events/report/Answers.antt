@@ -1,8 +1,4 @@
-use Rattle.std.proofs.Common.{◌≡◌, ◌∙◌, ◌∷◌, ◌++◌, [], Some, ap}
-use Rattle.kc_macros_model.specs.Programs.{Place, Notice}
-use Rattle.kc_macros_model.specs.Expansion.{reported}
-use Rattle.kc_answers.specs.RunStates.{RunState}
-use Rattle.kc_macros.specs.Runs.{place_of}
+use Rattle.kc_macros.proofs.Common.{◌≡◌, ◌∙◌, ◌∷◌, ◌++◌, [], Some, ap, Place, Notice, reported, RunState, place_of}
 use Rattle.kc_macros.proofs.RunLemmas.{runs_out, returns_as}
 use Rattle.kc_macros.proofs.EventLemmas.{reports}
 use Rattle.kc_macros.proofs.events.report.Goals as goal

@@ -1,8 +1,4 @@
-use Rattle.std.proofs.Common.{sym, subst, arith}
-use Rattle.kc_answers.specs.RunStates.{RunState}
-use Rattle.kc_macros.specs.Runs.{place_of, ends, Runs}
-use Rattle.kc_macros_model.specs.Worlds.{returned}
-use Rattle.kc_macros.specs.checker.Events.{spent}
+use Rattle.kc_macros.proofs.Common.{sym, subst, arith, RunState, place_of, ends, Runs, returned, spent}
 use Rattle.kc_macros.proofs.EventLemmas.{spends_too_much, spends_enough}
 use Rattle.kc_macros.proofs.events.spend.Goals as goal
 

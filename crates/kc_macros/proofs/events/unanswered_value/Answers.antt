@@ -1,8 +1,4 @@
-use Rattle.std.proofs.Common.{◌∙◌, None, sym, subst}
-use Rattle.kc_macros_model.specs.Worlds.{returned}
-use Rattle.kc_macros_model.specs.Expansion.{asked_value}
-use Rattle.kc_answers.specs.RunStates.{RunState}
-use Rattle.kc_macros.specs.Runs.{place_of, ends, Runs}
+use Rattle.kc_macros.proofs.Common.{◌∙◌, None, sym, subst, returned, asked_value, RunState, place_of, ends, Runs}
 use Rattle.kc_macros.proofs.RunLemmas.{runs_out}
 use Rattle.kc_macros.proofs.EventLemmas.{asks_in_vain, asks_later}
 use Rattle.kc_macros.proofs.events.unanswered_value.Goals as goal

@@ -1,8 +1,5 @@
-use Rattle.std.proofs.Common.{◌≡◌, ◌∙◌, Some, sym, ap, length}
+use Rattle.kc_macros.proofs.Common.{◌≡◌, ◌∙◌, Some, sym, ap, length, built_in_value, place_of, arity_of}
 use Rattle.kc_macros_model.specs.Programs.{returns as returns_value}
-use Rattle.kc_macros_model.specs.Expansion.{built_in_value}
-use Rattle.kc_macros.specs.Runs.{place_of}
-use Rattle.kc_macros.specs.checker.BuiltIns.{arity_of}
 use Rattle.kc_macros.proofs.RunLemmas.{runs_out}
 use Rattle.kc_macros.proofs.ExpansionLemmas.{fails_so, returns_so}
 use Rattle.kc_macros.proofs.NameLemmas.{wrong_count, file_named, line_named}

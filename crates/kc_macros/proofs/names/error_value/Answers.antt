@@ -1,10 +1,8 @@
-use Rattle.std.proofs.Common.{◌∙◌, ℕ, List, Some, Bor, sym, ap}
-use Rattle.std.specs.Prelude.{option_map}
+use Rattle.std.proofs.Common.{Bor}
+use Rattle.kc_macros.proofs.Common.{◌∙◌, ℕ, List, Some, sym, ap, option_map, place_of, message_value}
 use Rattle.kc_macros_model.specs.declared.fault.MacroKind.TheVariants.{Error}
 use Rattle.kc_macros_model.specs.Programs.{returns as returns_value}
 use Rattle.kc_macros_model.specs.Expansion.{fault as fault_program}
-use Rattle.kc_macros.specs.Runs.{place_of}
-use Rattle.kc_macros.specs.checker.BuiltIns.{message_value}
 use Rattle.kc_macros.proofs.ExpansionLemmas.{fails_so, returns_so}
 use Rattle.kc_macros.proofs.names.error_value.Goals as goal
 

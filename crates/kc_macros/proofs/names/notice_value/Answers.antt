@@ -1,9 +1,6 @@
-use Rattle.std.proofs.Common.{◌∙◌, ℕ, List, Some, Bor, sym, ap}
-use Rattle.std.specs.Prelude.{option_map}
+use Rattle.std.proofs.Common.{Bor}
+use Rattle.kc_macros.proofs.Common.{◌∙◌, ℕ, List, Some, sym, ap, option_map, reported, place_of, message_value}
 use Rattle.kc_macros_model.specs.Programs.{returns as returns_value}
-use Rattle.kc_macros_model.specs.Expansion.{reported}
-use Rattle.kc_macros.specs.Runs.{place_of}
-use Rattle.kc_macros.specs.checker.BuiltIns.{message_value}
 use Rattle.kc_macros.proofs.ExpansionLemmas.{returns_so}
 use Rattle.kc_macros.proofs.names.notice_value.Goals as goal
 

@@ -1,6 +1,5 @@
-use Rattle.std.proofs.Common.{◌∙◌, Some, sym, ap, rules}
+use Rattle.kc_macros.proofs.Common.{◌∙◌, Some, sym, ap, rules, place_of}
 use Rattle.kc_macros_model.specs.Programs.{returns as returns_value}
-use Rattle.kc_macros.specs.Runs.{place_of}
 use Rattle.kc_macros.proofs.ExpansionLemmas.{fails_so, returns_so}
 use Rattle.kc_macros.proofs.NameLemmas.{other_with_args, number_ungiven, name_undefined}
 use Rattle.kc_macros.proofs.names.other_value.Goals as goal

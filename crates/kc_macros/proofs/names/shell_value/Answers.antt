@@ -1,6 +1,5 @@
-use Rattle.std.proofs.Common.{ap}
+use Rattle.kc_macros.proofs.Common.{ap, place_of}
 use Rattle.kc_macros_model.specs.Expansion.{shell_value}
-use Rattle.kc_macros.specs.Runs.{place_of}
 use Rattle.kc_macros.proofs.RunLemmas.{runs_out}
 use Rattle.kc_macros.proofs.ExpansionLemmas.{returns_so}
 use Rattle.kc_macros.proofs.names.shell_value.Goals as goal

@@ -1,5 +1,4 @@
-use Rattle.std.proofs.Common.{◌∙◌, sym, arith}
-use Rattle.std.specs.Char.{is_digit}
+use Rattle.kc_macros.proofs.Common.{◌∙◌, sym, arith, is_digit}
 use Rattle.kc_macros.proofs.NumberLemmas.{no_next_digit, too_large, next_value, all_more}
 use Rattle.kc_macros.proofs.parameter.number_within.Goals as goal
 

@@ -1,7 +1,4 @@
-use Rattle.std.proofs.Common.{◌≡◌, ◌≤◌, true, take}
-use Rattle.std.specs.List.{list_all}
-use Rattle.std.specs.Char.{is_digit}
-use Rattle.std.specs.Str.Parse.{digits_value}
+use Rattle.kc_macros.proofs.Common.{◌≡◌, ◌≤◌, true, take, list_all, is_digit, digits_value}
 use Rattle.kc_macros.proofs.parameter.number_within.Given as goal
 
 -- the first `i` bytes of the text are digits, and `number` is their number, which is within the limit

@@ -1,5 +1,4 @@
-use Rattle.std.proofs.Common.{◌≡◌, ◌≤◌, drop}
-use Rattle.kc_macros_model.specs.References.{inside_length}
+use Rattle.kc_macros.proofs.Common.{◌≡◌, ◌≤◌, drop, inside_length}
 use Rattle.kc_macros.proofs.PieceLemmas.{after}
 use Rattle.kc_macros.proofs.references.inside_length.Given as goal
 

@@ -1,5 +1,4 @@
-use Rattle.std.proofs.Common.{◌≡◌, ◌≤◌, take, drop}
-use Rattle.kc_macros_model.specs.References.{pieces}
+use Rattle.kc_macros.proofs.Common.{◌≡◌, ◌≤◌, take, drop, pieces}
 use Rattle.kc_macros.proofs.PieceLemmas.{front_onto}
 use Rattle.kc_macros.proofs.references.piece_length.Given as goal
 

@@ -1,6 +1,4 @@
-use Rattle.std.proofs.Common.{◌≡◌, ◌++◌, length}
-use Rattle.kc_macros_model.specs.References.{pieces}
-use Rattle.kc_macros.specs.between.SliceTexts.{texts_of_slices}
+use Rattle.kc_macros.proofs.Common.{◌≡◌, ◌++◌, length, pieces, texts_of_slices}
 use Rattle.kc_macros.proofs.references.pieces.Given as goal
 
 -- the pieces of the reference are those found so far and the pieces of `rest`

@@ -1,5 +1,4 @@
-use Rattle.std.proofs.Common.{◌≡◌, ◌++◌, false, map, take, drop}
-use Rattle.kc_macros_model.specs.References.{byte, items}
+use Rattle.kc_macros.proofs.Common.{◌≡◌, ◌++◌, false, map, take, drop, byte, items}
 use Rattle.kc_macros.proofs.references.plain_length.Given as goal
 
 -- no reference begins at one of the first `i` bytes of the text

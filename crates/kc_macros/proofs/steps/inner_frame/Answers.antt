@@ -1,5 +1,4 @@
-use Rattle.std.proofs.Common.{arith}
-use Rattle.kc_macros.specs.checker.Frames.{frame_place, frame_bindings, frame_names}
+use Rattle.kc_macros.proofs.Common.{arith, frame_place, frame_bindings, frame_names}
 use Rattle.kc_macros.proofs.ProgramLemmas.{steps_stopped}
 use Rattle.kc_macros.proofs.ExpansionLemmas.{fails_so, too_deep, whole_unpaid, whole_leads}
 use Rattle.kc_macros.proofs.steps.inner_frame.Goals as goal

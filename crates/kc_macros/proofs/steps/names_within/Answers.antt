@@ -1,6 +1,4 @@
-use Rattle.std.proofs.Common.{sym, ◌∙◌, ap}
-use Rattle.kc_macros.specs.Runs.{place_of}
-use Rattle.kc_macros.specs.between.SliceTexts.{texts_of_slices}
+use Rattle.kc_macros.proofs.Common.{sym, ◌∙◌, ap, place_of, texts_of_slices}
 use Rattle.kc_macros.proofs.ProgramLemmas.{steps_out, leads_same}
 use Rattle.kc_macros.proofs.CallLemmas.{is_recursive, is_not_recursive}
 use Rattle.kc_macros.proofs.ExpansionLemmas.{fails_so}

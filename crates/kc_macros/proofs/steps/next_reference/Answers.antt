@@ -1,6 +1,4 @@
-use Rattle.std.proofs.Common.{◌∙◌, ◌-◌, false, length, take, drop, refl, sym, ap, rules}
-use Rattle.kc_macros_model.specs.References.{items}
-use Rattle.kc_macros.specs.checker.Frames.{frame_place, frame_item}
+use Rattle.kc_macros.proofs.Common.{◌∙◌, ◌-◌, false, length, take, drop, refl, sym, ap, rules, items, frame_place, frame_item}
 use Rattle.kc_macros.proofs.ProgramLemmas.{steps_stopped}
 use Rattle.kc_macros.proofs.PieceLemmas.{rest_is}
 use Rattle.kc_macros.proofs.NameLemmas.{no_element}

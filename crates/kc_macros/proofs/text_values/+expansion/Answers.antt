@@ -1,15 +1,8 @@
-use Rattle.std.proofs.Common.{◌∙◌, ◌-◌, false, [], ◌∷◌, Some, length, take, drop, sym, ap, arith, rules}
-use Rattle.std.proofs.lemmas.List.{at_drop_all}
-use Rattle.kc_macros_model.specs.Worlds.{returned}
-use Rattle.kc_macros.specs.between.Variables.{variable_of}
+use Rattle.kc_macros.proofs.Common.{◌∙◌, ◌-◌, false, [], ◌∷◌, Some, length, take, drop, sym, ap, arith, rules, at_drop_all, returned, variable_of, pieces_left,
+    reference, items, call_value, named_value, piece_values, ends, end_of, end_of_stop, texts_of_slices, values_left, paid, frame_items, frame_place,
+    frame_bindings, frame_names, frame_expander, frame_item, frame_value}
 use Rattle.kc_macros.specs.declared.variable.Variable.TheVariants.{Recursive}
-use Rattle.kc_macros.specs.checker.Pieces.{pieces_left}
-use Rattle.kc_macros_model.specs.References.{reference, items}
-use Rattle.kc_macros_model.specs.Expansion.{call_value, named_value, piece_values}
-use Rattle.kc_macros.specs.Runs.{ends, end_of, end_of_stop}
-use Rattle.kc_macros.specs.between.SliceTexts.{texts_of_slices}
-use Rattle.kc_macros.specs.checker.PartialValues.{items_from, values_left}
-use Rattle.kc_macros.specs.checker.Frames.{paid, frame_items, frame_place, frame_bindings, frame_names, frame_expander, frame_item, frame_value}
+use Rattle.kc_macros.specs.checker.PartialValues.{items_from}
 use Rattle.kc_macros.proofs.RunLemmas.{runs_out, passes_on, then_runs, stops_early}
 use Rattle.kc_macros.proofs.ProgramLemmas.{runs_same, leads_same, leads_then, steps_stopped}
 use Rattle.kc_macros.proofs.NameLemmas.{no_element}

@@ -1,12 +1,5 @@
-use Rattle.std.proofs.Common.{◌≤◌, ◌+◌, ◌*◌, false, length, drop}
-use Rattle.kc_value.specs.declared.limits.TheConstants.{MAX_TEXT_BYTES}
-use Rattle.kc_macros_model.specs.References.{items}
-use Rattle.kc_macros_model.specs.Expansion.{piece_values}
-use Rattle.kc_macros.specs.between.SliceTexts.{texts_of_slices}
-use Rattle.kc_macros.specs.checker.PartialValues.{values_left}
-use Rattle.kc_macros.specs.checker.Pieces.{pieces_left}
-use Rattle.kc_macros.specs.checker.ProgramSteps.{Leads}
-use Rattle.kc_macros.specs.checker.Frames.{frame_place, frame_item, frame_value, frame_items}
+use Rattle.kc_macros.proofs.Common.{◌≤◌, ◌+◌, ◌*◌, false, length, drop, MAX_TEXT_BYTES, items, piece_values, texts_of_slices, values_left, pieces_left, Leads,
+    frame_place, frame_item, frame_value, frame_items}
 use Rattle.kc_macros.proofs.text_values.+expansion.Given as goal
 
 abbrev pub decreases-expanded : goal.decreases-expanded

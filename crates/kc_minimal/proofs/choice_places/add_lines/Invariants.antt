@@ -1,5 +1,4 @@
-use Rattle.std.proofs.Common.{◌≡◌, ◌++◌, map, take}
-use Rattle.kc_dotconfig_model.specs.declared.choice_line.ChoiceLine.{ChoiceLine}
+use Rattle.kc_minimal.proofs.Common.{◌≡◌, ◌++◌, map, take, ChoiceLine}
 use Rattle.kc_minimal.proofs.choice_places.add_lines.Given as goal
 
 abbrev pub invariant-loop-line : goal.invariant-loop-line

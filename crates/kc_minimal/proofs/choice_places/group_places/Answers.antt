@@ -1,11 +1,7 @@
-use Rattle.std.proofs.Common.{rules, ◌≡◌, ap, sym, ◌∙◌, map}
+use Rattle.kc_minimal.proofs.Common.{rules, ◌≡◌, ap, sym, ◌∙◌, map, filter_map, tree_of_settled, place_of, by_group}
 use Rattle.std.proofs.lemmas.List.{map-id}
 use Rattle.std.proofs.lemmas.Iterator.Consumers.{YieldsList-end}
 use Rattle.std.proofs.lemmas.Iterator.Adapters.{YieldsList-from_vec}
-use Rattle.std.specs.List.{filter_map}
-use Rattle.kc_rules.specs.between.SettledViews.{tree_of_settled}
-use Rattle.kc_dotconfig_model.specs.OtherChoices.{place_of}
-use Rattle.kc_minimal.specs.checker.LineGroups.{by_group}
 use Rattle.kc_minimal.proofs.RangeLines.{found_next}
 use Rattle.kc_minimal.proofs.choice_places.group_places.Goals as goal
 

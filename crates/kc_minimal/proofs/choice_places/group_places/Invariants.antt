@@ -1,8 +1,4 @@
-use Rattle.std.proofs.Common.{◌≡◌, map}
-use Rattle.std.specs.List.{filter_map}
-use Rattle.kc_rules.specs.between.SettledViews.{tree_of_settled}
-use Rattle.kc_dotconfig_model.specs.OtherChoices.{place_of}
-use Rattle.kc_minimal.specs.checker.LineGroups.{by_group}
+use Rattle.kc_minimal.proofs.Common.{◌≡◌, map, filter_map, tree_of_settled, place_of, by_group}
 use Rattle.kc_minimal.proofs.choice_places.group_places.Given as goal
 
 abbrev pub invariant-loop-u : goal.invariant-loop-u

@@ -1,6 +1,4 @@
-use Rattle.std.proofs.Common.{◌≡◌, ℕ, take}
-use Rattle.kc_dotconfig_model.specs.OtherChoices.{lines_of}
-use Rattle.kc_minimal.specs.checker.LineGroups.{lines_at}
+use Rattle.kc_minimal.proofs.Common.{◌≡◌, ℕ, take, lines_of, lines_at}
 use Rattle.kc_minimal.proofs.choice_places.grouped.Given as goal
 
 abbrev pub invariant-loop-line : goal.invariant-loop-line

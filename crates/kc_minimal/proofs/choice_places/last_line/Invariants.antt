@@ -1,5 +1,4 @@
-use Rattle.std.proofs.Common.{◌≡◌, None, drop}
-use Rattle.kc_dotconfig_model.specs.OtherChoices.{last_line}
+use Rattle.kc_minimal.proofs.Common.{◌≡◌, None, drop, last_line}
 use Rattle.kc_minimal.proofs.choice_places.last_line.Given as goal
 
 abbrev pub invariant-loop-i : goal.invariant-loop-i

@@ -1,5 +1,4 @@
-use Rattle.std.proofs.Common.{refl}
-use Rattle.kc_rules.specs.between.SettledViews.{tree_of_settled}
+use Rattle.kc_minimal.proofs.Common.{refl, tree_of_settled}
 use Rattle.kc_minimal.proofs.ChoiceGroups.{line_of_choice}
 use Rattle.kc_minimal.proofs.choice_places.line_of_group.Goals as goal
 

@@ -1,9 +1,7 @@
-use Rattle.std.proofs.Common.{◌≡◌, true, [], cond, ap, subst, sym, ◌∙◌, eqb-true}
+use Rattle.std.proofs.Common.{eqb-true}
 use Rattle.std.proofs.lemmas.List.{nil_from_length}
-use Rattle.std.proofs.lemmas.Result.{IfOk-weaker}
+use Rattle.kc_minimal.proofs.Common.{◌≡◌, true, [], cond, ap, subst, sym, ◌∙◌, IfOk-weaker, tree_of_settled, has_no_version, other_places}
 use Rattle.kc_tree.specs.TreeModel.{TreeModel}
-use Rattle.kc_rules.specs.between.SettledViews.{tree_of_settled}
-use Rattle.kc_dotconfig_model.specs.OtherChoices.{has_no_version, other_places}
 use Rattle.kc_minimal.proofs.ChoiceGroups.{no_choices, places_of_groups}
 use Rattle.kc_minimal.proofs.choice_places.other_choices.Goals as goal
 

@@ -1,7 +1,4 @@
-use Rattle.std.proofs.Common.{◌≡◌, map, take}
-use Rattle.std.specs.Global.{Vec}
-use Rattle.kc_dotconfig_model.specs.declared.choice_line.ChoiceLine.{ChoiceLine}
-use Rattle.kc_dotconfig_model.specs.OtherChoices.{placed_from}
+use Rattle.kc_minimal.proofs.Common.{◌≡◌, map, take, Vec, ChoiceLine, placed_from}
 use Rattle.kc_minimal.proofs.choice_places.placed_lines.Given as goal
 
 abbrev pub invariant-loop-file : goal.invariant-loop-file

@@ -1,6 +1,4 @@
-use Rattle.std.proofs.Common.{arith}
-use Rattle.std.proofs.lemmas.Grind.{common_steps}
-use Rattle.std.proofs.lemmas.Result.{IfOk-weaker}
+use Rattle.kc_minimal.proofs.Common.{arith, common_steps, IfOk-weaker}
 use Rattle.kc_minimal.proofs.Comparisons.{compared, compared_as}
 use Rattle.kc_minimal.proofs.comparison.compare.Goals as goal
 

@@ -1,9 +1,4 @@
-use Rattle.std.proofs.Common.{arith}
-use Rattle.std.proofs.lemmas.Grind.{common_steps}
-use Rattle.kc_rules_model.specs.SymbolValues.{value_of_symbol}
-use Rattle.kc_rules.specs.between.SettledViews.{tree_of_settled}
-use Rattle.kc_minimal_model.specs.Differences.{difference_at}
-use Rattle.kc_minimal.specs.between.DifferenceViews.{difference_view}
+use Rattle.kc_minimal.proofs.Common.{arith, common_steps, value_of_symbol, tree_of_settled, difference_at, difference_view}
 use Rattle.kc_minimal.proofs.RangeLines.{found_more}
 use Rattle.kc_minimal.proofs.difference.differing.Goals as goal
 

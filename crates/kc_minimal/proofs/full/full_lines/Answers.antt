@@ -1,12 +1,8 @@
-use Rattle.std.proofs.Common.{◌≡◌, ◌<◌, ◌≤◌, ◌+◌, ◌∙◌, false, length, drop, replicate, refl, ap, subst, arith}
+use Rattle.kc_minimal.proofs.Common.{◌≡◌, ◌<◌, ◌≤◌, ◌+◌, ◌∙◌, false, length, drop, replicate, refl, ap, subst, arith, IfOk-from_err, tree_of_settled,
+    tree_model_of, file_format, Draft, IsDraft}
 use Rattle.std.proofs.Math.ListN.{drop_of_length-le}
 use Rattle.std.proofs.lemmas.List.{length-replicate}
-use Rattle.std.proofs.lemmas.Result.{IfOk-from_err}
 use Rattle.kc_tree.specs.between.Views.{entry_view}
-use Rattle.kc_rules.specs.between.SettledViews.{tree_of_settled, tree_model_of}
-use Rattle.kc_dotconfig_model.specs.between.Formats.{file_format}
-use Rattle.kc_minimal.specs.declared.full.Draft.{Draft}
-use Rattle.kc_minimal.specs.checker.Drafts.{IsDraft}
 use Rattle.kc_minimal.proofs.DraftSteps.{next_left, begun, written}
 use Rattle.kc_minimal.proofs.full.full_lines.Goals as goal
 

@@ -1,7 +1,4 @@
-use Rattle.std.proofs.Common.{◌≡◌, length, drop}
-use Rattle.kc_rules.specs.between.SettledViews.{tree_of_settled}
-use Rattle.kc_dotconfig_model.specs.between.Formats.{file_format}
-use Rattle.kc_minimal.specs.checker.Drafts.{IsDraft}
+use Rattle.kc_minimal.proofs.Common.{◌≡◌, length, drop, tree_of_settled, file_format, IsDraft}
 use Rattle.kc_minimal.proofs.full.full_lines.Given as goal
 
 -- in the loop of `full_lines` the draft has a mark for each symbol, and the text of the entries from `i` on completes it to the

@@ -1,11 +1,5 @@
-use Rattle.std.proofs.Common.{sym, ◌∙◌, ap, ◌&&◌, arith}
-use Rattle.std.proofs.lemmas.Grind.{common_steps, elements}
-use Rattle.std.proofs.lemmas.Result.{on_ok_weaker}
-use Rattle.kc_rules_model.specs.Reports.{is_written}
-use Rattle.kc_rules.specs.between.SettledViews.{tree_of_settled}
-use Rattle.kc_dotconfig_model.specs.between.Formats.{file_format}
-use Rattle.kc_minimal_model.specs.SymbolLine.{ended_line}
-use Rattle.kc_minimal.specs.declared.full.Draft.{Draft}
+use Rattle.kc_minimal.proofs.Common.{sym, ◌∙◌, ap, ◌&&◌, arith, common_steps, on_ok_weaker, is_written, tree_of_settled, file_format, ended_line, Draft}
+use Rattle.std.proofs.lemmas.Grind.{elements}
 use Rattle.kc_minimal.proofs.DraftSteps.{symbol_written, after_gap}
 use Rattle.kc_minimal.proofs.full.push_definition.Goals as goal
 

@@ -1,9 +1,5 @@
-use Rattle.std.proofs.Common.{arith}
-use Rattle.std.proofs.lemmas.Grind.{common_steps}
-use Rattle.std.proofs.lemmas.Result.{on_ok_weaker}
+use Rattle.kc_minimal.proofs.Common.{arith, common_steps, on_ok_weaker, tree_of_settled, tree_model_of, file_format}
 use Rattle.kc_expr.specs.between.Arena.{node_expr}
-use Rattle.kc_rules.specs.between.SettledViews.{tree_of_settled, tree_model_of}
-use Rattle.kc_dotconfig_model.specs.between.Formats.{file_format}
 use Rattle.kc_minimal.proofs.DraftSteps.{menu_begun, menu_ended, commented}
 use Rattle.kc_minimal.proofs.full.push_entry.Goals as goal
 

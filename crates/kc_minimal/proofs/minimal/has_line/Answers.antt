@@ -1,5 +1,4 @@
-use Rattle.std.proofs.Common.{rules, arith}
-use Rattle.std.proofs.lemmas.Grind.{common_steps}
+use Rattle.kc_minimal.proofs.Common.{rules, arith, common_steps}
 use Rattle.kc_minimal.proofs.minimal.has_line.Goals as goal
 
 pub returns-then-is_n : goal.returns-then-is_n

@@ -1,10 +1,7 @@
-use Rattle.std.proofs.Common.{◌≡◌, ◌<◌, ◌∙◌, not, None, Some, sym, ap, length, subst, get_or}
+use Rattle.kc_minimal.proofs.Common.{◌≡◌, ◌<◌, ◌∙◌, not, None, Some, sym, ap, length, subst, get_or, IfOk-from_err, rule, tree_of_settled, profile_of}
 use Rattle.std.specs.List.{slice_get}
 use Rattle.std.proofs.lemmas.Option.{slice_get-get_or}
-use Rattle.std.proofs.lemmas.Result.{IfOk-from_err}
-use Rattle.kc_rules_model.specs.Rule.{rule}
 use Rattle.kc_rules_model.specs.Equality.{same_value, value_is}
-use Rattle.kc_rules.specs.between.SettledViews.{tree_of_settled, profile_of}
 use Rattle.kc_minimal.proofs.minimal.is_kept.Goals as goal
 
 pub eval-requires-clause-values : goal.eval-requires-clause-values

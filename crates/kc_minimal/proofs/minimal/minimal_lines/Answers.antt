@@ -1,9 +1,4 @@
-use Rattle.std.proofs.Common.{rules, arith}
-use Rattle.std.proofs.lemmas.Grind.{common_steps}
-use Rattle.kc_rules.specs.between.SettledViews.{tree_of_settled, profile_of}
-use Rattle.kc_dotconfig_model.specs.between.Formats.{file_format}
-use Rattle.kc_minimal_model.specs.SymbolLine.{ended_line}
-use Rattle.kc_minimal_model.specs.MinimalFile.{has_line}
+use Rattle.kc_minimal.proofs.Common.{rules, arith, common_steps, tree_of_settled, profile_of, file_format, ended_line, has_line}
 use Rattle.kc_minimal.proofs.RangeLines.{line_more}
 use Rattle.kc_minimal.proofs.minimal.minimal_lines.Goals as goal
 

@@ -1,9 +1,4 @@
-use Rattle.std.proofs.Common.{◌≡◌, filter}
-use Rattle.std.specs.List.{flat_map, range_with_len}
-use Rattle.kc_rules.specs.between.SettledViews.{tree_of_settled, profile_of}
-use Rattle.kc_dotconfig_model.specs.between.Formats.{file_format}
-use Rattle.kc_minimal_model.specs.SymbolLine.{ended_line}
-use Rattle.kc_minimal_model.specs.MinimalFile.{has_line}
+use Rattle.kc_minimal.proofs.Common.{◌≡◌, filter, flat_map, range_with_len, tree_of_settled, profile_of, file_format, ended_line, has_line}
 use Rattle.kc_minimal.proofs.minimal.minimal_lines.Given as goal
 
 -- the loop of `minimal_lines` has written the lines of those symbols below `number` that the minimal file has

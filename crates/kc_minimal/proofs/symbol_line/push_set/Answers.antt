@@ -1,5 +1,4 @@
-use Rattle.std.proofs.Common.{arith}
-use Rattle.std.proofs.lemmas.Grind.{common_steps}
+use Rattle.kc_minimal.proofs.Common.{arith, common_steps}
 use Rattle.kc_minimal.proofs.symbol_line.push_set.Goals as goal
 
 pub returns : goal.returns

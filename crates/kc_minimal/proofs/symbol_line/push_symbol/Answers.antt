@@ -1,8 +1,5 @@
-use Rattle.std.proofs.Common.{arith}
-use Rattle.std.proofs.lemmas.Grind.{common_steps}
+use Rattle.kc_minimal.proofs.Common.{arith, common_steps, tree_of_settled, file_format}
 use Rattle.kc_expr.specs.Lookup.{symbol_value_of}
-use Rattle.kc_rules.specs.between.SettledViews.{tree_of_settled}
-use Rattle.kc_dotconfig_model.specs.between.Formats.{file_format}
 use Rattle.kc_minimal.proofs.SymbolLines.{line_of}
 use Rattle.kc_minimal.proofs.symbol_line.push_symbol.Goals as goal
 

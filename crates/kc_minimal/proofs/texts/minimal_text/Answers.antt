@@ -1,5 +1,4 @@
-use Rattle.std.proofs.lemmas.Result.{IfOk-weaker}
-use Rattle.kc_dotconfig_model.specs.between.Formats.{file_format}
+use Rattle.kc_minimal.proofs.Common.{IfOk-weaker, file_format}
 use Rattle.kc_minimal.proofs.HeldTexts.{minimal_held}
 use Rattle.kc_minimal.proofs.texts.minimal_text.Goals as goal
 

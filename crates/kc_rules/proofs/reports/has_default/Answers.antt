@@ -1,5 +1,4 @@
-use Rattle.std.proofs.Common.{arith}
-use Rattle.std.proofs.lemmas.Grind.{common_steps, elements}
+use Rattle.kc_rules.proofs.Common.{arith, common_steps, elements}
 use Rattle.kc_rules.proofs.reports.has_default.Goals as goal
 
 pub active_default-requires-in-Hex : goal.active_default-requires-in-Hex

@@ -1,5 +1,4 @@
-use Rattle.std.proofs.Common.{arith}
-use Rattle.std.proofs.lemmas.Grind.{common_steps}
+use Rattle.kc_rules.proofs.Common.{arith, common_steps}
 use Rattle.kc_rules.proofs.reports.is_symbol_written.Goals as goal
 
 pub reverse_limit-requires : goal.reverse_limit-requires

@@ -1,5 +1,4 @@
-use Rattle.std.proofs.Common.{arith}
-use Rattle.std.proofs.lemmas.Grind.{common_steps, elements}
+use Rattle.kc_rules.proofs.Common.{arith, common_steps, elements}
 use Rattle.kc_rules.proofs.settlement.ordered.Goals as goal
 
 pub returns-in-Err-clause-cycle : goal.returns-in-Err-clause-cycle

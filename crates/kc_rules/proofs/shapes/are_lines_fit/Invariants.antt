@@ -1,7 +1,6 @@
-use Rattle.std.proofs.Common.{◌≡◌, slice_get, drop}
+use Rattle.std.proofs.Common.{slice_get}
 use Rattle.std.specs.List.{list_all}
-use Rattle.kc_rules_model.specs.declared.values.MemberLine.{MemberLine}
-use Rattle.kc_rules_model.specs.Shapes.{is_member}
+use Rattle.kc_rules.proofs.Common.{◌≡◌, drop, MemberLine, is_member}
 use Rattle.kc_rules.proofs.shapes.are_lines_fit.Given as goal
 
 abbrev pub invariant-loop-line : goal.invariant-loop-line

@@ -1,5 +1,4 @@
-use Rattle.std.proofs.Common.{sym, arith}
-use Rattle.kc_tree.specs.between.Views.{symbol_view}
+use Rattle.kc_rules.proofs.Common.{sym, arith, symbol_view}
 use Rattle.kc_rules.proofs.UserFits.{no_member, member_of_none, member_of}
 use Rattle.kc_rules.proofs.shapes.is_member.Goals as goal
 

@@ -1,5 +1,4 @@
-use Rattle.std.proofs.Common.{◌≡◌, drop}
-use Rattle.kc_rules_model.specs.Equality.{same_lines}
+use Rattle.kc_rules.proofs.Common.{◌≡◌, drop, same_lines}
 use Rattle.kc_rules.proofs.systems.are_same_lines.Given as goal
 
 abbrev pub invariant-loop-i : goal.invariant-loop-i

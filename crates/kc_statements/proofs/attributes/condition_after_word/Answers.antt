@@ -1,9 +1,5 @@
-use Rattle.std.proofs.Common.{inr, ap, sym, ◌∙◌, length, drop, arith}
-use Rattle.std.proofs.lemmas.Grind.{common_steps, elements}
-use Rattle.kc_tokens.specs.Token.{lexemes_of}
-use Rattle.kc_expr.specs.between.Arena.{node_expr}
-use Rattle.kc_tree_model.specs.Forms.{condition_line, last_condition}
-use Rattle.kc_tree_model.specs.Statements.{attribute}
+use Rattle.kc_statements.proofs.Common.{inr, ap, sym, ◌∙◌, length, drop, arith, common_steps, elements, lexemes_of, node_expr, condition_line, last_condition,
+    attribute}
 use Rattle.kc_statements.proofs.FormLemmas.{along, given_on, none_there, there, stepped}
 use Rattle.kc_statements.proofs.ArenaGrowth.{grows_none}
 use Rattle.kc_statements.proofs.LineLemmas.{worded_is, worded_other}

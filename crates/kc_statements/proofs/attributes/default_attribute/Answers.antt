@@ -1,14 +1,9 @@
-use Rattle.std.proofs.Common.{arith, inl, inr}
-use Rattle.std.proofs.lemmas.List.{length-map}
-use Rattle.std.proofs.lemmas.Result.{err_from_is_err_and}
-use Rattle.kc_tokens.specs.Token.{lexemes_of, lexeme_of}
-use Rattle.kc_expr.proofs.GrammarComplete.{expr_complete}
+use Rattle.kc_statements.proofs.Common.{arith, inl, inr, length-map, err_from_is_err_and, lexemes_of, lexeme_of, expr_complete, default_line}
 use Rattle.kc_statements.proofs.AttributeLemmas.{extent_within, default_unread}
 use Rattle.kc_statements.proofs.ArenaGrowth.{grows_on}
 use Rattle.kc_statements.proofs.GrownArenas.{node_held}
 use Rattle.kc_statements.proofs.ValueLemmas.{valued_reported, valued_refused}
 use Rattle.kc_statements.proofs.FormLemmas.{unread}
-use Rattle.kc_tree_model.specs.Forms.{default_line}
 use Rattle.kc_statements.proofs.attributes.default_attribute.Goals as goal
 
 pub optional_if-requires : goal.optional_if-requires

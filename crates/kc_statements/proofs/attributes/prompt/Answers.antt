@@ -1,9 +1,4 @@
-use Rattle.std.proofs.Common.{inr, sym, ◌∙◌, length, drop, arith}
-use Rattle.std.proofs.lemmas.Grind.{common_steps, elements}
-use Rattle.kc_tokens.specs.Token.{lexemes_of}
-use Rattle.kc_tree_model.specs.Forms.{prompt_line, optional_if}
-use Rattle.kc_tree_model.specs.Statements.{attribute}
-use Rattle.kc_statements.specs.between.StatementViews.{if_in}
+use Rattle.kc_statements.proofs.Common.{inr, sym, ◌∙◌, length, drop, arith, common_steps, elements, lexemes_of, prompt_line, optional_if, attribute, if_in}
 use Rattle.kc_statements.proofs.FormLemmas.{along, given_on, there, stepped}
 use Rattle.kc_statements.proofs.ArenaGrowth.{grows_none}
 use Rattle.kc_statements.proofs.LineLemmas.{prompt_is, prompt_other}

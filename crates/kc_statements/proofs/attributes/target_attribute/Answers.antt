@@ -1,7 +1,5 @@
 use Rattle.kc_statements.proofs.ArenaGrowth.{grows_on, grows_none}
-use Rattle.std.proofs.Common.{inl, inr, refl, sym, ◌∙◌, length, arith}
-use Rattle.std.proofs.lemmas.Grind.{common_steps, elements}
-use Rattle.std.proofs.lemmas.Result.{err_from_is_err_and}
+use Rattle.kc_statements.proofs.Common.{inl, inr, refl, sym, ◌∙◌, length, arith, common_steps, elements, err_from_is_err_and}
 use Rattle.kc_statements.proofs.FormLemmas.{there}
 use Rattle.kc_statements.proofs.GrownArenas.{if_held}
 use Rattle.kc_statements.proofs.LineLemmas.{target_line_is, target_refused, target_other}

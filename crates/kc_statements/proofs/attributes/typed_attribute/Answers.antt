@@ -1,10 +1,6 @@
-use Rattle.std.proofs.Common.{length, inl, inr, ◌∙◌, ap}
-use Rattle.std.proofs.lemmas.Result.{err_from_is_err_and}
-use Rattle.kc_tree_model.specs.Statements.{typed_prompt}
+use Rattle.kc_statements.proofs.Common.{length, inl, inr, ◌∙◌, ap, err_from_is_err_and, typed_prompt, lexemes_of, type_line}
 use Rattle.kc_statements.proofs.FormLemmas.{there, none_there}
 use Rattle.kc_statements.proofs.AttributeLemmas.{type_is}
-use Rattle.kc_tokens.specs.Token.{lexemes_of}
-use Rattle.kc_tree_model.specs.Forms.{type_line}
 use Rattle.kc_statements.proofs.ArenaGrowth.{grows_none}
 use Rattle.kc_statements.proofs.attributes.typed_attribute.Goals as goal
 

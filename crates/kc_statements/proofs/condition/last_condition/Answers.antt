@@ -1,9 +1,5 @@
-use Rattle.std.proofs.Common.{arith, inr, drop, length-drop, ap, sym, ◌∙◌, Ok}
-use Rattle.std.proofs.lemmas.List.{length-map}
-use Rattle.kc_tokens.specs.Token.{lexemes_of, lexeme_of}
-use Rattle.kc_expr.proofs.GrammarComplete.{expr_complete}
+use Rattle.kc_statements.proofs.Common.{arith, inr, drop, length-drop, ap, sym, ◌∙◌, Ok, length-map, lexemes_of, lexeme_of, expr_complete, last_condition}
 use Rattle.kc_statements.proofs.FormLemmas.{condition_after, condition_last, condition_unread, unread}
-use Rattle.kc_tree_model.specs.Forms.{last_condition}
 use Rattle.kc_statements.proofs.condition.last_condition.Goals as goal
 
 pub returns-then-next-tokens-clause-gives : goal.returns-then-next-tokens-clause-gives

@@ -1,8 +1,4 @@
-use Rattle.std.proofs.Common.{arith, inl, inr, sym, ◌∙◌, drop, ◌+◌}
-use Rattle.std.proofs.lemmas.Grind.{common_steps}
-use Rattle.std.proofs.lemmas.Result.{err_from_is_err_and}
-use Rattle.kc_tokens.specs.Token.{lexemes_of, lexeme_of}
-use Rattle.std.specs.Prelude.{slice_index_or}
+use Rattle.kc_statements.proofs.Common.{arith, inl, inr, sym, ◌∙◌, drop, ◌+◌, common_steps, err_from_is_err_and, lexemes_of, lexeme_of, slice_index_or}
 use Rattle.kc_statements.proofs.FormLemmas.{front_piece, no_if, if_given, if_refused, some_token}
 use Rattle.kc_statements.proofs.ArenaGrowth.{grows_none}
 use Rattle.kc_statements.proofs.condition.optional_if.Goals as goal

@@ -1,5 +1,4 @@
-use Rattle.std.proofs.Common.{inr, sym, ◌∙◌, arith}
-use Rattle.std.proofs.lemmas.Grind.{common_steps}
+use Rattle.kc_statements.proofs.Common.{inr, sym, ◌∙◌, arith, common_steps}
 use Rattle.kc_statements.proofs.LineLemmas.{source_long, source_is}
 use Rattle.kc_statements.proofs.heads.source_line.Goals as goal
 

@@ -1,5 +1,4 @@
-use Rattle.std.proofs.Common.{sym, ◌∙◌}
-use Rattle.kc_tokens.specs.QuotedTexts.{quoted_text}
+use Rattle.kc_statements.proofs.Common.{sym, ◌∙◌, quoted_text}
 use Rattle.kc_statements.proofs.FormLemmas.{first_of}
 use Rattle.kc_statements.proofs.TitleLemmas.{title_by, title_given, title_there}
 use Rattle.kc_statements.proofs.heads.title.Goals as goal

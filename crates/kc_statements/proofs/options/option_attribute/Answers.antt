@@ -1,9 +1,5 @@
-use Rattle.std.proofs.Common.{inr, sym, ap, ◌∙◌, drop, length}
+use Rattle.kc_statements.proofs.Common.{inr, sym, ap, ◌∙◌, drop, length, err_from_is_err_and, lexemes_of, no_more, attribute, modules}
 use Rattle.std.proofs.lemmas.List.{take_rest}
-use Rattle.std.proofs.lemmas.Result.{err_from_is_err_and}
-use Rattle.kc_tokens.specs.Token.{lexemes_of}
-use Rattle.kc_tree_model.specs.Forms.{no_more}
-use Rattle.kc_tree_model.specs.Statements.{attribute, modules}
 use Rattle.kc_statements.proofs.FormLemmas.{there, none_left, some_left}
 use Rattle.kc_statements.proofs.OptionLemmas.{modules_option}
 use Rattle.kc_statements.proofs.options.option_attribute.Goals as goal

@@ -1,6 +1,4 @@
-use Rattle.std.proofs.Common.{sym, ap, ◌∙◌}
-use Rattle.std.specs.List.{list_any}
-use Rattle.kc_tokens.specs.Token.{lexeme_of}
+use Rattle.kc_statements.proofs.Common.{sym, ap, ◌∙◌, list_any, lexeme_of}
 use Rattle.kc_statements.proofs.GlobLemmas.{is_pattern_byte, glob_reported}
 use Rattle.kc_statements.proofs.placement.is_glob_path.Goals as goal
 

@@ -1,7 +1,6 @@
-use Rattle.std.proofs.Common.{rules, ap, sym, ◌∙◌, length}
-use Rattle.kc_tokens.specs.Token.{lexemes_of}
+use Rattle.kc_statements.proofs.Common.{rules, ap, sym, ◌∙◌, length, lexemes_of, is_glob_path}
 use Rattle.kc_tree_model.specs.Keywords.{is_word_kind}
-use Rattle.kc_tree_model.specs.Placement.{is_left_out, is_glob_path}
+use Rattle.kc_tree_model.specs.Placement.{is_left_out}
 use Rattle.kc_statements.proofs.FormLemmas.{there}
 use Rattle.kc_statements.proofs.LineLemmas.{first_reported, first_none}
 use Rattle.kc_statements.proofs.placement.is_left_out.Goals as goal

@@ -1,5 +1,4 @@
-use Rattle.kc_tokens.specs.Token.{lexeme_of}
-use Rattle.kc_expr.proofs.GrammarComplete.{expr_complete}
+use Rattle.kc_statements.proofs.Common.{lexeme_of, expr_complete}
 use Rattle.kc_statements.proofs.ValueLemmas.{operand_reported}
 use Rattle.kc_statements.proofs.range.operand.Goals as goal
 

@@ -1,7 +1,4 @@
-use Rattle.std.proofs.Common.{inl, inr, sym, ap, ◌∙◌, Some, arith}
-use Rattle.std.proofs.lemmas.Grind.{common_steps, elements}
-use Rattle.std.proofs.lemmas.Result.{err_from_is_err_and}
-use Rattle.kc_statements.specs.between.StatementViews.{if_in, operand_or_n}
+use Rattle.kc_statements.proofs.Common.{inl, inr, sym, ap, ◌∙◌, Some, arith, common_steps, elements, err_from_is_err_and, if_in, operand_or_n}
 use Rattle.kc_statements.proofs.ArenaGrowth.{grows_on, grows_none}
 use Rattle.kc_statements.proofs.GrownArenas.{operand_held, operand_same}
 use Rattle.kc_statements.proofs.RangeLemmas.{first_refused, second_refused, operands_given, operands_refused}

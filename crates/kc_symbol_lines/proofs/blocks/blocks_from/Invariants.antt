@@ -1,6 +1,4 @@
-use Rattle.std.proofs.Common.{◌≡◌, ℕ, suc, List, ◌++◌}
-use Rattle.std.specs.Prelude.{option_map, unwrap_or}
-use Rattle.kc_symbol_lines.specs.checker.Blocks.{IsChain}
+use Rattle.kc_symbol_lines.proofs.Common.{◌≡◌, ℕ, suc, List, ◌++◌, option_map, unwrap_or, IsChain}
 use Rattle.kc_symbol_lines.proofs.blocks.blocks_from.Given as goal
 
 abbrev pub invariant-loop-at : goal.invariant-loop-at

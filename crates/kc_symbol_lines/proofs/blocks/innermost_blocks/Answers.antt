@@ -1,11 +1,6 @@
-use Rattle.std.proofs.Common.{◌≡◌, ◌<◌, ℕ, length, ap, sym, ◌∙◌, subst, arith}
-use Rattle.std.proofs.lemmas.List.{get_or_read}
-use Rattle.kc_parser.specs.between.ListingView.{RepresentsHead}
+use Rattle.kc_symbol_lines.proofs.Common.{◌≡◌, ◌<◌, ℕ, length, ap, sym, ◌∙◌, subst, arith, get_or_read, RepresentsHead, names_defined, no_group, group_at,
+    shown_at, count_is, none_before, HasBlocksTo, block_after}
 use Rattle.kc_parser.specs.declared.listing.Group.{Group as CodeGroup}
-use Rattle.kc_tree_model.specs.Limits.{names_defined}
-use Rattle.kc_checks.specs.between.Summaries.{no_group, group_at}
-use Rattle.kc_checks.proofs.GroupPlaces.{shown_at, count_is, none_before}
-use Rattle.kc_symbol_lines.specs.checker.Blocks.{HasBlocksTo, block_after}
 use Rattle.kc_symbol_lines.proofs.BlockLaws.{nothing_walked, walked_more}
 use Rattle.kc_symbol_lines.proofs.blocks.innermost_blocks.Goals as goal
 

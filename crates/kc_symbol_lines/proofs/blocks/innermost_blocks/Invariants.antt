@@ -1,7 +1,4 @@
-use Rattle.std.proofs.Common.{List}
-use Rattle.kc_expr.specs.between.Arena.{Exprs}
-use Rattle.kc_tree_model.specs.Blocks.{Group}
-use Rattle.kc_builder.specs.between.TreeLines.{HasLines}
+use Rattle.kc_symbol_lines.proofs.Common.{List, Exprs, Group, HasLines}
 use Rattle.kc_symbol_lines.proofs.BlockLaws.{IsWalked}
 use Rattle.kc_symbol_lines.proofs.blocks.innermost_blocks.Given as goal
 

@@ -1,5 +1,4 @@
-use Rattle.std.proofs.Common.{◌≡◌, ◌++◌, map, drop}
-use Rattle.kc_symbol_lines.specs.checker.Contexts.{as_choice_part}
+use Rattle.kc_symbol_lines.proofs.Common.{◌≡◌, ◌++◌, map, drop, as_choice_part}
 use Rattle.kc_symbol_lines.proofs.contexts.as_choice_parts.Given as goal
 
 abbrev pub invariant-loop-part : goal.invariant-loop-part

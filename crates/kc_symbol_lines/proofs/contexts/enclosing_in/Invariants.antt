@@ -1,6 +1,4 @@
-use Rattle.std.proofs.Common.{◌≡◌, ◌≤◌, length, drop}
-use Rattle.kc_tokens.specs.Languages.{is_linux_6_12}
-use Rattle.kc_symbol_lines.specs.checker.Contexts.{lists_of, inside_blocks}
+use Rattle.kc_symbol_lines.proofs.Common.{◌≡◌, ◌≤◌, length, drop, is_linux_6_12, lists_of, inside_blocks}
 use Rattle.kc_symbol_lines.proofs.contexts.enclosing_in.Given as goal
 
 abbrev pub invariant-loop-left : goal.invariant-loop-left

@@ -1,9 +1,6 @@
-use Rattle.std.proofs.Common.{◌≡◌, ◌≤◌, length, ap, sym, ◌∙◌, subst}
-use Rattle.std.proofs.lemmas.List.{get_or_read}
-use Rattle.kc_tree_model.specs.Limits.{names_defined}
+use Rattle.kc_symbol_lines.proofs.Common.{◌≡◌, ◌≤◌, length, ap, sym, ◌∙◌, subst, get_or_read, names_defined, no_group, group_at, shown_at}
 use Rattle.kc_parser.specs.declared.listing.Group.{Group as CodeGroup}
-use Rattle.kc_checks.specs.between.Summaries.{no_group, group_at, attributes_end}
-use Rattle.kc_checks.proofs.GroupPlaces.{shown_at}
+use Rattle.kc_checks.specs.between.Summaries.{attributes_end}
 use Rattle.kc_symbol_lines.proofs.contexts.lines_at.Goals as goal
 
 pub part-requires-clause-rising : goal.part-requires-clause-rising

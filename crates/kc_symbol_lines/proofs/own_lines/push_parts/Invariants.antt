@@ -1,5 +1,4 @@
-use Rattle.std.proofs.Common.{◌≡◌, ◌++◌, drop}
-use Rattle.kc_symbol_lines.specs.checker.OwnLines.{parts_in}
+use Rattle.kc_symbol_lines.proofs.Common.{◌≡◌, ◌++◌, drop, parts_in}
 use Rattle.kc_symbol_lines.proofs.own_lines.push_parts.Given as goal
 
 abbrev pub invariant-loop-line : goal.invariant-loop-line

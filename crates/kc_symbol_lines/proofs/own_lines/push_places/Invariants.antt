@@ -1,5 +1,4 @@
-use Rattle.std.proofs.Common.{◌≡◌, ◌++◌, drop}
-use Rattle.kc_symbol_lines.specs.checker.OwnLines.{places_in}
+use Rattle.kc_symbol_lines.proofs.Common.{◌≡◌, ◌++◌, drop, places_in}
 use Rattle.kc_symbol_lines.proofs.own_lines.push_places.Given as goal
 
 abbrev pub invariant-loop-line : goal.invariant-loop-line

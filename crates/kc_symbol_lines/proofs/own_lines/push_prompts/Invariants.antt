@@ -1,7 +1,4 @@
-use Rattle.std.proofs.Common.{◌≡◌, ◌++◌, drop}
-use Rattle.kc_symbol_lines.specs.checker.Contexts.{lists_of}
-use Rattle.kc_symbol_lines.specs.checker.Lists.{each_items}
-use Rattle.kc_symbol_lines.specs.checker.OwnLines.{prompts_in}
+use Rattle.kc_symbol_lines.proofs.Common.{◌≡◌, ◌++◌, drop, lists_of, each_items, prompts_in}
 use Rattle.kc_symbol_lines.proofs.own_lines.push_prompts.Given as goal
 
 abbrev pub invariant-loop-line : goal.invariant-loop-line

@@ -1,6 +1,4 @@
-use Rattle.std.proofs.Common.{◌≡◌, length, arith}
-use Rattle.kc_tokens.specs.Languages.{is_linux_6_12}
-use Rattle.kc_symbol_lines.specs.checker.Definitions.{prompts_at, dependency_at, defaults_at, ranges_at}
+use Rattle.kc_symbol_lines.proofs.Common.{◌≡◌, length, arith, is_linux_6_12, prompts_at, dependency_at, defaults_at, ranges_at}
 use Rattle.kc_symbol_lines.proofs.EntrySteps.{more_flat, more_mapped, done_flat, done_mapped}
 use Rattle.kc_symbol_lines.proofs.symbol.definition_lines.Goals as goal
 

@@ -1,12 +1,5 @@
-use Rattle.std.proofs.Common.{◌≡◌, ◌++◌, List, map, drop}
-use Rattle.std.specs.Prelude.{flat_map}
-use Rattle.kc_expr.specs.between.Arena.{Exprs}
-use Rattle.kc_tokens.specs.Languages.{is_linux_6_12}
-use Rattle.kc_tree_model.specs.Blocks.{Group}
-use Rattle.kc_builder.specs.between.TreeLines.{HasLines}
-use Rattle.kc_symbol_lines.specs.checker.Blocks.{HasBlocks}
-use Rattle.kc_symbol_lines.specs.checker.Definitions.{prompts_at, dependency_at, defaults_at, ranges_at}
-use Rattle.kc_symbol_lines.specs.checker.Lists.{each_items}
+use Rattle.kc_symbol_lines.proofs.Common.{◌≡◌, ◌++◌, List, map, drop, flat_map, Exprs, is_linux_6_12, Group, HasLines, HasBlocks, prompts_at, dependency_at,
+    defaults_at, ranges_at, each_items}
 use Rattle.kc_symbol_lines.proofs.symbol.definition_lines.Given as goal
 
 abbrev pub invariant-loop-number : goal.invariant-loop-number

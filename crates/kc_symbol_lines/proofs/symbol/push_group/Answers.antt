@@ -1,13 +1,8 @@
-use Rattle.std.proofs.Common.{◌≡◌, ◌<◌, List, ℕ, None, length, get_or, ap, sym, ◌∙◌, subst, arith}
-use Rattle.std.specs.Prelude.{All}
+use Rattle.kc_symbol_lines.proofs.Common.{◌≡◌, ◌<◌, List, ℕ, None, length, get_or, ap, sym, ◌∙◌, subst, arith, All, get_or_read, is_linux_6_12, no_group,
+    group_at, IsChain, open_numbers, lists_of, inside_blocks}
 use Rattle.std.proofs.lemmas.Option.{unwrap_or-slice_get}
-use Rattle.std.proofs.lemmas.List.{get_or_read}
 use Rattle.std.proofs.lemmas.Result.{on_ok_weaker}
-use Rattle.kc_tokens.specs.Languages.{is_linux_6_12}
 use Rattle.kc_parser.specs.declared.listing.Group.{Group as CodeGroup}
-use Rattle.kc_checks.specs.between.Summaries.{no_group, group_at}
-use Rattle.kc_symbol_lines.specs.checker.Blocks.{IsChain, open_numbers}
-use Rattle.kc_symbol_lines.specs.checker.Contexts.{lists_of, inside_blocks}
 use Rattle.kc_symbol_lines.proofs.BlockLaws.{chain_below}
 use Rattle.kc_symbol_lines.proofs.EntrySteps.{entry_of}
 use Rattle.kc_symbol_lines.proofs.PlacedGroups.{many_groups}

@@ -1,14 +1,7 @@
-use Rattle.std.proofs.Common.{◌≡◌, ◌<◌, ℕ, length, ap, sym, ◌∙◌, subst, arith}
-use Rattle.std.specs.Prelude.{All}
-use Rattle.std.proofs.lemmas.List.{get_or_read}
+use Rattle.kc_symbol_lines.proofs.Common.{◌≡◌, ◌<◌, ℕ, length, ap, sym, ◌∙◌, subst, arith, All, get_or_read, LineNodesExist, open_blocks, group_in_context,
+    groups_in_context, names_defined, no_group, group_at, read_before, shown_at, count_is, none_before, all_before}
 use Rattle.kc_parser.specs.declared.listing.Group.{Group as CodeGroup}
 use Rattle.kc_parser.specs.declared.listing.GroupHead.TheVariants as codes
-use Rattle.kc_parser.specs.between.ListingView.{LineNodesExist}
-use Rattle.kc_tree_model.specs.Blocks.{open_blocks}
-use Rattle.kc_tree_model.specs.Conditions.{group_in_context, groups_in_context}
-use Rattle.kc_tree_model.specs.Limits.{names_defined}
-use Rattle.kc_checks.specs.between.Summaries.{no_group, group_at, read_before}
-use Rattle.kc_checks.proofs.GroupPlaces.{shown_at, count_is, none_before, all_before}
 use Rattle.kc_symbol_lines.proofs.TargetLaws.{nothing_gathered, gathered_definition, gathered_other, gathered_whole}
 use Rattle.kc_symbol_lines.proofs.targets.gather_lines.Goals as goal
 use Rattle.kc_symbol_lines.proofs.targets.gather_lines.Goals.{in-Config+in_ok-push_definition, in_default}

@@ -1,10 +1,5 @@
-use Rattle.std.proofs.Common.{◌≡◌, List}
-use Rattle.kc_tree_model.specs.Blocks.{Group}
-use Rattle.kc_tree_model.specs.Conditions.{groups_in_context}
+use Rattle.kc_symbol_lines.proofs.Common.{◌≡◌, List, Group, groups_in_context, names_defined, read_before, HasLines}
 use Rattle.kc_tree_model.specs.Contents.{tree_of_groups}
-use Rattle.kc_tree_model.specs.Limits.{names_defined}
-use Rattle.kc_checks.specs.between.Summaries.{read_before}
-use Rattle.kc_builder.specs.between.TreeLines.{HasLines}
 use Rattle.kc_symbol_lines.proofs.TargetLaws.{AreGatheredOf}
 use Rattle.kc_symbol_lines.proofs.targets.gather_lines.Given as goal
 

@@ -1,5 +1,4 @@
-use Rattle.std.proofs.Common.{◌≡◌, ◌++◌, drop}
-use Rattle.kc_symbol_lines.specs.checker.Targets.{target_keys, target_places}
+use Rattle.kc_symbol_lines.proofs.Common.{◌≡◌, ◌++◌, drop, target_keys, target_places}
 use Rattle.kc_symbol_lines.proofs.targets.push_targets.Given as goal
 
 abbrev pub invariant-loop-line : goal.invariant-loop-line

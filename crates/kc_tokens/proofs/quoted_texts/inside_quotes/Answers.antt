@@ -1,5 +1,4 @@
-use Rattle.std.proofs.Common.{arith, sym, ◌∙◌}
-use Rattle.std.proofs.lemmas.Str.{IsCharBoundary-after_ascii}
+use Rattle.kc_tokens.proofs.Common.{arith, sym, ◌∙◌, IsCharBoundary-after_ascii}
 use Rattle.kc_tokens.proofs.QuoteBytes.{quote_ascii}
 use Rattle.kc_tokens.proofs.quoted_texts.inside_quotes.Goals as goal
 

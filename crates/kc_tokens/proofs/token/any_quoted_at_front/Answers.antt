@@ -1,5 +1,4 @@
-use Rattle.std.proofs.Common.{arith}
-use Rattle.std.proofs.lemmas.Grind.{common_steps}
+use Rattle.kc_tokens.proofs.Common.{arith, common_steps}
 use Rattle.kc_tokens.proofs.token.any_quoted_at_front.Goals as goal
 
 pub returns-in-None-dollar_left_out-clause-reaches : goal.returns-in-None-dollar_left_out-clause-reaches

@@ -1,5 +1,4 @@
-use Rattle.std.proofs.Common.{◌+◌, get_or, drop, sym, ◌∙◌}
-use Rattle.std.proofs.lemmas.List.{drop_more}
+use Rattle.kc_tokens.proofs.Common.{◌+◌, get_or, drop, sym, ◌∙◌, drop_more}
 use Rattle.std.proofs.lemmas.Bool.{ne_eqb}
 use Rattle.kc_tokens.proofs.Dollars.{bare_escaped, bare_other}
 use Rattle.kc_tokens.proofs.token.bare_dollar.Goals as goal

@@ -1,6 +1,4 @@
-use Rattle.std.proofs.Common.{◌≡◌, drop, false}
-use Rattle.kc_value.proofs.ClosingSteps.{further}
-use Rattle.kc_tokens.specs.Token.{bare_dollar}
+use Rattle.kc_tokens.proofs.Common.{◌≡◌, drop, false, further, bare_dollar}
 use Rattle.kc_tokens.proofs.token.bare_dollar.Given as goal
 
 abbrev pub invariant-loop-i : goal.invariant-loop-i

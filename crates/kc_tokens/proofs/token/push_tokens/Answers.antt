@@ -1,5 +1,4 @@
-use Rattle.std.proofs.Common.{rules, arith}
-use Rattle.std.proofs.lemmas.Grind.{common_steps}
+use Rattle.kc_tokens.proofs.Common.{rules, arith, common_steps}
 use Rattle.kc_tokens.proofs.token.push_tokens.Goals as goal
 
 pub returns-in-Err-clause-err : goal.returns-in-Err-clause-err

@@ -1,9 +1,5 @@
-use Rattle.std.proofs.Common.{arith, refl, sym, length-drop}
-use Rattle.std.proofs.lemmas.Grind.{common_steps}
-use Rattle.std.proofs.Math.Seq.{take-length}
-use Rattle.kc_tokens.specs.Token.{with_front}
+use Rattle.kc_tokens.proofs.Common.{arith, refl, sym, length-drop, common_steps, take-length, with_front, lexemes_from, lexemes_of}
 use Rattle.std.proofs.lemmas.Str.{IsCharBoundary-start}
-use Rattle.kc_tokens.specs.Token.{lexemes_from, lexemes_of}
 use Rattle.kc_tokens.proofs.KeptLists.{kept_after}
 use Rattle.kc_tokens.proofs.TokenSteps.{step_white, step_token_of, cut_after_token, rest_is, lexemes_more, text_is}
 use Rattle.kc_tokens.proofs.token.scan_line.Goals as goal

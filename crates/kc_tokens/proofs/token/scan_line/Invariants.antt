@@ -1,7 +1,4 @@
-use Rattle.std.proofs.Common.{◌≡◌, ◌-◌, drop, take, length}
-use Rattle.std.specs.Prelude.{IsCharBoundary}
-use Rattle.kc_tokens.specs.Token.{lexemes_from, lexemes_of}
-use Rattle.kc_tokens.specs.Token.{with_front}
+use Rattle.kc_tokens.proofs.Common.{◌≡◌, ◌-◌, drop, take, length, IsCharBoundary, lexemes_from, lexemes_of, with_front}
 use Rattle.kc_tokens.proofs.token.scan_line.Given as goal
 
 abbrev pub invariant-loop-at : goal.invariant-loop-at

@@ -1,5 +1,4 @@
-use Rattle.std.proofs.Common.{arith}
-use Rattle.std.proofs.lemmas.Grind.{common_steps}
+use Rattle.kc_tokens.proofs.Common.{arith, common_steps}
 use Rattle.kc_tokens.proofs.token.token_at_front.Goals as goal
 
 pub bounds-bytes-1 : goal.bounds-bytes-1

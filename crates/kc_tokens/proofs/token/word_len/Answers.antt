@@ -1,7 +1,4 @@
-use Rattle.std.proofs.Common.{◌≡◌, ℕ, ◌-◌, ◌<◌, length, get_or, sym, ◌∙◌, subst, arith}
-use Rattle.std.proofs.lemmas.Grind.{common_steps}
-use Rattle.std.specs.Prelude.{take_while}
-use Rattle.kc_tokens.specs.Token.{is_word_byte}
+use Rattle.kc_tokens.proofs.Common.{◌≡◌, ℕ, ◌-◌, ◌<◌, length, get_or, sym, ◌∙◌, subst, arith, common_steps, take_while, is_word_byte}
 use Rattle.kc_tokens.proofs.TokenSteps.{word_ends, run_stops, run_ends}
 use Rattle.kc_tokens.proofs.token.word_len.Goals as goal
 

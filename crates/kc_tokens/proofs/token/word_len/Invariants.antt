@@ -1,6 +1,4 @@
-use Rattle.std.proofs.Common.{◌≡◌, ◌+◌, drop, length}
-use Rattle.std.specs.Prelude.{take_while}
-use Rattle.kc_tokens.specs.Token.{is_word_byte}
+use Rattle.kc_tokens.proofs.Common.{◌≡◌, ◌+◌, drop, length, take_while, is_word_byte}
 use Rattle.kc_tokens.proofs.token.word_len.Given as goal
 
 abbrev pub invariant-loop-i : goal.invariant-loop-i

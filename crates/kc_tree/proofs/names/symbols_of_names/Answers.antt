@@ -1,12 +1,7 @@
-use Rattle.std.proofs.Common.{◌≡◌, ◌≢◌, ◌⊎◌, inl, inr, ℕ, ◌+◌, ◌<◌, ◌≤◌, Bool, true, false, List, length, get_or, Option, Some, None, refl, ap, sym, subst, ◌∙◌, arith}
-use Rattle.std.specs.Prelude.{slice_get, ◌==◌}
-use Rattle.std.proofs.Math.ListN.{set}
-use Rattle.std.proofs.lemmas.Bool.{cases_lt, eq-eqb, eqb-true}
-use Rattle.std.proofs.lemmas.Grind.{get_or-set_at, common_steps, elements}
-use Rattle.std.proofs.lemmas.List.{get_or-set_other, length-set}
-use Rattle.std.proofs.lemmas.Option.{slice_get_read}
-use Rattle.kc_tree.specs.checker.NameTable.{IsTable}
-use Rattle.kc_tree.specs.declared.parts.SymbolRow.{SymbolRow}
+use Rattle.kc_tree.proofs.Common.{◌≡◌, ◌≢◌, ◌⊎◌, inl, inr, ℕ, ◌+◌, ◌<◌, ◌≤◌, Bool, true, false, List, length, get_or, Option, Some, None, refl, ap, sym, subst,
+    ◌∙◌, arith, slice_get, set, cases_lt, get_or-set_at, common_steps, elements, get_or-set_other, length-set, slice_get_read, IsTable, SymbolRow}
+use Rattle.std.specs.Prelude.{◌==◌}
+use Rattle.std.proofs.lemmas.Bool.{eq-eqb, eqb-true}
 use Rattle.kc_tree.proofs.names.symbols_of_names.Goals as goal
 
 module _ (names s : ℕ) (symbols : List SymbolRow) (row : SymbolRow) (table : List (Option ℕ)) (differ : (a b : ℕ) (p q : SymbolRow)

@@ -1,5 +1,4 @@
-use Rattle.std.proofs.Common.{arith}
-use Rattle.std.proofs.lemmas.Grind.{elements}
+use Rattle.kc_tree.proofs.Common.{arith, elements}
 use Rattle.kc_tree.proofs.unit_numbers.number_members.Goals as goal
 
 pub loop-s-preserved : goal.loop-s-preserved

@@ -1,6 +1,5 @@
-use Rattle.std.specs.Prelude.{◌≡◌, ◌<◌, ◌≤◌, ℕ, Some, length, slice_get, slice_index}
-use Rattle.kc_tree.specs.checker.UnitNumbers.{own_or_choice}
-use Rattle.kc_tree.specs.declared.parts.SymbolRow.{SymbolRow}
+use Rattle.std.specs.Prelude.{◌≡◌, ◌<◌, ◌≤◌, ℕ, Some, length}
+use Rattle.kc_tree.proofs.Common.{slice_get, slice_index, own_or_choice, SymbolRow}
 use Rattle.kc_tree.proofs.unit_numbers.number_members.Given as goal
 
 abbrev pub invariant-loop-s : goal.invariant-loop-s

@@ -1,5 +1,4 @@
-use Rattle.std.proofs.Common.{◌≤◌, ◌-◌, length}
-use Rattle.kc_value.specs.ByteSearch.{NonePasses}
+use Rattle.kc_value.proofs.Common.{◌≤◌, ◌-◌, length, NonePasses}
 use Rattle.kc_value.proofs.byte_search.first_marked.Given as goal
 
 abbrev pub invariant-loop-place : goal.invariant-loop-place

@@ -1,6 +1,4 @@
-use Rattle.std.proofs.Common.{◌≡◌, ◌+◌, ◌^◌, arith, drop, get_or, sym, ◌∙◌, []}
-use Rattle.std.proofs.lemmas.List.{drop_more}
-use Rattle.std.proofs.Math.ListN.{drop_of_length-le}
+use Rattle.kc_value.proofs.Common.{◌≡◌, ◌+◌, ◌^◌, arith, drop, get_or, sym, ◌∙◌, [], drop_more, drop_of_length-le}
 use Rattle.kc_value.proofs.Digits.{none_from_digit, goes_on, whole, with_digit_below}
 use Rattle.kc_value.proofs.number.digits.Goals as goal
 

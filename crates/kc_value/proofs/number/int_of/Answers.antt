@@ -1,5 +1,4 @@
-use Rattle.std.proofs.Common.{◌<◌, ◌^◌, arith}
-use Rattle.std.proofs.lemmas.Grind.{common_steps, elements}
+use Rattle.kc_value.proofs.Common.{◌<◌, ◌^◌, arith, common_steps, elements}
 use Rattle.kc_value.specs.Number.{int_text}
 use Rattle.kc_value.proofs.number.int_of.Goals as goal
 

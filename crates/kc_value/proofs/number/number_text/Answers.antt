@@ -1,8 +1,5 @@
-use Rattle.std.proofs.Common.{◌≡◌, ap, ◌∙◌, Some, rules, arith}
-use Rattle.std.proofs.lemmas.Grind.{common_steps}
+use Rattle.kc_value.proofs.Common.{◌≡◌, ap, ◌∙◌, Some, rules, arith, common_steps, string_bytes, number_of_text, number_spelling}
 use Rattle.std.proofs.lemmas.Result.{IfOk-weaker}
-use Rattle.std.specs.Prelude.{string_bytes}
-use Rattle.kc_value.specs.Number.{number_of_text, number_spelling}
 use Rattle.kc_value.proofs.NumberSpelling.{spelling_read_back}
 use Rattle.kc_value.proofs.number.number_text.Goals as goal
 

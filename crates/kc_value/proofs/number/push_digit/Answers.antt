@@ -1,5 +1,4 @@
-use Rattle.std.proofs.Common.{arith}
-use Rattle.std.proofs.lemmas.Grind.{common_steps, elements}
+use Rattle.kc_value.proofs.Common.{arith, common_steps, elements}
 use Rattle.kc_value.proofs.number.push_digit.Goals as goal
 
 pub returns : goal.returns

@@ -1,5 +1,4 @@
-use Rattle.std.proofs.Common.{arith}
-use Rattle.std.proofs.lemmas.Grind.{common_steps}
+use Rattle.kc_value.proofs.Common.{arith, common_steps}
 use Rattle.kc_value.proofs.number.strip_prefix.Goals as goal
 
 pub slice_bounds-rest-count : goal.slice_bounds-rest-count

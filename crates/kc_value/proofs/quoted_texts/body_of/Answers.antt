@@ -1,5 +1,4 @@
-use Rattle.std.proofs.Common.{sym, arith}
-use Rattle.std.proofs.lemmas.Grind.{common_steps, elements}
+use Rattle.kc_value.proofs.Common.{sym, arith, common_steps, elements}
 use Rattle.kc_value.proofs.QuotedLaws.{rest_of, not_closed, closed_early, body_between, cut_first}
 use Rattle.kc_value.proofs.quoted_texts.body_of.Goals as goal
 

@@ -1,7 +1,4 @@
-use Rattle.std.proofs.Common.{◌+◌, get_or, drop, sym, ◌∙◌, arith}
-use Rattle.std.proofs.lemmas.Grind.{common_steps}
-use Rattle.std.proofs.lemmas.List.{drop_more}
-use Rattle.std.proofs.lemmas.Bool.{ne_eqb}
+use Rattle.kc_value.proofs.Common.{◌+◌, get_or, drop, sym, ◌∙◌, arith, common_steps, drop_more, ne_eqb}
 use Rattle.kc_value.proofs.ClosingSteps.{closing_escaped, closing_other}
 use Rattle.kc_value.proofs.quoted_texts.closing_quote.Goals as goal
 use Rattle.kc_value.proofs.quoted_texts.closing_quote.Goals.{then-escaped, else-escaped+else-byte-quote}

@@ -1,5 +1,4 @@
-use Rattle.std.proofs.Common.{◌≡◌, drop, false}
-use Rattle.kc_value.specs.QuotedTexts.{closing}
+use Rattle.kc_value.proofs.Common.{◌≡◌, drop, false, closing}
 use Rattle.kc_value.proofs.ClosingSteps.{further}
 use Rattle.kc_value.proofs.quoted_texts.closing_quote.Given as goal
 

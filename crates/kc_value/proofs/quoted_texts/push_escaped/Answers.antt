@@ -1,5 +1,4 @@
-use Rattle.std.proofs.Common.{◌≡◌, rules, length, ◌∙◌, arith}
-use Rattle.std.proofs.lemmas.Grind.{common_steps, elements}
+use Rattle.kc_value.proofs.Common.{◌≡◌, rules, length, ◌∙◌, arith, common_steps, elements}
 use Rattle.kc_value.proofs.quoted_texts.push_escaped.Goals as goal
 
 pub returns-then-is_err-clause-err : goal.returns-then-is_err-clause-err

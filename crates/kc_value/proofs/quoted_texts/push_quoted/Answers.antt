@@ -1,9 +1,4 @@
-use Rattle.std.proofs.Common.{◌≡◌, ℕ, ◌||◌, true, ◌∷◌, get_or, length, take, ap, ◌∙◌, arith}
-use Rattle.std.proofs.lemmas.Grind.{common_steps}
-use Rattle.std.specs.Prelude.{◌==◌}
-use Rattle.std.specs.List.{flat_map}
-use Rattle.std.proofs.Math.Seq.{take-length}
-use Rattle.kc_value.specs.QuotedTexts.{escaped_byte}
+use Rattle.kc_value.proofs.Common.{◌≡◌, ℕ, ◌||◌, true, ◌∷◌, get_or, length, take, ap, ◌∙◌, arith, common_steps, ◌==◌, flat_map, take-length, escaped_byte}
 use Rattle.kc_value.proofs.EscapedBytes.{still_there, still_there_before, quote_escaped, backslash_escaped, none_escaped, spelled_pair, spelled_plain, all_spelled}
 use Rattle.kc_value.proofs.quoted_texts.push_quoted.Goals as goal
 use Rattle.kc_value.proofs.quoted_texts.push_quoted.Goals.{then-byte-eq34+in_ok-push-2, then-byte-eq34-via-then-byte-eq34, then-byte-eq34-via-else-byte-eq34+then-byte-eq92, else-byte-eq34+else-byte-eq92}

@@ -1,11 +1,7 @@
-use Rattle.std.proofs.Common.{inl, inr, ◌++◌, false, ap, ◌∙◌, arith}
-use Rattle.std.proofs.lemmas.Grind.{elements}
+use Rattle.kc_value.proofs.Common.{inl, inr, ◌++◌, false, ap, ◌∙◌, arith, elements, encode_utf8_all, chars, unescaped}
 use Rattle.std.proofs.lemmas.Iterator.{YieldsList-from_chars}
 use Rattle.std.proofs.lemmas.Iterator.Consumers.{YieldsList-turn, YieldsList-end}
 use Rattle.std.proofs.lemmas.List.{length_push}
-use Rattle.std.specs.Prelude.{encode_utf8_all}
-use Rattle.std.specs.Str.{chars}
-use Rattle.kc_value.specs.QuotedTexts.{unescaped}
 use Rattle.kc_value.proofs.EscapeSteps.{step_start, step_backslash, step_char, step_end}
 use Rattle.kc_value.proofs.quoted_texts.unescape.Goals as goal
 use Rattle.kc_value.proofs.quoted_texts.unescape.Goals.{else-c-eq92-via-then-c-eq92+else-not-escaped, else-c-eq92-via-else-c-eq92}

@@ -1,7 +1,4 @@
-use Rattle.std.proofs.Common.{◌≡◌, ◌++◌, drop, length, false}
-use Rattle.std.specs.Prelude.{string_bytes, encode_utf8_all}
-use Rattle.std.specs.Str.{chars}
-use Rattle.kc_value.specs.QuotedTexts.{unescaped}
+use Rattle.kc_value.proofs.Common.{◌≡◌, ◌++◌, drop, length, false, string_bytes, encode_utf8_all, chars, unescaped}
 use Rattle.kc_value.proofs.quoted_texts.unescape.Given as goal
 
 abbrev pub invariant-loop-c : goal.invariant-loop-c

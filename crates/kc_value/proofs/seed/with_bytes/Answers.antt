@@ -1,5 +1,4 @@
-use Rattle.std.proofs.Common.{◌-◌, length, drop, ◌∙◌, arith}
-use Rattle.std.proofs.lemmas.List.{length-drop, take_all}
+use Rattle.kc_value.proofs.Common.{◌-◌, length, drop, ◌∙◌, arith, length-drop, take_all}
 use Rattle.kc_value.proofs.NameHashSteps.{piece_first, one_piece}
 use Rattle.kc_value.proofs.seed.with_bytes.Goals as goal
 

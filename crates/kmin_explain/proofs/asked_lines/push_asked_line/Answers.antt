@@ -1,9 +1,4 @@
-use Rattle.std.proofs.Common.{◌++◌, sym, ◌∙◌, ap}
-use Rattle.std.specs.Prelude.{option_map}
-use Rattle.std.proofs.lemmas.Result.{on_ok_weaker}
-use Rattle.kc_config_reasons.specs.between.Places.{place_view}
-use Rattle.kmin_explain.specs.Explanations.{asked_line}
-use Rattle.kmin_explain.specs.between.Sources.{sources_model}
+use Rattle.kmin_explain.proofs.Common.{◌++◌, sym, ◌∙◌, ap, option_map, on_ok_weaker, place_view, asked_line, sources_model}
 use Rattle.kmin_explain.proofs.asked_lines.push_asked_line.Goals as goal
 
 pub returns-in-Some : goal.returns-in-Some

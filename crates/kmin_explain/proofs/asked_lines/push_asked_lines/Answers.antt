@@ -1,6 +1,4 @@
-use Rattle.std.proofs.Common.{◌∙◌}
-use Rattle.std.proofs.lemmas.Result.{on_ok_weaker}
-use Rattle.kmin_explain.specs.between.Sources.{sources_model}
+use Rattle.kmin_explain.proofs.Common.{◌∙◌, on_ok_weaker, sources_model}
 use Rattle.kmin_explain.proofs.AskedTexts.{all_asked}
 use Rattle.kmin_explain.proofs.asked_lines.push_asked_lines.Goals as goal
 

@@ -1,8 +1,5 @@
-use Rattle.std.proofs.Common.{◌++◌, Some, sym, ◌∙◌, ap}
+use Rattle.kmin_explain.proofs.Common.{◌++◌, Some, sym, ◌∙◌, ap, on_ok_weaker, sources_model, line_in, overridden_text}
 use Rattle.std.specs.Option.{option_copied}
-use Rattle.std.proofs.lemmas.Result.{on_ok_weaker}
-use Rattle.kmin_explain.specs.between.Sources.{sources_model}
-use Rattle.kmin_explain.specs.checker.FileLineTexts.{line_in, overridden_text}
 use Rattle.kmin_explain.proofs.asked_lines.push_overridden_line.Goals as goal
 
 pub returns-in-Some-Some : goal.returns-in-Some-Some

@@ -1,6 +1,4 @@
-use Rattle.kc_config_reasons.specs.declared.places.Overridden.{Overridden}
-use Rattle.kmin_explain.specs.between.Sources.{sources_model}
-use Rattle.kmin_explain.specs.checker.FileLineTexts.{line_in, overridden_text}
+use Rattle.kmin_explain.proofs.Common.{Overridden, sources_model, line_in, overridden_text}
 use Rattle.kmin_explain.proofs.SymbolTexts.{one_more_text, no_more_text}
 use Rattle.kmin_explain.proofs.asked_lines.push_overridden_lines.Goals as goal
 

@@ -1,10 +1,4 @@
-use Rattle.std.proofs.Common.{◌≡◌, ◌++◌, List, drop}
-use Rattle.std.specs.Prelude.{flat_map}
-use Rattle.kc_tree_model.specs.Blocks.{Group}
-use Rattle.kc_dotconfig_model.specs.ConfigLines.{LineMeaning}
-use Rattle.kc_config_reasons.specs.declared.places.Overridden.{Overridden}
-use Rattle.kmin_explain.specs.between.Sources.{sources_model}
-use Rattle.kmin_explain.specs.checker.FileLineTexts.{line_in, overridden_text}
+use Rattle.kmin_explain.proofs.Common.{◌≡◌, ◌++◌, List, drop, flat_map, Group, LineMeaning, Overridden, sources_model, line_in, overridden_text}
 use Rattle.kmin_explain.proofs.asked_lines.push_overridden_lines.Given as goal
 
 abbrev pub invariant-loop-one : goal.invariant-loop-one

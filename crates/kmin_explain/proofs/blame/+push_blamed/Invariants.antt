@@ -1,8 +1,4 @@
-use Rattle.std.proofs.Common.{◌≡◌, ◌≤◌, ◌++◌}
-use Rattle.kc_expr.specs.between.Arena.{node_expr}
-use Rattle.kc_evaluation.specs.checker.ValuationView.{valuation_tree, valuation_exprs, valuation_values}
-use Rattle.kc_rules_model.specs.SymbolValues.{environment}
-use Rattle.kmin_explain.specs.checker.BlamedWalk.{blamed_in_reverse}
+use Rattle.kmin_explain.proofs.Common.{◌≡◌, ◌≤◌, ◌++◌, node_expr, valuation_tree, valuation_exprs, valuation_values, environment, blamed_in_reverse}
 use Rattle.kmin_explain.proofs.blame.+push_blamed.Given as goal
 
 abbrev pub decreases-push_blamed : goal.decreases-push_blamed

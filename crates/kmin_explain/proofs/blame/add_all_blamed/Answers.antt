@@ -1,13 +1,6 @@
-use Rattle.std.proofs.Common.{List, ◌∙◌, ap}
-use Rattle.std.specs.Prelude.{flat_map}
-use Rattle.std.specs.Global.{Vec}
-use Rattle.kc_evaluation.specs.checker.ValuationView.{valuation_tree, valuation_exprs, valuation_values}
-use Rattle.kc_rules_model.specs.SymbolValues.{environment}
+use Rattle.kmin_explain.proofs.Common.{List, ◌∙◌, ap, flat_map, Vec, valuation_tree, valuation_exprs, valuation_values, environment, LowPart, parts_view,
+    each_once_after, blamed_of}
 use Rattle.kc_reasons_model.specs.Conjuncts.{Part}
-use Rattle.kc_reasons.specs.declared.low_parts.LowPart.{LowPart}
-use Rattle.kc_reasons.specs.between.Parts.{parts_view}
-use Rattle.kmin_explain.specs.Names.{each_once_after}
-use Rattle.kmin_explain.specs.Deep.{blamed_of}
 use Rattle.kmin_explain.proofs.DeepLemmas.{one_more_viewed}
 use Rattle.kmin_explain.proofs.blame.add_all_blamed.Goals as goal
 

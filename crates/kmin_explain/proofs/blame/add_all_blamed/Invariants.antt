@@ -1,10 +1,5 @@
-use Rattle.std.proofs.Common.{◌≡◌, length, drop}
-use Rattle.kc_evaluation.specs.checker.ValuationView.{valuation_tree, valuation_exprs, valuation_values}
-use Rattle.kc_rules_model.specs.SymbolValues.{environment}
-use Rattle.kc_reasons.specs.between.Parts.{alternatives_view}
-use Rattle.kmin_explain.specs.Names.{each_once_after}
-use Rattle.kmin_explain.specs.Deep.{blamed_in}
-use Rattle.kmin_explain.specs.checker.Marks.{AreMarked}
+use Rattle.kmin_explain.proofs.Common.{◌≡◌, length, drop, valuation_tree, valuation_exprs, valuation_values, environment, alternatives_view, each_once_after,
+    blamed_in, AreMarked}
 use Rattle.kmin_explain.proofs.blame.add_all_blamed.Given as goal
 
 abbrev pub invariant-loop-parts : goal.invariant-loop-parts

@@ -1,14 +1,8 @@
-use Rattle.std.proofs.Common.{◌<◌, length, List, ℕ, All, sym, subst, ◌∙◌, ap}
-use Rattle.std.proofs.lemmas.Result.{on_ok_weaker}
-use Rattle.kc_expr.specs.between.Arena.{node_expr}
-use Rattle.kc_evaluation.specs.checker.ValuationView.{valuation_tree, valuation_exprs, valuation_values}
-use Rattle.kc_rules_model.specs.SymbolValues.{environment}
-use Rattle.kc_reasons_model.specs.Blame.{blamed}
-use Rattle.kmin_explain.specs.Names.{each_once_after}
+use Rattle.kmin_explain.proofs.Common.{◌<◌, length, List, ℕ, All, sym, subst, ◌∙◌, ap, on_ok_weaker, node_expr, valuation_tree, valuation_exprs,
+    valuation_values, environment, blamed, each_once_after, symbol_named}
 use Rattle.kmin_explain.proofs.BlamedLemmas.{found_turned, all_there}
 use Rattle.kmin_explain.proofs.blame.add_blamed.Goals as goal
 use Rattle.std.specs.Prelude.{false, filter_map}
-use Rattle.kc_tree_model.specs.TreeLookup.{symbol_named}
 
 pub add_all-requires-clause-there : goal.add_all-requires-clause-there
 add_all-requires-clause-there c =

@@ -1,10 +1,5 @@
-use Rattle.std.proofs.Common.{◌∙◌, ap}
-use Rattle.kc_evaluation.specs.checker.ValuationView.{valuation_tree, valuation_exprs, valuation_values}
-use Rattle.kc_rules_model.specs.SymbolValues.{environment}
-use Rattle.kc_reasons.specs.declared.low_parts.LowPart.{LowPart}
+use Rattle.kmin_explain.proofs.Common.{◌∙◌, ap, valuation_tree, valuation_exprs, valuation_values, environment, LowPart, each_once_after, blamed_of}
 use Rattle.kc_reasons.specs.between.Parts.{part_view}
-use Rattle.kmin_explain.specs.Names.{each_once_after}
-use Rattle.kmin_explain.specs.Deep.{blamed_of}
 use Rattle.kmin_explain.proofs.DeepLemmas.{one_more_viewed}
 use Rattle.kmin_explain.proofs.blame.add_parts.Goals as goal
 

@@ -1,11 +1,5 @@
-use Rattle.std.proofs.Common.{◌≡◌, length, drop}
-use Rattle.std.specs.Prelude.{flat_map}
-use Rattle.kc_evaluation.specs.checker.ValuationView.{valuation_tree, valuation_exprs, valuation_values}
-use Rattle.kc_rules_model.specs.SymbolValues.{environment}
-use Rattle.kc_reasons.specs.between.Parts.{parts_view}
-use Rattle.kmin_explain.specs.Names.{each_once_after}
-use Rattle.kmin_explain.specs.Deep.{blamed_of}
-use Rattle.kmin_explain.specs.checker.Marks.{AreMarked}
+use Rattle.kmin_explain.proofs.Common.{◌≡◌, length, drop, flat_map, valuation_tree, valuation_exprs, valuation_values, environment, parts_view, each_once_after,
+    blamed_of, AreMarked}
 use Rattle.kmin_explain.proofs.blame.add_parts.Given as goal
 
 abbrev pub invariant-loop-part : goal.invariant-loop-part

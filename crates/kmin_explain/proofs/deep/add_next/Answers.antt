@@ -1,16 +1,6 @@
-use Rattle.std.proofs.Common.{List, length, sym, subst, ◌∙◌, ap}
-use Rattle.std.specs.Global.{Vec}
-use Rattle.std.proofs.lemmas.Result.{on_ok_weaker}
-use Rattle.kc_expr.specs.between.Arena.{Exprs}
-use Rattle.kc_tree_model.specs.Trees.{Tree}
-use Rattle.kc_rules_model.specs.SymbolValues.{environment}
-use Rattle.kc_evaluation.specs.checker.ValuationView.{valuation_tree, valuation_exprs, valuation_values}
-use Rattle.kc_reasons.specs.declared.low_parts.LowPart.{LowPart}
-use Rattle.kc_reasons.specs.between.Parts.{alternatives_view, AreThere}
-use Rattle.kc_reasons.specs.between.ReasonsView.{reasons_view}
-use Rattle.kmin_explain.specs.Names.{each_once_after}
-use Rattle.kmin_explain.specs.Deep.{blamed_in}
-use Rattle.kmin_explain.specs.between.Sources.{sources_model}
+use Rattle.kmin_explain.proofs.Common.{List, length, sym, subst, ◌∙◌, ap, Vec, on_ok_weaker, Exprs, Tree, environment, valuation_tree, valuation_exprs,
+    valuation_values, LowPart, alternatives_view, reasons_view, each_once_after, blamed_in, sources_model}
+use Rattle.kc_reasons.specs.between.Parts.{AreThere}
 use Rattle.kmin_explain.proofs.SymbolTexts.{symbol_there}
 use Rattle.kmin_explain.proofs.DeepLemmas.{next_added}
 use Rattle.kmin_explain.proofs.deep.add_next.Goals as goal

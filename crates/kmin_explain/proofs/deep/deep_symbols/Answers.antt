@@ -1,11 +1,6 @@
-use Rattle.std.proofs.Common.{◌≡◌, ℕ, ◌<◌, [], length, get_or, All, sym, subst, ◌∙◌, ap, arith}
+use Rattle.kmin_explain.proofs.Common.{◌≡◌, ℕ, ◌<◌, [], length, get_or, All, sym, subst, ◌∙◌, ap, arith, TreeModel, tree_model_of, tree_in, each_once_after,
+    next_of, config_of, sources_model}
 use Rattle.std.proofs.lemmas.List.{get_or_read}
-use Rattle.kc_tree.specs.TreeModel.{TreeModel}
-use Rattle.kc_rules.specs.between.SettledViews.{tree_model_of}
-use Rattle.kc_config.specs.ConfigStates.{tree_in}
-use Rattle.kmin_explain.specs.Names.{each_once_after}
-use Rattle.kmin_explain.specs.Deep.{next_of}
-use Rattle.kmin_explain.specs.between.Sources.{config_of, sources_model}
 use Rattle.kmin_explain.proofs.OnceLemmas.{longer, deep_begin, deep_more, deep_end}
 use Rattle.kmin_explain.proofs.MarkLemmas.{few_found, all_below, one_below}
 use Rattle.kmin_explain.proofs.deep.deep_symbols.Goals as goal

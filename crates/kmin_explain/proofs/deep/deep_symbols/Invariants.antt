@@ -1,12 +1,6 @@
-use Rattle.std.proofs.Common.{◌≡◌, ◌≤◌, ◌++◌, ◌-◌, List, length, take}
-use Rattle.std.specs.Prelude.{flat_map}
-use Rattle.kc_tree_model.specs.Blocks.{Group}
-use Rattle.kc_dotconfig_model.specs.ConfigLines.{LineMeaning}
-use Rattle.kc_config.specs.ConfigStates.{tree_in}
-use Rattle.kmin_explain.specs.Names.{each_once}
-use Rattle.kmin_explain.specs.Deep.{next_of}
-use Rattle.kmin_explain.specs.between.Sources.{config_of, sources_model}
-use Rattle.kmin_explain.specs.checker.Marks.{AreMarked}
+use Rattle.std.proofs.Common.{◌-◌}
+use Rattle.kmin_explain.proofs.Common.{◌≡◌, ◌≤◌, ◌++◌, List, length, take, flat_map, Group, LineMeaning, tree_in, each_once, next_of, config_of, sources_model,
+    AreMarked}
 use Rattle.kmin_explain.proofs.deep.deep_symbols.Given as goal
 
 abbrev pub invariant-loop-i : goal.invariant-loop-i

@@ -1,6 +1,4 @@
-use Rattle.std.proofs.Common.{◌++◌, ◌∙◌, ap}
-use Rattle.kmin_explain.specs.Explanations.{explained_at}
-use Rattle.kmin_explain.specs.between.Sources.{sources_model}
+use Rattle.kmin_explain.proofs.Common.{◌++◌, ◌∙◌, ap, explained_at, sources_model}
 use Rattle.kmin_explain.proofs.SymbolTexts.{one_more_text, no_more_text}
 use Rattle.kmin_explain.proofs.explanations.explanation_of.Goals as goal
 

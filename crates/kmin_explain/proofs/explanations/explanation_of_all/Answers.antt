@@ -1,11 +1,6 @@
-use Rattle.std.proofs.Common.{◌≡◌, ℕ, ◌<◌, List, length, All, sym, subst, ◌∙◌, ap, arith}
-use Rattle.std.specs.List.{range_with_len}
-use Rattle.std.proofs.lemmas.Result.{IfOk-weaker}
-use Rattle.kc_tree.specs.TreeModel.{TreeModel}
-use Rattle.kc_rules.specs.between.SettledViews.{tree_model_of}
-use Rattle.kc_config.specs.ConfigStates.{tree_in}
-use Rattle.kmin_explain.specs.Explanations.{explained_in, all_symbols}
-use Rattle.kmin_explain.specs.between.Sources.{config_of, sources_model}
+use Rattle.kmin_explain.proofs.Common.{◌≡◌, ℕ, ◌<◌, List, length, All, sym, subst, ◌∙◌, ap, arith, range_with_len, IfOk-weaker, TreeModel, tree_model_of,
+    tree_in, explained_in, config_of, sources_model}
+use Rattle.kmin_explain.specs.Explanations.{all_symbols}
 use Rattle.kmin_explain.proofs.EachOnce.{range_below}
 use Rattle.kmin_explain.proofs.explanations.explanation_of_all.Goals as goal
 

@@ -1,12 +1,5 @@
-use Rattle.std.proofs.Common.{true, not, sym, ◌∙◌, ap}
-use Rattle.std.specs.Prelude.{is_some}
-use Rattle.kc_tree.specs.TreeModel.{TreeModel}
-use Rattle.kc_tree_model.specs.TreeLookup.{unit_of}
-use Rattle.kc_rules.specs.between.SettledViews.{tree_model_of}
-use Rattle.kc_reasons_model.specs.AssigningLines.{assigning_place}
-use Rattle.kc_reasons_model.specs.PlainReasons.{PlainReasons}
-use Rattle.kc_config_reasons.specs.between.Places.{place_view}
-use Rattle.kmin_explain.specs.between.Sources.{sources_model}
+use Rattle.kmin_explain.proofs.Common.{true, not, sym, ◌∙◌, ap, is_some, TreeModel, unit_of, tree_model_of, assigning_place, PlainReasons, place_view,
+    sources_model}
 use Rattle.kmin_explain.proofs.SymbolTexts.{symbol_there, without_line, hindered_by, some_mapped}
 use Rattle.kmin_explain.proofs.explanations.is_hindered.Goals as goal
 

@@ -1,6 +1,4 @@
-use Rattle.std.proofs.Common.{sym, ◌∙◌, ap}
-use Rattle.kmin_explain.specs.Explanations.{is_hindered_at}
-use Rattle.kmin_explain.specs.between.Sources.{sources_model}
+use Rattle.kmin_explain.proofs.Common.{sym, ◌∙◌, ap, is_hindered_at, sources_model}
 use Rattle.kmin_explain.proofs.SymbolTexts.{one_passed, one_found, none_found}
 use Rattle.kmin_explain.proofs.explanations.is_one_hindered.Goals as goal
 

@@ -1,12 +1,6 @@
-use Rattle.std.proofs.Common.{◌∙◌, ap}
-use Rattle.std.proofs.lemmas.Result.{on_ok_weaker}
+use Rattle.kmin_explain.proofs.Common.{◌∙◌, ap, on_ok_weaker, unit_of, symbol_view, tree_model_of, valuation_tree, valuation_exprs, valuation_values, wanted_by,
+    sources_model}
 use Rattle.kc_solver.specs.Solutions.{user_of}
-use Rattle.kc_tree_model.specs.TreeLookup.{unit_of}
-use Rattle.kc_tree.specs.between.Views.{symbol_view}
-use Rattle.kc_rules.specs.between.SettledViews.{tree_model_of}
-use Rattle.kc_evaluation.specs.checker.ValuationView.{valuation_tree, valuation_exprs, valuation_values}
-use Rattle.kc_reasons_model.specs.PlainReasons.{wanted_by}
-use Rattle.kmin_explain.specs.between.Sources.{sources_model}
 use Rattle.kmin_explain.proofs.ReasonTexts.{reasons_text_is, same_at}
 use Rattle.kmin_explain.proofs.explanations.push_by_reasons.Goals as goal
 

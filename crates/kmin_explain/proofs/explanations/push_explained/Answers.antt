@@ -1,9 +1,5 @@
-use Rattle.std.proofs.Common.{◌++◌, sym, ◌∙◌, ap}
-use Rattle.std.proofs.lemmas.Result.{on_ok_weaker}
-use Rattle.kc_rules.specs.between.SettledViews.{tree_model_of}
-use Rattle.kc_symbol_lines.specs.between.LinesView.{symbol_lines_view}
-use Rattle.kmin_explain.specs.Explanations.{explained_by, listed_reasons, reasons_of}
-use Rattle.kmin_explain.specs.between.Sources.{sources_model}
+use Rattle.kmin_explain.proofs.Common.{◌++◌, sym, ◌∙◌, ap, on_ok_weaker, tree_model_of, symbol_lines_view, explained_by, listed_reasons, reasons_of,
+    sources_model}
 use Rattle.kmin_explain.proofs.SymbolTexts.{explained_is, symbol_there}
 use Rattle.kmin_explain.proofs.explanations.push_explained.Goals as goal
 

@@ -1,5 +1,4 @@
-use Rattle.std.proofs.Common.{◌≡◌, ◌++◌, length, drop, sym, subst, ◌∙◌, ap}
-use Rattle.std.specs.Prelude.{IsAscii}
+use Rattle.kmin_explain.proofs.Common.{◌≡◌, ◌++◌, length, drop, sym, subst, ◌∙◌, ap, IsAscii}
 use Rattle.std.proofs.lemmas.Bool.Decides.{Decides-eqb}
 use Rattle.std.proofs.lemmas.Slice.Eq.{starts_is}
 use Rattle.kc_dotconfig_model.specs.between.LineMeanings.{after_front}

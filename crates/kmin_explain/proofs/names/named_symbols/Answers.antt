@@ -1,5 +1,4 @@
-use Rattle.kc_dotconfig_model.specs.between.Prefixes.{prefix_bytes}
-use Rattle.kmin_explain.specs.Names.{symbol_meant}
+use Rattle.kmin_explain.proofs.Common.{prefix_bytes, symbol_meant}
 use Rattle.kmin_explain.proofs.NameLists.{one_more_meant}
 use Rattle.kmin_explain.proofs.names.named_symbols.Goals as goal
 

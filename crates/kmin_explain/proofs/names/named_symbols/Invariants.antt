@@ -1,9 +1,5 @@
-use Rattle.std.proofs.Common.{◌≡◌, ℕ, List, length, map, drop}
-use Rattle.std.specs.Borrow.{Bor}
-use Rattle.std.specs.List.{filter_map}
-use Rattle.kc_dotconfig_model.specs.between.Prefixes.{prefix_bytes}
-use Rattle.kmin_explain.specs.Names.{symbol_meant, each_once_after, symbols_named}
-use Rattle.kmin_explain.specs.checker.Marks.{AreMarked}
+use Rattle.kmin_explain.proofs.Common.{◌≡◌, ℕ, List, length, map, drop, Bor, filter_map, prefix_bytes, symbol_meant, each_once_after, AreMarked}
+use Rattle.kmin_explain.specs.Names.{symbols_named}
 use Rattle.kmin_explain.proofs.names.named_symbols.Given as goal
 
 abbrev pub invariant-loop-name : goal.invariant-loop-name

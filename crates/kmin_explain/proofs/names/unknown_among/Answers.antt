@@ -1,6 +1,4 @@
-use Rattle.std.proofs.Common.{not, sym, ◌∙◌, ap}
-use Rattle.std.specs.Prelude.{is_some}
-use Rattle.kc_dotconfig_model.specs.between.Prefixes.{prefix_bytes}
+use Rattle.kmin_explain.proofs.Common.{not, sym, ◌∙◌, ap, is_some, prefix_bytes}
 use Rattle.kmin_explain.proofs.NameLists.{passed_over, if_not_none}
 use Rattle.kmin_explain.proofs.names.unknown_among.Goals as goal
 

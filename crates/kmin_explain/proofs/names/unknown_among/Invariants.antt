@@ -1,8 +1,4 @@
-use Rattle.std.proofs.Common.{◌≡◌, ℕ, List, map, drop}
-use Rattle.std.specs.Prelude.{find}
-use Rattle.std.specs.Borrow.{Bor}
-use Rattle.kc_dotconfig_model.specs.between.Prefixes.{prefix_bytes}
-use Rattle.kmin_explain.specs.Names.{is_unknown}
+use Rattle.kmin_explain.proofs.Common.{◌≡◌, ℕ, List, map, drop, find, Bor, prefix_bytes, is_unknown}
 use Rattle.kmin_explain.proofs.names.unknown_among.Given as goal
 
 abbrev pub invariant-loop-name : goal.invariant-loop-name

@@ -1,5 +1,4 @@
-use Rattle.std.proofs.Common.{◌≡◌}
-use Rattle.std.specs.List.{range_with_len}
+use Rattle.kmin_explain.proofs.Common.{◌≡◌, range_with_len}
 use Rattle.kmin_explain.proofs.symbol_reasons.all_numbers.Given as goal
 
 abbrev pub invariant-loop-number : goal.invariant-loop-number

@@ -1,7 +1,5 @@
-use Rattle.std.proofs.Common.{sym, subst, ◌∙◌, ap}
+use Rattle.kmin_explain.proofs.Common.{sym, subst, ◌∙◌, ap, TreeModel, tree_model_of}
 use Rattle.std.specs.Prelude.{IfOk}
-use Rattle.kc_tree.specs.TreeModel.{TreeModel}
-use Rattle.kc_rules.specs.between.SettledViews.{tree_model_of}
 use Rattle.kc_symbol_lines.specs.between.Indexes.{IsReadTree, IsIndex}
 use Rattle.kc_symbol_lines.specs.between.LinesView.{AreHeld}
 use Rattle.kmin_explain.proofs.SymbolTexts.{name_defined, lines_found}

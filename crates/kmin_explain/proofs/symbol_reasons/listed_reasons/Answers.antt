@@ -1,10 +1,4 @@
-use Rattle.std.proofs.Common.{◌∙◌, ap}
-use Rattle.std.proofs.lemmas.Result.{IfOk-weaker}
-use Rattle.kc_tree.specs.between.Views.{symbol_view}
-use Rattle.kc_rules.specs.between.SettledViews.{tree_model_of}
-use Rattle.kc_reasons.specs.between.ReasonsView.{reasons_view}
-use Rattle.kmin_explain.specs.Explanations.{reasons_of}
-use Rattle.kmin_explain.specs.between.Sources.{sources_model}
+use Rattle.kmin_explain.proofs.Common.{◌∙◌, ap, IfOk-weaker, symbol_view, tree_model_of, reasons_view, reasons_of, sources_model}
 use Rattle.kmin_explain.proofs.SymbolTexts.{listed_plainly, listed_with_all, symbol_is}
 use Rattle.kmin_explain.proofs.symbol_reasons.listed_reasons.Goals as goal
 

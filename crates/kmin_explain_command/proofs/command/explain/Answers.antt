@@ -1,6 +1,5 @@
-use Rattle.std.proofs.Common.{inl, inr, refl, sym, ◌∙◌, arith}
-use Rattle.kmin_options.specs.Jobs.{explain_job_view}
-use Rattle.kmin_outputs.proofs.JobOutputs.{lines_kept, no_other_status}
+use Rattle.kmin_explain_command.proofs.Common.{inl, inr, refl, sym, ◌∙◌, arith, explain_job_view, lines_kept}
+use Rattle.kmin_outputs.proofs.JobOutputs.{no_other_status}
 use Rattle.kmin_explain_command.proofs.Endings.{write_stops, explain_ends}
 use Rattle.kmin_explain_command.proofs.Statuses.{of_fault, output_at_most_six, output_not_two, output_not_five, output_no_other, failed_at_most_six, failed_not_two, failed_not_done, fault_at_most_six, fault_not_done}
 use Rattle.kmin_explain_command.proofs.command.explain.Goals as goal

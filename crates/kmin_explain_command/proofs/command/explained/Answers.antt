@@ -1,12 +1,9 @@
-use Rattle.std.proofs.Common.{rules}
-use Rattle.kmin_options.specs.Jobs.{explain_job_view}
-use Rattle.kc_rules.specs.between.SettledViews.{tree_model_of}
+use Rattle.kmin_explain_command.proofs.Common.{rules, explain_job_view, tree_model_of, if_err_map, rises_later}
 use Rattle.kmin_outputs.specs.Stops.{at_tree}
 use Rattle.kmin_explain_command.specs.Stops.{before_output}
 use Rattle.kmin_explain_command.proofs.Endings.{job_answers, job_stops}
 use Rattle.kmin_explain_command.proofs.SourceParts.{read_tree}
-use Rattle.kmin_report.proofs.Results.{if_err, if_err_map}
-use Rattle.kmin_inputs.proofs.FailureCounts.{rises_later}
+use Rattle.kmin_report.proofs.Results.{if_err}
 use Rattle.kmin_explain_command.proofs.command.explained.Goals as goal
 
 pub explained_over-answer-requires-clause-read : goal.explained_over-answer-requires-clause-read

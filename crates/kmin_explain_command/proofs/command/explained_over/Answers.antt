@@ -1,8 +1,5 @@
-use Rattle.std.proofs.Common.{rules, arith}
+use Rattle.kmin_explain_command.proofs.Common.{rules, arith, if_err_map, no_value, with_error}
 use Rattle.kmin_explain_command.proofs.OverEnds.{answers_over, stops_over, stops_among, unfailed}
-use Rattle.kmin_report.proofs.Results.{if_err_map}
-use Rattle.kc_solver.proofs.ErrorExits.{no_value}
-use Rattle.kmin_outputs.proofs.ErrorExits.{with_error}
 use Rattle.kmin_explain_command.proofs.command.explained_over.Goals as goal
 
 pub returns-in_err-found : goal.returns-in_err-found

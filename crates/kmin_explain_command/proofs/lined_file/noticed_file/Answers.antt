@@ -1,13 +1,7 @@
-use Rattle.std.proofs.Common.{◌≡◌, [], ◌∷◌, refl, sym, subst, arith}
-use Rattle.kc_dotconfig.specs.Fragments.{FitsTree, notice_pair}
-use Rattle.kc_dotconfig.specs.declared.fragment.Fragment.{Fragment}
-use Rattle.kc_dotconfig_model.specs.between.Formats.{file_format}
-use Rattle.kc_rules.specs.between.SettledViews.{tree_of_settled}
-use Rattle.kmin_report.proofs.Results.{memory_err}
-use Rattle.kc_solver.proofs.ErrorExits.{no_value}
-use Rattle.kmin_outputs.proofs.ErrorExits.{with_error}
-use Rattle.kmin_outputs.proofs.Sequences.{loaded_one, stopped_noticed, stopped_path, stopped_for_memory}
-use Rattle.kmin_explain_command.specs.between.LinedFiles.{IsLinedFile}
+use Rattle.kmin_explain_command.proofs.Common.{◌≡◌, [], ◌∷◌, refl, sym, subst, arith, notice_pair, Fragment, file_format, tree_of_settled, memory_err, no_value,
+    with_error, stopped_path, stopped_for_memory, IsLinedFile}
+use Rattle.kc_dotconfig.specs.Fragments.{FitsTree}
+use Rattle.kmin_outputs.proofs.Sequences.{loaded_one, stopped_noticed}
 use Rattle.kmin_explain_command.proofs.LinedFiles.{loaded_of, lined_whole}
 use Rattle.kmin_explain_command.proofs.lined_file.noticed_file.Goals as goal
 

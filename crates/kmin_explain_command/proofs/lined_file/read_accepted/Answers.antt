@@ -1,7 +1,6 @@
-use Rattle.std.proofs.Common.{refl}
+use Rattle.kmin_explain_command.proofs.Common.{refl, if_ok_map, if_err_map}
 use Rattle.kc_files.proofs.StoreLemmas.{one_more_rises}
 use Rattle.kmin_tidy.specs.checker.Readings.{unopened}
-use Rattle.kmin_report.proofs.Results.{if_ok_map, if_err_map}
 use Rattle.kmin_inputs.proofs.FailureCounts.{closed_rises}
 use Rattle.kmin_explain_command.proofs.lined_file.read_accepted.Goals as goal
 

@@ -1,9 +1,4 @@
-use Rattle.std.proofs.Common.{sym, subst, ◌∙◌}
-use Rattle.kc_rules.specs.between.SettledViews.{tree_of_settled}
-use Rattle.kc_dotconfig_model.specs.between.Formats.{file_format}
-use Rattle.kmin_outputs.specs.between.LoadStops.{StopsAtPath, load_lines}
-use Rattle.kmin_outputs.proofs.Sequences.{stopped_path}
-use Rattle.kmin_report.proofs.Results.{if_err_map}
+use Rattle.kmin_explain_command.proofs.Common.{sym, subst, ◌∙◌, tree_of_settled, file_format, StopsAtPath, load_lines, stopped_path, if_err_map}
 use Rattle.kmin_explain_command.proofs.ReadFiles.{faulty_stops, is_unread}
 use Rattle.kmin_explain_command.proofs.lined_file.read_file.Goals as goal
 

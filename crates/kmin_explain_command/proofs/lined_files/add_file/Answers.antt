@@ -1,9 +1,5 @@
-use Rattle.std.proofs.Common.{[], ◌∷◌, refl, arith}
-use Rattle.kc_rules.specs.between.SettledViews.{tree_of_settled}
-use Rattle.kmin_report.proofs.Results.{memory_err}
-use Rattle.kmin_outputs.proofs.Sequences.{loaded_one, stopped_for_memory}
-use Rattle.kc_solver.proofs.ErrorExits.{no_success}
-use Rattle.kmin_outputs.proofs.ErrorExits.{with_error}
+use Rattle.kmin_explain_command.proofs.Common.{[], ◌∷◌, refl, arith, tree_of_settled, memory_err, stopped_for_memory, no_success, with_error}
+use Rattle.kmin_outputs.proofs.Sequences.{loaded_one}
 use Rattle.kmin_explain_command.proofs.LinedFiles.{lined_one}
 use Rattle.kmin_explain_command.proofs.lined_files.add_file.Goals as goal
 

@@ -1,15 +1,11 @@
-use Rattle.std.proofs.Common.{◌≡◌, ◌∷◌, [], ℕ, suc, List, get_or, refl, ◌∙◌, map, take, drop, arith, rules}
-use Rattle.std.specs.Borrow.{Bor}
+use Rattle.std.proofs.Common.{suc, get_or, drop}
+use Rattle.kmin_explain_command.proofs.Common.{◌≡◌, ◌∷◌, [], ℕ, List, refl, ◌∙◌, map, take, arith, rules, Bor, tree_of_settled, rises_later, memory_err,
+    no_value, with_error}
 use Rattle.std.proofs.lemmas.List.{take_all}
-use Rattle.kc_rules.specs.between.SettledViews.{tree_of_settled}
-use Rattle.kmin_inputs.proofs.FailureCounts.{rises_later}
 use Rattle.kmin_outputs.proofs.Sequences.{stopped_more, stopped_later}
 use Rattle.kmin_explain_command.proofs.LinedFiles.{lined_none, lined_append}
 use Rattle.kmin_explain_command.proofs.ReadFiles.{stopped_none}
-use Rattle.kmin_report.proofs.Results.{memory_err}
 use Rattle.kmin_report.proofs.Lists.{paths_next, paths_at}
-use Rattle.kc_solver.proofs.ErrorExits.{no_value}
-use Rattle.kmin_outputs.proofs.ErrorExits.{with_error}
 use Rattle.kmin_explain_command.proofs.lined_files.read_lined.Goals as goal
 
 pub loop-path-init : goal.loop-path-init

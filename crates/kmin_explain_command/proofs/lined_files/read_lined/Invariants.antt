@@ -1,11 +1,5 @@
-use Rattle.std.proofs.Common.{◌≡◌, ◌≤◌, ℕ, List, [], map, take}
-use Rattle.std.specs.Borrow.{Bor}
-use Rattle.kc_rules.specs.between.SettledViews.{tree_of_settled}
-use Rattle.kc_config.specs.ConfigStates.{IsSolved}
-use Rattle.kc_dotconfig_model.specs.between.Formats.{file_format}
-use Rattle.kc_dotconfig_model.specs.ConfigFiles.{empty_assignment}
-use Rattle.kmin_outputs.specs.between.LoadResults.{lists_of}
-use Rattle.kmin_explain_command.specs.between.LinedFiles.{AreLined}
+use Rattle.kmin_explain_command.proofs.Common.{◌≡◌, ◌≤◌, ℕ, List, [], map, take, Bor, tree_of_settled, IsSolved, file_format, empty_assignment, lists_of,
+    AreLined}
 use Rattle.kmin_explain_command.proofs.lined_files.read_lined.Given as goal
 
 abbrev pub invariant-loop-path : goal.invariant-loop-path

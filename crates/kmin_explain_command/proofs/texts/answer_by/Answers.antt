@@ -1,8 +1,4 @@
-use Rattle.std.proofs.Common.{ap}
-use Rattle.kc_config.specs.ConfigStates.{tree_in}
-use Rattle.kmin_explain.specs.between.Sources.{config_of}
-use Rattle.kmin_options.specs.Jobs.{explain_job_view, question_view}
-use Rattle.kmin_explain_command.specs.Explains.{symbols_in}
+use Rattle.kmin_explain_command.proofs.Common.{ap, tree_in, config_of, explain_job_view, question_view, symbols_in}
 use Rattle.kmin_explain_command.proofs.TextEnds.{question_answered}
 use Rattle.kmin_explain_command.proofs.texts.answer_by.Goals as goal
 

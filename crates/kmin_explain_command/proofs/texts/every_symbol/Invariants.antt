@@ -1,5 +1,4 @@
-use Rattle.std.proofs.Common.{◌≡◌}
-use Rattle.std.specs.List.{range_with_len}
+use Rattle.kmin_explain_command.proofs.Common.{◌≡◌, range_with_len}
 use Rattle.kmin_explain_command.proofs.texts.every_symbol.Given as goal
 
 abbrev pub invariant-loop-s : goal.invariant-loop-s

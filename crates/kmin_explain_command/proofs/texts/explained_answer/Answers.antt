@@ -1,8 +1,4 @@
-use Rattle.std.proofs.Common.{ap, ◌∙◌}
-use Rattle.kc_tree.specs.TreeModel.{TreeModel}
-use Rattle.kc_rules.specs.between.SettledViews.{tree_model_of}
-use Rattle.kmin_options.specs.Jobs.{explain_job_view}
-use Rattle.kmin_explain_command.specs.Explains.{symbols_in}
+use Rattle.kmin_explain_command.proofs.Common.{ap, ◌∙◌, TreeModel, tree_model_of, explain_job_view, symbols_in}
 use Rattle.kmin_explain_command.proofs.TextEnds.{both_answered}
 use Rattle.kmin_explain_command.proofs.texts.explained_answer.Goals as goal
 

@@ -1,17 +1,6 @@
-use Rattle.std.proofs.Common.{◌≡◌, None, ◌∙◌, ap, sym, subst}
-use Rattle.kc_tree.specs.TreeModel.{TreeModel}
-use Rattle.kc_rules.specs.between.SettledViews.{tree_model_of}
-use Rattle.kc_config.specs.ConfigStates.{tree_in}
-use Rattle.kc_tree_model.specs.Trees.{Tree}
-use Rattle.kmin_outputs.specs.between.Comparisons.{AreNoticed}
-use Rattle.kc_solver.proofs.ErrorExits.{no_value}
-use Rattle.kmin_outputs.proofs.ErrorExits.{with_error}
-use Rattle.kmin_options.specs.Jobs.{explain_job_view}
-use Rattle.kmin_report.proofs.Results.{memory_err}
-use Rattle.kmin_report.specs.between.RunErrors.{status_of}
-use Rattle.kmin_explain_command.specs.Explains.{unknown_for}
-use Rattle.kmin_explain_command.specs.between.Texts.{at_choices, for_memory, paths_of_job}
-use Rattle.kmin_explain_command.specs.between.UnknownNames.{StopsAtName}
+use Rattle.kmin_explain_command.proofs.Common.{◌≡◌, None, ◌∙◌, ap, sym, subst, TreeModel, tree_model_of, tree_in, Tree, AreNoticed, no_value, with_error,
+    explain_job_view, memory_err, status_of, unknown_for, paths_of_job, StopsAtName}
+use Rattle.kmin_explain_command.specs.between.Texts.{at_choices, for_memory}
 use Rattle.kmin_explain_command.proofs.TextEnds.{noticed_alone, name_stops_in, explained_by}
 use Rattle.kmin_explain_command.proofs.texts.explained_files.Goals as goal
 

@@ -1,6 +1,4 @@
-use Rattle.std.proofs.Common.{◌≤◌, ◌∙◌, ap, subst, sym}
-use Rattle.kmin_outputs.specs.Statuses.{status_of_list}
-use Rattle.kmin_outputs.proofs.JobOutputs.{status_at_most_one}
+use Rattle.kmin_explain_command.proofs.Common.{◌≤◌, ◌∙◌, ap, subst, sym, status_of_list, status_at_most_one}
 use Rattle.kmin_explain_command.proofs.texts.missed_answer.Goals as goal
 
 pub returns-clause-status : goal.returns-clause-status

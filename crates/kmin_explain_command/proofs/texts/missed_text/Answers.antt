@@ -1,7 +1,4 @@
-use Rattle.std.proofs.Common.{sym, ◌∙◌, ap}
-use Rattle.std.proofs.lemmas.Result.{IfOk-weaker}
-use Rattle.kmin_explain.specs.between.Sources.{sources_model}
-use Rattle.kmin_explain_command.specs.Explains.{missed_text}
+use Rattle.kmin_explain_command.proofs.Common.{sym, ◌∙◌, ap, IfOk-weaker, sources_model, missed_text}
 use Rattle.kmin_explain_command.proofs.texts.missed_text.Goals as goal
 
 pub returns-in-Plain : goal.returns-in-Plain

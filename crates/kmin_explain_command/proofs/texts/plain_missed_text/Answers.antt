@@ -1,11 +1,7 @@
-use Rattle.std.proofs.Common.{ℕ, List, All, ◌<◌, length, sym, subst, ◌∙◌, ap}
-use Rattle.std.proofs.lemmas.Result.{IfOk-weaker}
-use Rattle.kc_config.specs.ConfigStates.{tree_in}
+use Rattle.kmin_explain_command.proofs.Common.{ℕ, List, All, ◌<◌, length, sym, subst, ◌∙◌, ap, IfOk-weaker, tree_in, config_of, sources_model, missed_text}
 use Rattle.kmin_missed.specs.MissedCauses.{causes_text}
-use Rattle.kmin_explain.specs.between.Sources.{config_of, sources_model}
 use Rattle.kmin_missed.proofs.MissedMarks.{missed_below}
 use Rattle.kmin_records.specs.declared.output_form.OutputForm.TheVariants.{Plain}
-use Rattle.kmin_explain_command.specs.Explains.{missed_text}
 use Rattle.kmin_explain_command.proofs.texts.plain_missed_text.Goals as goal
 
 pub missed_by_cause-requires-clause-there : goal.missed_by_cause-requires-clause-there

@@ -1,6 +1,4 @@
-use Rattle.std.proofs.Common.{ℕ, ◌<◌, List, length, All, sym, subst, ◌∙◌, ap, arith}
-use Rattle.std.specs.List.{range_with_len}
-use Rattle.std.proofs.lemmas.Result.{IfOk-weaker}
+use Rattle.kmin_explain_command.proofs.Common.{ℕ, ◌<◌, List, length, All, sym, subst, ◌∙◌, ap, arith, range_with_len, IfOk-weaker}
 use Rattle.kmin_explain.proofs.EachOnce.{range_below}
 use Rattle.kmin_explain_command.proofs.texts.symbols_for.Goals as goal
 

@@ -1,5 +1,4 @@
-use Rattle.std.proofs.Common.{refl, rules}
-use Rattle.kmin_report.proofs.Results.{if_ok_map}
+use Rattle.kmin_explain_command.proofs.Common.{refl, rules, if_ok_map}
 use Rattle.kmin_explain_command.proofs.TextEnds.{answer_from}
 use Rattle.kmin_explain_command.proofs.texts.text_of.Goals as goal
 

@@ -1,8 +1,5 @@
-use Rattle.std.proofs.Common.{ℕ, false, ◌<◌, List, All, length, subst, sym, ◌∙◌, ap}
+use Rattle.kmin_explain_command.proofs.Common.{ℕ, false, ◌<◌, List, All, length, subst, sym, ◌∙◌, ap, IfOk-weaker, tree_in, config_of, sources_model}
 use Rattle.std.specs.Prelude.{flat_map}
-use Rattle.std.proofs.lemmas.Result.{IfOk-weaker}
-use Rattle.kc_config.specs.ConfigStates.{tree_in}
-use Rattle.kmin_explain.specs.between.Sources.{config_of, sources_model}
 use Rattle.kmin_missed.specs.UnmetLines.{unmet_row_at}
 use Rattle.kmin_missed.proofs.MissedMarks.{unmet_below}
 use Rattle.kmin_explain_records.specs.SymbolRecords.{records_in}

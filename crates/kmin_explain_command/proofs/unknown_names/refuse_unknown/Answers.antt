@@ -1,9 +1,6 @@
-use Rattle.std.proofs.Common.{[], refl}
-use Rattle.std.specs.Borrow.{Bor}
+use Rattle.kmin_explain_command.proofs.Common.{[], refl, Bor, memory_err, no_success}
 use Rattle.kmin_report.specs.StandardError.{none}
-use Rattle.kmin_report.proofs.Results.{memory_err}
 use Rattle.kmin_report.proofs.WriterLemmas.{lines_one}
-use Rattle.kc_solver.proofs.ErrorExits.{no_success}
 use Rattle.kmin_explain_command.specs.between.UnknownNames.{unknown, for_memory}
 use Rattle.kmin_explain_command.proofs.TextEnds.{found_name, found_none}
 use Rattle.kmin_explain_command.proofs.unknown_names.refuse_unknown.Goals as goal

@@ -1,5 +1,4 @@
-use Rattle.std.proofs.Common.{ℕ, List, ◌++◌, ap, ◌∙◌}
-use Rattle.std.specs.Prelude.{codes}
+use Rattle.kmin_explain_records.proofs.Common.{ℕ, List, ◌++◌, ap, ◌∙◌, codes}
 use Rattle.kc_explanation.specs.Asked.{line_place}
 use Rattle.kmin_explain_records.proofs.asked_members.overridden_by.Goals as goal
 

@@ -1,12 +1,5 @@
-use Rattle.std.proofs.Common.{ℕ, List, [], ◌∷◌, ◌++◌, ap}
-use Rattle.std.specs.Prelude.{codes}
-use Rattle.json.specs.Tree.{json_tokens}
-use Rattle.kc_config.specs.ConfigStates.{tree_in}
-use Rattle.kc_explanation.specs.Asked.{asked_value}
-use Rattle.kmin_messages.proofs.WriterSteps.{wrote, and_then, and_last}
-use Rattle.kmin_explain.specs.between.Sources.{config_of}
-use Rattle.kmin_records.specs.JsonValues.{text_json, object_of, place_members}
-use Rattle.kmin_records.proofs.JsonLists.{last_write, as_last}
+use Rattle.kmin_explain_records.proofs.Common.{ℕ, List, [], ◌∷◌, ◌++◌, ap, codes, json_tokens, tree_in, asked_value, wrote, and_then, and_last, config_of,
+    text_json, object_of, place_members, last_write, as_last}
 use Rattle.kmin_explain_records.proofs.asked_members.write_asked.Goals as goal
 
 pub returns : goal.returns

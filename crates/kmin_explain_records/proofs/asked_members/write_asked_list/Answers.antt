@@ -1,8 +1,5 @@
-use Rattle.std.proofs.Common.{◌∙◌}
-use Rattle.kmin_messages.proofs.WriterSteps.{wrote, and_then, and_last}
-use Rattle.kmin_explain.specs.between.Sources.{sources_model}
+use Rattle.kmin_explain_records.proofs.Common.{◌∙◌, wrote, and_then, and_last, sources_model, last_write, as_last}
 use Rattle.kmin_explain_records.proofs.AskedTokens.{asked_array}
-use Rattle.kmin_records.proofs.JsonLists.{last_write, as_last}
 use Rattle.kmin_explain_records.proofs.asked_members.write_asked_list.Goals as goal
 
 pub returns : goal.returns

@@ -1,11 +1,4 @@
-use Rattle.std.proofs.Common.{ℕ, List, [], ◌∷◌, ◌++◌, ap, ◌∙◌}
-use Rattle.std.specs.Prelude.{codes}
-use Rattle.kc_tree_model.specs.Trees.{Tree}
-use Rattle.kc_evaluation.specs.checker.ValuationView.{valuation_tree}
-use Rattle.kc_explanation.specs.Asked.{asked_value}
-use Rattle.kmin_records.specs.JsonValues.{text_json}
-use Rattle.kmin_records.specs.between.RecordTokens.{list_tokens}
-use Rattle.kmin_records.proofs.JsonLists.{as_last}
+use Rattle.kmin_explain_records.proofs.Common.{ℕ, List, [], ◌∷◌, ◌++◌, ap, ◌∙◌, codes, Tree, valuation_tree, asked_value, text_json, list_tokens, as_last}
 use Rattle.kmin_explain_records.proofs.asked_members.write_asked_value.Goals as goal
 
 pub returns : goal.returns

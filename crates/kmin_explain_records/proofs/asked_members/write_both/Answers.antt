@@ -1,9 +1,4 @@
-use Rattle.std.proofs.Common.{ℕ, List, ap, ◌∙◌}
-use Rattle.json.specs.Tree.{json_tokens}
-use Rattle.kc_config_reasons.specs.between.FileLines.{line_view}
-use Rattle.kmin_explain.specs.between.Sources.{sources_model}
-use Rattle.kmin_records.proofs.JsonLists.{as_last}
-use Rattle.kmin_explain_records.specs.SymbolRecords.{asked_json}
+use Rattle.kmin_explain_records.proofs.Common.{ℕ, List, ap, ◌∙◌, json_tokens, line_view, sources_model, as_last, asked_json}
 use Rattle.kmin_explain_records.proofs.asked_members.write_both.Goals as goal
 
 pub returns : goal.returns

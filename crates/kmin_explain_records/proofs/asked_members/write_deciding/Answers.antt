@@ -1,10 +1,5 @@
-use Rattle.std.proofs.Common.{[], sym, ap}
-use Rattle.std.specs.Prelude.{flat_map, option_map}
-use Rattle.json.specs.Tree.{json_tokens}
+use Rattle.kmin_explain_records.proofs.Common.{[], sym, ap, flat_map, option_map, json_tokens, sources_model, as_tokens, as_last, nothing_more, deciding_json}
 use Rattle.kc_config_reasons.specs.between.Places.{place_view}
-use Rattle.kmin_explain.specs.between.Sources.{sources_model}
-use Rattle.kmin_records.proofs.JsonLists.{as_tokens, as_last, nothing_more}
-use Rattle.kmin_explain_records.specs.SymbolRecords.{deciding_json}
 use Rattle.kmin_explain_records.proofs.asked_members.write_deciding.Goals as goal
 
 pub returns-in-None : goal.returns-in-None

@@ -1,8 +1,4 @@
-use Rattle.kc_config_reasons.specs.declared.places.Overridden.{Overridden}
-use Rattle.kmin_explain.specs.between.Sources.{sources_model}
-use Rattle.kmin_explain.specs.checker.FileLineTexts.{line_in}
-use Rattle.kmin_explain_records.specs.checker.LineTokens.{overridden_place, overridden_tokens}
-use Rattle.kmin_records.proofs.JsonLists.{one_more_written, all_written}
+use Rattle.kmin_explain_records.proofs.Common.{Overridden, sources_model, line_in, overridden_place, overridden_tokens, one_more_written, all_written}
 use Rattle.kmin_explain_records.proofs.asked_members.write_each_overridden.Goals as goal
 
 pub loop-one-preserved : goal.loop-one-preserved

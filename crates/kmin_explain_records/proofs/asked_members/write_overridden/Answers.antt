@@ -1,9 +1,6 @@
-use Rattle.std.proofs.Common.{[], Some, None, sym, ◌∙◌, ap}
+use Rattle.kmin_explain_records.proofs.Common.{[], Some, None, sym, ◌∙◌, ap, sources_model, line_in, as_tokens, as_last, nothing_more, overridden_place,
+    overridden_tokens}
 use Rattle.std.specs.Option.{option_copied}
-use Rattle.kmin_explain.specs.between.Sources.{sources_model}
-use Rattle.kmin_explain.specs.checker.FileLineTexts.{line_in}
-use Rattle.kmin_records.proofs.JsonLists.{as_tokens, as_last, nothing_more}
-use Rattle.kmin_explain_records.specs.checker.LineTokens.{overridden_place, overridden_tokens}
 use Rattle.kmin_explain_records.proofs.asked_members.write_overridden.Goals as goal
 
 pub returns-in-Some-Some : goal.returns-in-Some-Some

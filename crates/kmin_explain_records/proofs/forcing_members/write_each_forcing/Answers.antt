@@ -1,11 +1,6 @@
-use Rattle.std.proofs.Common.{map}
-use Rattle.std.specs.Prelude.{ℕ, flat_map, slice_get}
-use Rattle.json.specs.Tree.{json_tokens}
-use Rattle.kc_tree.specs.between.Views.{reverse_dependency_view}
-use Rattle.kc_evaluation.specs.checker.ValuationView.{valuation_tree, valuation_exprs, valuation_values}
-use Rattle.kc_symbol_lines.specs.between.LinesView.{position_view}
-use Rattle.kmin_explain_records.specs.SymbolRecords.{forcing_json}
-use Rattle.kmin_records.proofs.JsonLists.{one_more_written, all_written}
+use Rattle.kmin_explain_records.proofs.Common.{map, flat_map, slice_get, json_tokens, reverse_dependency_view, valuation_tree, valuation_exprs, valuation_values,
+    position_view, forcing_json, one_more_written, all_written}
+use Rattle.std.specs.Prelude.{ℕ}
 use Rattle.kmin_explain_records.proofs.forcing_members.write_each_forcing.Goals as goal
 
 pub loop-number-preserved : goal.loop-number-preserved

@@ -1,14 +1,6 @@
-use Rattle.std.proofs.Common.{[], ◌∷◌}
-use Rattle.std.specs.Prelude.{codes, option_map}
-use Rattle.json.specs.Json.{string}
-use Rattle.kc_evaluation.specs.checker.ValuationView.{valuation_tree, valuation_values}
-use Rattle.kc_rules_model.specs.SymbolValues.{value_of_symbol}
-use Rattle.kc_reasons_model.specs.Reasons.{name_of_symbol, value_text}
-use Rattle.kc_symbol_lines.specs.between.LinesView.{position_view}
-use Rattle.kmin_messages.proofs.WriterSteps.{wrote, and_then, and_last}
-use Rattle.kmin_records.specs.JsonValues.{text_json}
-use Rattle.kmin_explain_records.specs.SymbolRecords.{place_if}
-use Rattle.kmin_records.proofs.JsonLists.{last_write, as_last, object_in_parts}
+use Rattle.kmin_explain_records.proofs.Common.{[], ◌∷◌, codes, option_map, string, valuation_tree, valuation_values, value_of_symbol, name_of_symbol, value_text,
+    position_view, wrote, and_then, and_last, text_json, place_if, last_write, as_last}
+use Rattle.kmin_records.proofs.JsonLists.{object_in_parts}
 use Rattle.kmin_explain_records.proofs.forcing_members.write_forcing.Goals as goal
 
 pub returns : goal.returns

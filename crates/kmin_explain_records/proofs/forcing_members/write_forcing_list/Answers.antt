@@ -1,11 +1,7 @@
-use Rattle.std.proofs.Common.{map}
-use Rattle.std.specs.Prelude.{ℕ, slice_get}
-use Rattle.kc_tree.specs.between.Views.{reverse_dependency_view}
-use Rattle.kc_evaluation.specs.checker.ValuationView.{valuation_tree, valuation_exprs, valuation_values}
-use Rattle.kc_symbol_lines.specs.between.LinesView.{position_view}
-use Rattle.kmin_messages.proofs.WriterSteps.{wrote, and_then, and_last}
-use Rattle.kmin_explain_records.specs.SymbolRecords.{forcing_json}
-use Rattle.kmin_records.proofs.JsonLists.{last_write, as_last, each_array}
+use Rattle.kmin_explain_records.proofs.Common.{map, slice_get, reverse_dependency_view, valuation_tree, valuation_exprs, valuation_values, position_view, wrote,
+    and_then, and_last, forcing_json, last_write, as_last}
+use Rattle.std.specs.Prelude.{ℕ}
+use Rattle.kmin_records.proofs.JsonLists.{each_array}
 use Rattle.kmin_explain_records.proofs.forcing_members.write_forcing_list.Goals as goal
 
 pub returns : goal.returns

@@ -1,14 +1,6 @@
-use Rattle.std.proofs.Common.{◌≡◌, ◌≤◌, [], Option, None, map, sym, subst, ap}
-use Rattle.std.specs.Prelude.{flat_map, slice_get}
-use Rattle.std.proofs.lemmas.List.{length-map}
+use Rattle.kmin_explain_records.proofs.Common.{◌≡◌, ◌≤◌, [], Option, None, map, sym, subst, ap, flat_map, slice_get, length-map, json_tokens, ReverseDependency,
+    reverse_dependency_view, valuation_tree, valuation_exprs, valuation_values, position_view, as_tokens, nothing_more, forcing_json}
 use Rattle.std.proofs.lemmas.Option.{slice_get_past}
-use Rattle.json.specs.Tree.{json_tokens}
-use Rattle.kc_tree_model.specs.Trees.{ReverseDependency}
-use Rattle.kc_tree.specs.between.Views.{reverse_dependency_view}
-use Rattle.kc_evaluation.specs.checker.ValuationView.{valuation_tree, valuation_exprs, valuation_values}
-use Rattle.kc_symbol_lines.specs.between.LinesView.{position_view}
-use Rattle.kmin_records.proofs.JsonLists.{as_tokens, nothing_more}
-use Rattle.kmin_explain_records.specs.SymbolRecords.{forcing_json}
 use Rattle.kmin_explain_records.proofs.forcing_members.write_numbered.Goals as goal
 
 pub returns-else-number-all : goal.returns-else-number-all

@@ -1,9 +1,4 @@
-use Rattle.std.proofs.Common.{[], sym, ap}
-use Rattle.std.specs.Prelude.{option_map}
-use Rattle.kc_symbol_lines.specs.between.LinesView.{position_view}
-use Rattle.kmin_records.specs.between.RecordTokens.{list_tokens}
-use Rattle.kmin_records.proofs.JsonLists.{as_tokens, nothing_more}
-use Rattle.kmin_explain_records.specs.SymbolRecords.{place_if}
+use Rattle.kmin_explain_records.proofs.Common.{[], sym, ap, option_map, position_view, list_tokens, as_tokens, nothing_more, place_if}
 use Rattle.kmin_explain_records.proofs.forcing_members.write_position_if.Goals as goal
 
 pub returns-in-None : goal.returns-in-None

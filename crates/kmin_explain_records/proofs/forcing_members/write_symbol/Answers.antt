@@ -1,13 +1,5 @@
-use Rattle.std.proofs.Common.{ℕ, List, [], ◌∷◌, ◌++◌, ap, ◌∙◌}
-use Rattle.std.specs.Prelude.{codes}
-use Rattle.json.specs.Json.{string}
-use Rattle.kc_evaluation.specs.checker.ValuationView.{valuation_tree, valuation_values}
-use Rattle.kc_rules_model.specs.SymbolValues.{value_of_symbol}
-use Rattle.kc_reasons_model.specs.Reasons.{name_of_symbol, value_text}
-use Rattle.kmin_messages.proofs.WriterSteps.{and_last}
-use Rattle.kmin_records.specs.JsonValues.{text_json}
-use Rattle.kmin_records.specs.between.RecordTokens.{list_tokens}
-use Rattle.kmin_records.proofs.JsonLists.{as_last}
+use Rattle.kmin_explain_records.proofs.Common.{ℕ, List, [], ◌∷◌, ◌++◌, ap, ◌∙◌, codes, string, valuation_tree, valuation_values, value_of_symbol, name_of_symbol,
+    value_text, and_last, text_json, list_tokens, as_last}
 use Rattle.kmin_explain_records.proofs.forcing_members.write_symbol.Goals as goal
 
 pub returns : goal.returns

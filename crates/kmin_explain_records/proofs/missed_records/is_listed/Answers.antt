@@ -1,7 +1,4 @@
-use Rattle.std.proofs.Common.{◌||◌, sym, ◌∙◌, ap}
-use Rattle.std.proofs.lemmas.Result.{IfOk-weaker}
-use Rattle.kmin_explain.specs.between.Sources.{sources_model}
-use Rattle.kmin_explain_records.specs.ListedMissed.{is_overridden}
+use Rattle.kmin_explain_records.proofs.Common.{◌||◌, sym, ◌∙◌, ap, IfOk-weaker, sources_model, is_overridden}
 use Rattle.kmin_explain_records.proofs.missed_records.is_listed.Goals as goal
 
 pub returns-then-is_missed : goal.returns-then-is_missed

@@ -1,11 +1,6 @@
-use Rattle.std.proofs.Common.{length, nat_lt, ◌∙◌, ap}
-use Rattle.std.proofs.lemmas.List.{length-map}
-use Rattle.kc_tree.specs.TreeModel.{TreeModel}
-use Rattle.kc_tree_model.specs.TreeLookup.{unit_of}
-use Rattle.kc_rules.specs.between.SettledViews.{tree_model_of}
-use Rattle.kc_reasons_model.specs.OverriddenLines.{places_of, overridden}
-use Rattle.kc_config_reasons.specs.between.Places.{file_numbers}
-use Rattle.kmin_explain.specs.between.Sources.{sources_model}
+use Rattle.std.proofs.Common.{nat_lt}
+use Rattle.kmin_explain_records.proofs.Common.{length, ◌∙◌, ap, length-map, TreeModel, unit_of, tree_model_of, places_of, overridden, file_numbers,
+    sources_model}
 use Rattle.kmin_explain_records.proofs.missed_records.is_overridden.Goals as goal
 
 pub returns : goal.returns

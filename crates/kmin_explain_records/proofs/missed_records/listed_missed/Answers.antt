@@ -1,12 +1,9 @@
-use Rattle.std.proofs.Common.{◌≡◌, ◌==◌, ℕ, ◌<◌, ◌||◌, List, All, length, sym, subst, ◌∙◌, ap, arith}
-use Rattle.std.specs.List.{filter, list_any, range_with_len}
-use Rattle.kc_tree.specs.TreeModel.{TreeModel}
-use Rattle.kc_rules.specs.between.SettledViews.{tree_model_of}
-use Rattle.kc_config.specs.ConfigStates.{tree_in}
+use Rattle.std.proofs.Common.{◌==◌}
+use Rattle.std.specs.List.{list_any}
+use Rattle.kmin_explain_records.proofs.Common.{◌≡◌, ℕ, ◌<◌, ◌||◌, List, All, length, sym, subst, ◌∙◌, ap, arith, filter, range_with_len, TreeModel,
+    tree_model_of, tree_in, config_of, sources_model, is_listed, is_overridden}
 use Rattle.kc_dotconfig_model.specs.MissedAssignments.{missed}
-use Rattle.kmin_explain.specs.between.Sources.{config_of, sources_model}
 use Rattle.kmin_missed.proofs.MissedMarks.{missed_below}
-use Rattle.kmin_explain_records.specs.ListedMissed.{is_listed, is_overridden}
 use Rattle.kmin_explain_records.proofs.ListedSymbols.{one_more_listed}
 use Rattle.kmin_explain_records.proofs.missed_records.listed_missed.Goals as goal
 

@@ -1,10 +1,5 @@
-use Rattle.std.proofs.Common.{◌≡◌, ◌<◌, List, All, length}
-use Rattle.std.specs.List.{filter, range_with_len}
-use Rattle.kc_tree_model.specs.Blocks.{Group}
-use Rattle.kc_dotconfig_model.specs.ConfigLines.{LineMeaning}
-use Rattle.kc_config.specs.ConfigStates.{tree_in}
-use Rattle.kmin_explain.specs.between.Sources.{AreSourcesOf, config_of, sources_model}
-use Rattle.kmin_explain_records.specs.ListedMissed.{is_listed}
+use Rattle.kmin_explain_records.proofs.Common.{◌≡◌, ◌<◌, List, All, length, filter, range_with_len, Group, LineMeaning, tree_in, AreSourcesOf, config_of,
+    sources_model, is_listed}
 use Rattle.kmin_explain_records.proofs.missed_records.listed_missed.Given as goal
 
 abbrev pub invariant-loop-s : goal.invariant-loop-s

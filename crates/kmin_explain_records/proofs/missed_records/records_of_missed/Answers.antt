@@ -1,7 +1,4 @@
-use Rattle.std.proofs.Common.{false, ◌∙◌, ap}
-use Rattle.std.proofs.lemmas.Result.{IfOk-weaker}
-use Rattle.kmin_explain.specs.between.Sources.{sources_model}
-use Rattle.kmin_explain_records.specs.SymbolRecords.{records_in}
+use Rattle.kmin_explain_records.proofs.Common.{false, ◌∙◌, ap, IfOk-weaker, sources_model, records_in}
 use Rattle.kmin_explain_records.proofs.missed_records.records_of_missed.Goals as goal
 
 pub returns : goal.returns

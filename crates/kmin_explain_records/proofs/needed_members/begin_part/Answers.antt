@@ -1,14 +1,6 @@
-use Rattle.std.proofs.Common.{ℕ, List, [], ◌∷◌, ◌++◌, ap, ◌∙◌}
-use Rattle.std.specs.Prelude.{codes}
+use Rattle.kmin_explain_records.proofs.Common.{ℕ, List, [], ◌∷◌, ◌++◌, ap, ◌∙◌, codes, node_expr, valuation_tree, valuation_exprs, valuation_values, environment,
+    spelled_with_values, wrote, and_last, text_json, list_tokens, as_last}
 use Rattle.json.specs.Token.{begin_object}
-use Rattle.kc_expr.specs.between.Arena.{node_expr}
-use Rattle.kc_evaluation.specs.checker.ValuationView.{valuation_tree, valuation_exprs, valuation_values}
-use Rattle.kc_rules_model.specs.SymbolValues.{environment}
-use Rattle.kc_explanation.specs.Explained.{spelled_with_values}
-use Rattle.kmin_messages.proofs.WriterSteps.{wrote, and_last}
-use Rattle.kmin_records.specs.JsonValues.{text_json}
-use Rattle.kmin_records.specs.between.RecordTokens.{list_tokens}
-use Rattle.kmin_records.proofs.JsonLists.{as_last}
 use Rattle.kmin_explain_records.proofs.needed_members.begin_part.Goals as goal
 
 pub returns : goal.returns

@@ -1,11 +1,5 @@
-use Rattle.std.specs.Global.{Vec}
-use Rattle.kc_evaluation.specs.checker.ValuationView.{valuation_tree, valuation_exprs, valuation_values}
-use Rattle.kc_rules_model.specs.SymbolValues.{environment}
-use Rattle.kc_located_reasons.specs.declared.located_parts.LocatedPart.{LocatedPart}
-use Rattle.kc_located_reasons.specs.between.PartsView.{located_parts_view}
-use Rattle.kmin_messages.proofs.WriterSteps.{wrote, and_then, and_last}
-use Rattle.kmin_explain_records.specs.SymbolRecords.{parts_json}
-use Rattle.kmin_records.proofs.JsonLists.{last_write, as_last, viewed_array}
+use Rattle.kmin_explain_records.proofs.Common.{Vec, valuation_tree, valuation_exprs, valuation_values, environment, LocatedPart, located_parts_view, wrote,
+    and_then, and_last, parts_json, last_write, as_last, viewed_array}
 use Rattle.kmin_explain_records.proofs.needed_members.write_alternatives.Goals as goal
 
 pub returns : goal.returns

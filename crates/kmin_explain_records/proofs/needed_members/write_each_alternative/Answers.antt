@@ -1,12 +1,5 @@
-use Rattle.std.proofs.Common.{List, ap, ◌∙◌}
-use Rattle.std.specs.Global.{Vec}
-use Rattle.json.specs.Tree.{json_tokens}
-use Rattle.kc_evaluation.specs.checker.ValuationView.{valuation_tree, valuation_exprs, valuation_values}
-use Rattle.kc_rules_model.specs.SymbolValues.{environment}
-use Rattle.kc_located_reasons.specs.declared.located_parts.LocatedPart.{LocatedPart}
-use Rattle.kc_located_reasons.specs.between.PartsView.{located_parts_view}
-use Rattle.kmin_explain_records.specs.SymbolRecords.{parts_json}
-use Rattle.kmin_records.proofs.JsonLists.{as_tokens, one_more_written, all_written}
+use Rattle.kmin_explain_records.proofs.Common.{List, ap, ◌∙◌, Vec, json_tokens, valuation_tree, valuation_exprs, valuation_values, environment, LocatedPart,
+    located_parts_view, parts_json, as_tokens, one_more_written, all_written}
 use Rattle.kmin_explain_records.proofs.needed_members.write_each_alternative.Goals as goal
 
 pub loop-list-preserved : goal.loop-list-preserved

@@ -1,13 +1,5 @@
-use Rattle.std.proofs.Common.{take}
-use Rattle.std.specs.Prelude.{flat_map}
-use Rattle.std.specs.Global.{Vec}
-use Rattle.json.specs.Tree.{json_tokens}
-use Rattle.kc_evaluation.specs.checker.ValuationView.{valuation_tree, valuation_exprs, valuation_values}
-use Rattle.kc_rules_model.specs.SymbolValues.{environment}
-use Rattle.kc_located_reasons.specs.declared.located_parts.LocatedPart.{LocatedPart}
-use Rattle.kc_located_reasons.specs.between.PartsView.{located_parts_view}
-use Rattle.kmin_messages.specs.between.MessageViews.{AppendsTokens}
-use Rattle.kmin_explain_records.specs.SymbolRecords.{parts_json}
+use Rattle.kmin_explain_records.proofs.Common.{take, flat_map, Vec, json_tokens, valuation_tree, valuation_exprs, valuation_values, environment, LocatedPart,
+    located_parts_view, AppendsTokens, parts_json}
 use Rattle.kmin_explain_records.proofs.needed_members.write_each_alternative.Given as goal
 
 abbrev pub invariant-loop-list : goal.invariant-loop-list

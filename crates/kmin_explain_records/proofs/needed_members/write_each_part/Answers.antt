@@ -1,11 +1,5 @@
-use Rattle.std.proofs.Common.{ap}
-use Rattle.json.specs.Tree.{json_tokens}
-use Rattle.kc_evaluation.specs.checker.ValuationView.{valuation_tree, valuation_exprs, valuation_values}
-use Rattle.kc_rules_model.specs.SymbolValues.{environment}
-use Rattle.kc_located_reasons.specs.declared.located_parts.LocatedPart.{LocatedPart}
-use Rattle.kc_located_reasons.specs.between.PartsView.{located_part_view}
-use Rattle.kmin_explain_records.specs.SymbolRecords.{part_json}
-use Rattle.kmin_records.proofs.JsonLists.{as_tokens, one_more_written, all_written}
+use Rattle.kmin_explain_records.proofs.Common.{ap, json_tokens, valuation_tree, valuation_exprs, valuation_values, environment, LocatedPart, located_part_view,
+    part_json, as_tokens, one_more_written, all_written}
 use Rattle.kmin_explain_records.proofs.needed_members.write_each_part.Goals as goal
 
 pub loop-part-preserved : goal.loop-part-preserved

@@ -1,17 +1,7 @@
-use Rattle.std.proofs.Common.{ℕ, List, ◌∷◌, ap, ◌∙◌}
-use Rattle.std.specs.Prelude.{codes}
-use Rattle.json.specs.Json.{string}
-use Rattle.json.specs.Tree.{json_tokens}
+use Rattle.kmin_explain_records.proofs.Common.{ℕ, List, ◌∷◌, ap, ◌∙◌, codes, string, json_tokens, node_expr, valuation_tree, valuation_exprs, valuation_values,
+    environment, position_view, spelled_with_values, and_then, and_last, text_json, object_of, last_write, as_last, position_members}
 use Rattle.kc_expr.specs.Expr.{letter}
-use Rattle.kc_expr.specs.between.Arena.{node_expr}
-use Rattle.kc_evaluation.specs.checker.ValuationView.{valuation_tree, valuation_exprs, valuation_values}
-use Rattle.kc_rules_model.specs.SymbolValues.{environment, condition}
-use Rattle.kc_symbol_lines.specs.between.LinesView.{position_view}
-use Rattle.kc_explanation.specs.Explained.{spelled_with_values}
-use Rattle.kmin_messages.proofs.WriterSteps.{and_then, and_last}
-use Rattle.kmin_records.specs.JsonValues.{text_json, object_of}
-use Rattle.kmin_records.proofs.JsonLists.{last_write, as_last}
-use Rattle.kmin_explain_records.specs.SymbolRecords.{position_members}
+use Rattle.kc_rules_model.specs.SymbolValues.{condition}
 use Rattle.kmin_explain_records.proofs.needed_members.write_part.Goals as goal
 
 pub returns : goal.returns

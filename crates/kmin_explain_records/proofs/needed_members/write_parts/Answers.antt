@@ -1,9 +1,5 @@
-use Rattle.kc_evaluation.specs.checker.ValuationView.{valuation_tree, valuation_exprs, valuation_values}
-use Rattle.kc_rules_model.specs.SymbolValues.{environment}
-use Rattle.kc_located_reasons.specs.between.PartsView.{located_part_view}
-use Rattle.kmin_messages.proofs.WriterSteps.{wrote, and_then, and_last}
-use Rattle.kmin_explain_records.specs.SymbolRecords.{part_json}
-use Rattle.kmin_records.proofs.JsonLists.{last_write, as_last, viewed_array}
+use Rattle.kmin_explain_records.proofs.Common.{valuation_tree, valuation_exprs, valuation_values, environment, located_part_view, wrote, and_then, and_last,
+    part_json, last_write, as_last, viewed_array}
 use Rattle.kmin_explain_records.proofs.needed_members.write_parts.Goals as goal
 
 pub returns : goal.returns

@@ -1,8 +1,5 @@
-use Rattle.std.proofs.Common.{ℕ, List, [], ap, ◌∙◌}
+use Rattle.kmin_explain_records.proofs.Common.{ℕ, List, [], ap, ◌∙◌, place_members, list_tokens, as_last}
 use Rattle.std.specs.Prelude.{slice_index_or}
-use Rattle.kmin_records.specs.JsonValues.{place_members}
-use Rattle.kmin_records.specs.between.RecordTokens.{list_tokens}
-use Rattle.kmin_records.proofs.JsonLists.{as_last}
 use Rattle.kmin_explain_records.proofs.needed_members.write_position.Goals as goal
 
 pub returns : goal.returns

@@ -1,5 +1,4 @@
-use Rattle.kmin_messages.proofs.WriterSteps.{wrote, and_last}
-use Rattle.kmin_records.proofs.JsonLists.{as_end}
+use Rattle.kmin_explain_records.proofs.Common.{wrote, and_last, as_end}
 use Rattle.kmin_explain_records.proofs.record_members.write_asked_members.Goals as goal
 
 pub returns : goal.returns

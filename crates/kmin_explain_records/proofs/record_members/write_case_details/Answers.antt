@@ -1,10 +1,5 @@
-use Rattle.std.proofs.Common.{ℕ, List, Option, ap}
-use Rattle.std.specs.Prelude.{codes}
-use Rattle.json.specs.Json.{string}
-use Rattle.kmin_messages.proofs.WriterSteps.{wrote, and_last}
-use Rattle.kmin_records.specs.JsonValues.{or_null}
+use Rattle.kmin_explain_records.proofs.Common.{ℕ, List, Option, ap, codes, string, wrote, and_last, or_null, as_tokens, as_end}
 use Rattle.kmin_records.specs.between.RecordTokens.{member_tokens}
-use Rattle.kmin_records.proofs.JsonLists.{as_tokens, as_end}
 use Rattle.kmin_explain_records.proofs.record_members.write_case_details.Goals as goal
 
 pub returns : goal.returns

@@ -1,13 +1,6 @@
-use Rattle.std.proofs.Common.{ℕ, List, map, ap, ◌∙◌}
-use Rattle.json.specs.Tree.{json_tokens}
-use Rattle.kc_tree.specs.between.Views.{symbol_view}
-use Rattle.kc_evaluation.specs.checker.ValuationView.{valuation_tree, valuation_exprs, valuation_values}
+use Rattle.kmin_explain_records.proofs.Common.{ℕ, List, map, ap, ◌∙◌, json_tokens, symbol_view, valuation_tree, valuation_exprs, valuation_values, position_view,
+    symbol_lines_view, wrote, and_last, array_of, as_tokens, as_last, as_end, forcing_list}
 use Rattle.kc_symbol_lines.specs.declared.located.Position.{Position}
-use Rattle.kc_symbol_lines.specs.between.LinesView.{position_view, symbol_lines_view}
-use Rattle.kmin_messages.proofs.WriterSteps.{wrote, and_last}
-use Rattle.kmin_records.specs.JsonValues.{array_of}
-use Rattle.kmin_records.proofs.JsonLists.{as_tokens, as_last, as_end}
-use Rattle.kmin_explain_records.specs.SymbolRecords.{forcing_list}
 use Rattle.kmin_explain_records.proofs.record_members.write_forcing_members.Goals as goal
 
 pub returns : goal.returns

@@ -1,8 +1,5 @@
-use Rattle.std.proofs.Common.{ℕ, List, [], ◌∷◌, ap}
-use Rattle.std.specs.Prelude.{codes}
+use Rattle.kmin_explain_records.proofs.Common.{ℕ, List, [], ◌∷◌, ap, codes, and_last, as_tokens}
 use Rattle.json.specs.Token.{key, string}
-use Rattle.kmin_messages.proofs.WriterSteps.{and_last}
-use Rattle.kmin_records.proofs.JsonLists.{as_tokens}
 use Rattle.kmin_explain_records.proofs.record_members.write_given.Goals as goal
 
 pub returns : goal.returns

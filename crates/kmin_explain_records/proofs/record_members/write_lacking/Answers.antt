@@ -1,15 +1,6 @@
-use Rattle.std.proofs.Common.{Bool, List, ap, ◌∙◌}
-use Rattle.std.specs.Global.{Vec}
-use Rattle.json.specs.Tree.{json_tokens}
-use Rattle.kc_tree.specs.between.Views.{symbol_view}
-use Rattle.kc_evaluation.specs.checker.ValuationView.{valuation_tree, valuation_exprs, valuation_values}
-use Rattle.kc_rules_model.specs.SymbolValues.{environment}
-use Rattle.kc_located_reasons.specs.declared.located_parts.LocatedPart.{LocatedPart}
+use Rattle.kmin_explain_records.proofs.Common.{Bool, List, ap, ◌∙◌, Vec, json_tokens, symbol_view, valuation_tree, valuation_exprs, valuation_values,
+    environment, LocatedPart, is_without_prompt, wrote, and_last, as_tokens, as_last, as_end, needs_json, alternatives_json}
 use Rattle.kc_located_reasons.specs.between.PartsView.{located_alternatives_view}
-use Rattle.kc_explanation.specs.Explained.{is_without_prompt}
-use Rattle.kmin_messages.proofs.WriterSteps.{wrote, and_last}
-use Rattle.kmin_records.proofs.JsonLists.{as_tokens, as_last, as_end}
-use Rattle.kmin_explain_records.specs.SymbolRecords.{needs_json, alternatives_json}
 use Rattle.kmin_explain_records.proofs.record_members.write_lacking.Goals as goal
 
 pub returns : goal.returns

@@ -1,7 +1,4 @@
-use Rattle.kc_symbol_lines.specs.between.LinesView.{position_view}
-use Rattle.kmin_messages.proofs.WriterSteps.{wrote, and_then, and_last}
-use Rattle.kmin_records.proofs.JsonLists.{last_write, as_last, object_is}
-use Rattle.kmin_explain_records.specs.SymbolRecords.{position_members}
+use Rattle.kmin_explain_records.proofs.Common.{position_view, wrote, and_then, and_last, last_write, as_last, object_is, position_members}
 use Rattle.kmin_explain_records.proofs.record_members.write_position_object.Goals as goal
 
 pub returns : goal.returns

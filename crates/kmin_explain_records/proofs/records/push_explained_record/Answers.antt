@@ -1,10 +1,7 @@
-use Rattle.std.proofs.Common.{sym, ◌∙◌, ap}
-use Rattle.kc_rules.specs.between.SettledViews.{tree_model_of}
-use Rattle.kc_symbol_lines.specs.between.LinesView.{symbol_lines_view}
+use Rattle.kmin_explain_records.proofs.Common.{sym, ◌∙◌, ap, tree_model_of, symbol_lines_view, sources_model}
 use Rattle.kmin_explain.specs.Explanations.{listed_reasons, reasons_of}
 use Rattle.kmin_records.proofs.RecordSteps.{line_appended}
 use Rattle.kmin_explain_records.specs.SymbolRecords.{explained_as_json_by}
-use Rattle.kmin_explain.specs.between.Sources.{sources_model}
 use Rattle.kmin_explain.proofs.SymbolTexts.{symbol_there}
 use Rattle.kmin_explain_records.proofs.RecordTexts.{record_is}
 use Rattle.kmin_explain_records.proofs.records.push_explained_record.Goals as goal

@@ -1,18 +1,6 @@
-use Rattle.std.proofs.Common.{ℕ, List, ◌∙◌, ap}
+use Rattle.kmin_explain_records.proofs.Common.{ℕ, List, ◌∙◌, ap, unit_of, symbol_view, tree_model_of, valuation_tree, valuation_exprs, valuation_values,
+    wanted_by, reasons_view, symbol_lines_view, places_view, Json, json_tokens, object_of, sources_model, object_is}
 use Rattle.kc_solver.specs.Solutions.{user_of}
-use Rattle.kc_tree_model.specs.TreeLookup.{unit_of}
-use Rattle.kc_tree.specs.between.Views.{symbol_view}
-use Rattle.kc_rules.specs.between.SettledViews.{tree_model_of}
-use Rattle.kc_evaluation.specs.checker.ValuationView.{valuation_tree, valuation_exprs, valuation_values}
-use Rattle.kc_reasons_model.specs.PlainReasons.{wanted_by}
-use Rattle.kc_reasons.specs.between.ReasonsView.{reasons_view}
-use Rattle.kc_symbol_lines.specs.between.LinesView.{symbol_lines_view}
-use Rattle.kc_explanation.specs.between.ReasonPlacesView.{places_view}
-use Rattle.json.specs.Json.{Json}
-use Rattle.json.specs.Tree.{json_tokens}
-use Rattle.kmin_records.specs.JsonValues.{object_of}
-use Rattle.kmin_explain.specs.between.Sources.{sources_model}
-use Rattle.kmin_records.proofs.JsonLists.{object_is}
 use Rattle.kmin_records.proofs.RecordSteps.{recorded}
 use Rattle.kmin_explain.proofs.ReasonTexts.{same_at}
 use Rattle.kmin_explain_records.proofs.RecordTexts.{members_over, members_are}

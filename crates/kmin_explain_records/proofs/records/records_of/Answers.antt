@@ -1,7 +1,5 @@
-use Rattle.std.proofs.Common.{◌++◌, ◌∙◌, ap}
-use Rattle.kmin_explain.specs.between.Sources.{sources_model}
+use Rattle.kmin_explain_records.proofs.Common.{◌++◌, ◌∙◌, ap, sources_model, explained_as_json_at}
 use Rattle.kmin_explain.proofs.SymbolTexts.{one_more_text, no_more_text}
-use Rattle.kmin_explain_records.specs.SymbolRecords.{explained_as_json_at}
 use Rattle.kmin_explain_records.proofs.records.records_of.Goals as goal
 
 pub loop-s-preserved : goal.loop-s-preserved

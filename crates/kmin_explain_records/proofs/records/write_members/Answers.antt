@@ -1,11 +1,5 @@
-use Rattle.std.specs.Prelude.{option_map}
-use Rattle.kc_tree.specs.between.Views.{symbol_view}
-use Rattle.kc_evaluation.specs.checker.ValuationView.{valuation_tree, valuation_exprs, valuation_values}
-use Rattle.kc_reasons.specs.between.ReasonsView.{reasons_view}
-use Rattle.kc_symbol_lines.specs.between.LinesView.{position_view, symbol_lines_view}
-use Rattle.kc_explanation.specs.between.ReasonPlacesView.{places_view}
-use Rattle.kmin_explain.specs.between.Sources.{sources_model}
-use Rattle.kmin_explain_records.specs.SymbolRecords.{given_members, asked_members, lacking_members, forcing_members}
+use Rattle.kmin_explain_records.proofs.Common.{option_map, symbol_view, valuation_tree, valuation_exprs, valuation_values, reasons_view, position_view,
+    symbol_lines_view, places_view, sources_model, given_members, asked_members, lacking_members, forcing_members}
 use Rattle.kmin_explain_records.proofs.JoinedMembers.{four_parts}
 use Rattle.kmin_explain_records.proofs.records.write_members.Goals as goal
 

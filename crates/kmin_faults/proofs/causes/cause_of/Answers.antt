@@ -1,5 +1,4 @@
-use Rattle.std.proofs.Common.{sym, ◌∙◌}
-use Rattle.std.proofs.lemmas.Result.{IfOk-weaker}
+use Rattle.kmin_faults.proofs.Common.{sym, ◌∙◌, IfOk-weaker}
 use Rattle.kmin_faults.proofs.StoredCauses.{symbol_unit, choice_unit}
 use Rattle.kmin_faults.proofs.causes.cause_of.Goals as goal
 

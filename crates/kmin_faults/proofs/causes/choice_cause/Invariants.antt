@@ -1,7 +1,5 @@
-use Rattle.std.proofs.Common.{◌≡◌, drop}
-use Rattle.std.specs.Prelude.{find}
+use Rattle.kmin_faults.proofs.Common.{◌≡◌, drop, find, choice_depends}
 use Rattle.kc_tree.specs.between.Views.{choice_view}
-use Rattle.kmin_faults.specs.Causes.{choice_depends}
 use Rattle.kmin_faults.proofs.causes.choice_cause.Given as goal
 
 abbrev pub invariant-loop-cause : goal.invariant-loop-cause

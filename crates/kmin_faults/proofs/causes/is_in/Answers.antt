@@ -1,8 +1,4 @@
-use Rattle.std.proofs.Common.{[], ap, ◌∙◌}
-use Rattle.std.specs.Prelude.{slice_index_or}
-use Rattle.std.specs.List.{list_any}
-use Rattle.kc_expr.specs.between.Arena.{node_expr}
-use Rattle.kmin_faults.specs.Causes.{is_of_unit}
+use Rattle.kmin_faults.proofs.Common.{[], ap, ◌∙◌, slice_index_or, list_any, node_expr, is_of_unit}
 use Rattle.kmin_faults.proofs.ReverseNames.{numbers_pass}
 use Rattle.kmin_faults.proofs.causes.is_in.Goals as goal
 

@@ -1,5 +1,4 @@
-use Rattle.std.proofs.Common.{sym, ◌∙◌}
-use Rattle.std.proofs.lemmas.Result.{IfOk-weaker}
+use Rattle.kmin_faults.proofs.Common.{sym, ◌∙◌, IfOk-weaker}
 use Rattle.kmin_faults.proofs.StoredCauses.{prompts_shown}
 use Rattle.kmin_faults.proofs.causes.is_in_prompts.Goals as goal
 

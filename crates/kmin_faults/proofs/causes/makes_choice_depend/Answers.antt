@@ -1,10 +1,5 @@
-use Rattle.std.proofs.Common.{sym, ◌∙◌}
-use Rattle.std.proofs.lemmas.Result.{IfOk-weaker}
-use Rattle.kc_dependencies.proofs.Pushes.{any_map}
-use Rattle.kc_tree_model.specs.Trees.{MemberDefault}
-use Rattle.kc_tree.specs.between.Views.{default_view, member_default_view, range_view, reverse_dependency_view}
-use Rattle.kc_expr.specs.between.Arena.{node_expr}
-use Rattle.kmin_faults.specs.Causes.{default_names_unit, names_unit, range_names_unit, reverse_names_unit}
+use Rattle.kmin_faults.proofs.Common.{sym, ◌∙◌, IfOk-weaker, any_map, MemberDefault, default_view, member_default_view, range_view, reverse_dependency_view,
+    node_expr, default_names_unit, names_unit, range_names_unit, reverse_names_unit}
 use Rattle.kmin_faults.proofs.causes.makes_choice_depend.Goals as goal
 
 pub returns-in-Default : goal.returns-in-Default

@@ -1,7 +1,4 @@
-use Rattle.std.proofs.Common.{◌≡◌, drop}
-use Rattle.std.specs.Prelude.{find}
-use Rattle.kc_tree.specs.between.Views.{symbol_view}
-use Rattle.kmin_faults.specs.Causes.{symbol_depends}
+use Rattle.kmin_faults.proofs.Common.{◌≡◌, drop, find, symbol_view, symbol_depends}
 use Rattle.kmin_faults.proofs.causes.symbol_cause.Given as goal
 
 abbrev pub invariant-loop-cause : goal.invariant-loop-cause

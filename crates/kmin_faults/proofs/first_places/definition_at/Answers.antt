@@ -1,7 +1,5 @@
-use Rattle.std.proofs.Common.{◌&&◌, ◌∙◌, ap, sym}
-use Rattle.std.specs.Prelude.{nat_le}
+use Rattle.kmin_faults.proofs.Common.{◌&&◌, ◌∙◌, ap, sym, nat_le, begins_before, defined_by}
 use Rattle.kc_parser.specs.declared.listing.Group.{Group}
-use Rattle.kmin_faults.specs.between.StoredDefinitions.{begins_before, defined_by}
 use Rattle.kmin_faults.proofs.NearestDefinitions.{after_all, nearer_next, further_next}
 use Rattle.kmin_faults.proofs.first_places.definition_at.Goals as goal
 use Rattle.kmin_faults.proofs.first_places.definition_at.Goals.{then-is_nearer, else-is_nearer}

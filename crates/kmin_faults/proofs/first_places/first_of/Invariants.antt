@@ -1,6 +1,4 @@
-use Rattle.std.proofs.Common.{◌≡◌, drop}
-use Rattle.std.specs.Prelude.{find}
-use Rattle.kmin_faults.specs.between.StoredDefinitions.{defines}
+use Rattle.kmin_faults.proofs.Common.{◌≡◌, drop, find, defines}
 use Rattle.kmin_faults.proofs.first_places.first_of.Given as goal
 
 abbrev pub invariant-loop-group : goal.invariant-loop-group

@@ -1,6 +1,4 @@
-use Rattle.std.proofs.Common.{◌≡◌, ◌&&◌, ◌<◌, ◌∙◌, arith, length, sym}
-use Rattle.kc_checks.specs.between.Summaries.{group_at}
-use Rattle.kmin_faults.specs.between.StoredDefinitions.{defines, is_typed}
+use Rattle.kmin_faults.proofs.Common.{◌≡◌, ◌&&◌, ◌<◌, ◌∙◌, arith, length, sym, group_at, defines, is_typed}
 use Rattle.kmin_faults.proofs.FoundPlaces.{find_next}
 use Rattle.kmin_faults.proofs.first_places.first_typed.Goals as goal
 

@@ -1,8 +1,4 @@
-use Rattle.std.proofs.Common.{◌≡◌, ◌-◌, ◌&&◌, length}
-use Rattle.std.specs.Prelude.{find}
-use Rattle.std.specs.List.{range_with_len}
-use Rattle.kc_checks.specs.between.Summaries.{group_at}
-use Rattle.kmin_faults.specs.between.StoredDefinitions.{defines, is_typed}
+use Rattle.kmin_faults.proofs.Common.{◌≡◌, ◌-◌, ◌&&◌, length, find, range_with_len, group_at, defines, is_typed}
 use Rattle.kmin_faults.proofs.first_places.first_typed.Given as goal
 
 abbrev pub invariant-loop-number : goal.invariant-loop-number

@@ -1,7 +1,4 @@
-use Rattle.std.proofs.Common.{◌∙◌, ap}
-use Rattle.std.specs.Prelude.{option_map}
-use Rattle.kc_tree_model.specs.TreeReading.{reading}
-use Rattle.kmin_faults.specs.between.StoredDefinitions.{position_of}
+use Rattle.kmin_faults.proofs.Common.{◌∙◌, ap, option_map, reading, position_of}
 use Rattle.kmin_faults.proofs.FirstPlaces.{other_definition_is}
 use Rattle.kmin_faults.proofs.first_places.other_definition.Goals as goal
 

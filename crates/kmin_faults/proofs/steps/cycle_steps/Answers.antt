@@ -1,5 +1,4 @@
-use Rattle.std.proofs.Common.{ℕ, List, length, map, string_bytes}
-use Rattle.kmin_faults.specs.Cycles.{step_at}
+use Rattle.kmin_faults.proofs.Common.{ℕ, List, length, map, string_bytes, step_at}
 use Rattle.kmin_faults.proofs.Circles.{begun, step_more, step_lacks, ended}
 use Rattle.kmin_faults.proofs.steps.cycle_steps.Goals as goal
 

@@ -1,6 +1,5 @@
-use Rattle.std.proofs.Common.{◌≡◌, ◌-◌, length, map, string_bytes}
-use Rattle.kmin_faults.specs.Cycles.{cycle_steps, step_at}
-use Rattle.kmin_faults.specs.between.Steps.{step_of}
+use Rattle.kmin_faults.proofs.Common.{◌≡◌, ◌-◌, length, map, string_bytes, step_at, step_of}
+use Rattle.kmin_faults.specs.Cycles.{cycle_steps}
 use Rattle.kmin_faults.proofs.Circles.{after}
 use Rattle.kmin_faults.proofs.steps.cycle_steps.Given as goal
 

@@ -1,10 +1,6 @@
-use Rattle.std.proofs.Common.{◌∷◌, [], ℕ, List, get_or, refl, ap, ◌∙◌, subst, arith, rules}
-use Rattle.std.specs.Borrow.{Bor}
-use Rattle.std.proofs.lemmas.List.{take_all}
-use Rattle.kmin_inputs.specs.FileContents.{Surroundings, VariableContent}
-use Rattle.kmin_inputs.specs.between.AnswerSteps.{AreLent}
+use Rattle.kmin_inputs.proofs.Common.{◌∷◌, [], ℕ, List, get_or, refl, ap, ◌∙◌, subst, arith, rules, Bor, take_all, Surroundings, VariableContent, AreLent,
+    paths_next}
 use Rattle.kmin_inputs.proofs.LentAnswers.{lent_none, lent_append}
-use Rattle.kmin_report.proofs.Lists.{paths_next}
 use Rattle.kmin_inputs.proofs.answers.answer_from_environment.Goals as goal
 
 pub loop-name-init : goal.loop-name-init

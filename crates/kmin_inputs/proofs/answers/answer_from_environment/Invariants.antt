@@ -1,6 +1,4 @@
-use Rattle.std.proofs.Common.{◌≡◌, ℕ, List, map, take}
-use Rattle.std.specs.Borrow.{Bor}
-use Rattle.kmin_inputs.specs.between.AnswerSteps.{AreLent}
+use Rattle.kmin_inputs.proofs.Common.{◌≡◌, ℕ, List, map, take, Bor, AreLent}
 use Rattle.kmin_inputs.proofs.answers.answer_from_environment.Given as goal
 
 abbrev pub invariant-loop-name : goal.invariant-loop-name

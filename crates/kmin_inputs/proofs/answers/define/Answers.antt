@@ -1,6 +1,4 @@
-use Rattle.std.proofs.Common.{[], ℕ, List, refl, ◌∙◌, arith, rules}
-use Rattle.std.specs.Borrow.{Bor}
-use Rattle.std.proofs.lemmas.List.{take_all}
+use Rattle.kmin_inputs.proofs.Common.{[], ℕ, List, refl, ◌∙◌, arith, rules, Bor, take_all}
 use Rattle.kmin_options.specs.declared.job.Definition.{Definition as DeclaredDefinition}
 use Rattle.kmin_inputs.proofs.LentAnswers.{defined_next}
 use Rattle.kmin_inputs.proofs.answers.define.Goals as goal

@@ -1,8 +1,4 @@
-use Rattle.std.proofs.Common.{◌≡◌, ℕ, List, map, take}
-use Rattle.std.specs.Option.{option_or}
-use Rattle.kc_tree_model.specs.Keywords.{keyword_in_table}
-use Rattle.kmin_options.specs.Jobs.{definition_view}
-use Rattle.kmin_inputs.specs.JobAnswers.{defined_answer}
+use Rattle.kmin_inputs.proofs.Common.{◌≡◌, ℕ, List, map, take, option_or, keyword_in_table, definition_view, defined_answer}
 use Rattle.kmin_inputs.proofs.answers.define.Given as goal
 
 abbrev pub invariant-loop-definition : goal.invariant-loop-definition

@@ -1,15 +1,8 @@
-use Rattle.std.proofs.Common.{◌≡◌, ◌∷◌, [], ℕ, List, get_or, refl, ap, ◌∙◌, subst, take, arith, rules}
-use Rattle.std.specs.Borrow.{Bor}
-use Rattle.std.proofs.lemmas.List.{take_all}
-use Rattle.kmin_inputs.specs.FileContents.{Surroundings}
-use Rattle.kmin_inputs.specs.JobAnswers.{FilesRecord}
+use Rattle.kmin_inputs.proofs.Common.{◌≡◌, ◌∷◌, [], ℕ, List, get_or, refl, ap, ◌∙◌, subst, take, arith, rules, Bor, take_all, Surroundings, FilesRecord, none,
+    lines_append, if_err, paths_next, paths_at}
 use Rattle.kmin_inputs.specs.JobAnswers as answers
-use Rattle.kmin_report.specs.StandardError.{none}
-use Rattle.kmin_report.proofs.WriterLemmas.{lines_append}
 use Rattle.kmin_inputs.proofs.FailureCounts.{rises_later}
 use Rattle.kmin_inputs.proofs.AnswerFileLists.{record_append, stopped_later}
-use Rattle.kmin_report.proofs.Results.{if_err}
-use Rattle.kmin_report.proofs.Lists.{paths_next, paths_at}
 use Rattle.kmin_inputs.proofs.answers.file_answers.Goals as goal
 
 pub loop-path-init : goal.loop-path-init

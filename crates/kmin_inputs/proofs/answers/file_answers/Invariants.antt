@@ -1,7 +1,4 @@
-use Rattle.std.proofs.Common.{◌≡◌, ◌≤◌, ℕ, List, [], map, take}
-use Rattle.std.specs.Borrow.{Bor}
-use Rattle.kmin_inputs.specs.JobAnswers.{FilesRecord}
-use Rattle.kmin_report.specs.StandardError.{TakesLines}
+use Rattle.kmin_inputs.proofs.Common.{◌≡◌, ◌≤◌, ℕ, List, [], map, take, Bor, FilesRecord, TakesLines}
 use Rattle.kmin_inputs.proofs.answers.file_answers.Given as goal
 
 abbrev pub invariant-loop-path : goal.invariant-loop-path

@@ -1,9 +1,5 @@
-use Rattle.std.proofs.Common.{ℕ, List, ap, subst, arith, rules}
-use Rattle.kmin_options.specs.Jobs.{expansion_view}
-use Rattle.kmin_inputs.specs.FileContents.{Surroundings, VariableContent}
-use Rattle.kmin_inputs.specs.between.AnswerSteps.{AreLent}
+use Rattle.kmin_inputs.proofs.Common.{ℕ, List, ap, subst, arith, rules, expansion_view, Surroundings, VariableContent, AreLent, if_err, memory_err}
 use Rattle.kmin_inputs.proofs.LentAnswers.{answers_of_job}
-use Rattle.kmin_report.proofs.Results.{if_err, memory_err}
 use Rattle.kmin_inputs.proofs.answers.job_answers.Goals as goal
 
 pub returns-in_err-answers-clause-stopped : goal.returns-in_err-answers-clause-stopped

@@ -1,5 +1,4 @@
-use Rattle.kmin_report.specs.StandardError.{none}
-use Rattle.kmin_report.proofs.WriterLemmas.{lines_one}
+use Rattle.kmin_inputs.proofs.Common.{none, lines_one}
 use Rattle.kmin_inputs.proofs.AnswerFileLists.{other_status, other_lines}
 use Rattle.kmin_inputs.proofs.answers.report_answers_fault.Goals as goal
 

@@ -1,10 +1,6 @@
-use Rattle.std.proofs.Common.{[], refl, arith}
+use Rattle.kmin_inputs.proofs.Common.{[], refl, arith, none, unread, lines_one, rest_of, whole_content, memory_err}
 use Rattle.std.proofs.lemmas.Grind.{common_steps}
-use Rattle.kmin_report.specs.StandardError.{none}
-use Rattle.kmin_inputs.specs.ListFiles.{too_large, unread, for_memory}
-use Rattle.kmin_report.proofs.WriterLemmas.{lines_one}
-use Rattle.kmin_report.proofs.KnownContents.{rest_of, whole_content}
-use Rattle.kmin_report.proofs.Results.{memory_err}
+use Rattle.kmin_inputs.specs.ListFiles.{too_large, for_memory}
 use Rattle.kmin_inputs.proofs.list_files.read_from.Goals as goal
 
 pub returns-in_err-bytes-clause-stopped : goal.returns-in_err-bytes-clause-stopped

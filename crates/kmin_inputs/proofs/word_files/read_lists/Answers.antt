@@ -1,15 +1,9 @@
-use Rattle.std.proofs.Common.{◌≡◌, ◌++◌, ◌∷◌, ◌∙◌, [], ℕ, List, map, get_or, drop, suc, refl, ap, take, rules}
-use Rattle.std.specs.Borrow.{Bor}
+use Rattle.std.proofs.Common.{drop}
+use Rattle.kmin_inputs.proofs.Common.{◌≡◌, ◌++◌, ◌∷◌, ◌∙◌, [], ℕ, List, map, get_or, suc, refl, ap, take, rules, Bor, map-append, texts_of, Surroundings,
+    for_memory, lines_append, if_err, memory_err, paths_next, paths_at}
 use Rattle.std.specs.Global.{Vec}
-use Rattle.std.proofs.lemmas.List.{map-append}
-use Rattle.kc_files.specs.TextViews.{texts_of}
-use Rattle.kmin_inputs.specs.FileContents.{Surroundings}
 use Rattle.kmin_report.specs.StandardError as taking
 use Rattle.kmin_inputs.specs.WordFiles.{none}
-use Rattle.kmin_inputs.specs.between.ReadFiles.{for_memory}
-use Rattle.kmin_report.proofs.WriterLemmas.{lines_append}
-use Rattle.kmin_report.proofs.Results.{if_err, memory_err}
-use Rattle.kmin_report.proofs.Lists.{paths_next, paths_at}
 use Rattle.kmin_inputs.proofs.ListReads.{read_next, stopped_next, untouched_next}
 use Rattle.kmin_inputs.proofs.word_files.read_lists.Goals as goal
 

@@ -1,9 +1,4 @@
-use Rattle.std.proofs.Common.{◌≡◌, ℕ, List, [], map, take}
-use Rattle.std.specs.Borrow.{Bor}
-use Rattle.kc_files.specs.TextViews.{texts_of}
-use Rattle.kmin_report.specs.StandardError.{TakesLines}
-use Rattle.kmin_cli.specs.Inputs.{inputs_named}
-use Rattle.kmin_inputs.specs.WordFiles.{AreFilesRead}
+use Rattle.kmin_inputs.proofs.Common.{◌≡◌, ℕ, List, [], map, take, Bor, texts_of, TakesLines, inputs_named, AreFilesRead}
 use Rattle.kmin_inputs.proofs.word_files.read_lists.Given as goal
 
 abbrev pub invariant-loop-path : goal.invariant-loop-path

@@ -1,9 +1,7 @@
-use Rattle.std.proofs.Common.{◌<◌, ◌∷◌, ◌∙◌, [], ℕ, List, map, refl, ap, subst}
-use Rattle.std.specs.Borrow.{Bor}
-use Rattle.kmin_cli.specs.Inputs.{inputs_named, named_twice}
+use Rattle.kmin_inputs.proofs.Common.{◌<◌, ◌∷◌, ◌∙◌, [], ℕ, List, map, refl, ap, subst, Bor, inputs_named, lines_one}
+use Rattle.kmin_cli.specs.Inputs.{named_twice}
 use Rattle.kmin_inputs.specs.WordFiles.{twice}
 use Rattle.kmin_report.specs.Reports.{refused_line}
-use Rattle.kmin_report.proofs.WriterLemmas.{lines_one}
 use Rattle.kmin_inputs.proofs.ListReads.{words_stopped}
 use Rattle.kmin_inputs.proofs.word_files.read_word_files.Goals as goal
 

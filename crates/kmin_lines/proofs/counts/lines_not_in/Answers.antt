@@ -1,5 +1,4 @@
-use Rattle.std.proofs.Common.{◌≡◌, ◌∷◌, length, ap, sym, refl, ◌∙◌, map}
-use Rattle.kmin_lines.specs.Lines.{lines_of, left_over, without_one, without_carriage_return}
+use Rattle.kmin_lines.proofs.Common.{◌≡◌, ◌∷◌, length, ap, sym, refl, ◌∙◌, map, lines_of, left_over, without_one, without_carriage_return}
 use Rattle.kmin_lines.proofs.counts.lines_not_in.Goals as goal
 
 pub loop-line-init : goal.loop-line-init

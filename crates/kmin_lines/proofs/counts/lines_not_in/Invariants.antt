@@ -1,6 +1,4 @@
-use Rattle.std.proofs.Common.{◌≡◌, ℕ, List, length}
-use Rattle.kmin_lines.specs.Lines.{lines_of, left_over}
-use Rattle.kmin_lines.specs.checker.Bags.{HasLines}
+use Rattle.kmin_lines.proofs.Common.{◌≡◌, ℕ, List, length, lines_of, left_over, HasLines}
 use Rattle.kmin_lines.proofs.counts.lines_not_in.Given as goal
 
 abbrev pub invariant-loop-line : goal.invariant-loop-line

@@ -1,7 +1,5 @@
-use Rattle.std.proofs.Common.{◌≡◌, true, ◌++◌, length, map, filter}
-use Rattle.std.specs.List.{list_all}
-use Rattle.std.specs.Str.{is_utf8}
-use Rattle.kc_value.specs.Lines.{pieces}
+use Rattle.std.proofs.Common.{filter}
+use Rattle.kmin_lines.proofs.Common.{◌≡◌, true, ◌++◌, length, map, list_all, is_utf8, pieces}
 use Rattle.kmin_lines.specs.Lists.{paths_in, is_one_line, ender_of, has_bytes}
 use Rattle.kmin_lines.proofs.list.listed_paths.Given as goal
 

@@ -1,5 +1,4 @@
-use Rattle.std.proofs.Common.{rules}
-use Rattle.std.proofs.lemmas.Str.{is_utf8-from_IsUtf8}
+use Rattle.kmin_lines.proofs.Common.{rules, is_utf8-from_IsUtf8}
 use Rattle.kmin_lines.proofs.PathLemmas.{not_utf8}
 use Rattle.kmin_lines.proofs.list.path_of.Goals as goal
 

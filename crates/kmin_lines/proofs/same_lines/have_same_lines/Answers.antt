@@ -1,5 +1,4 @@
-use Rattle.std.proofs.Common.{sym, ap, ◌∙◌}
-use Rattle.kmin_lines.specs.Lines.{have_same_lines}
+use Rattle.kmin_lines.proofs.Common.{sym, ap, ◌∙◌, have_same_lines}
 use Rattle.kmin_lines.proofs.SameLines.{same_as_empty}
 use Rattle.kmin_lines.proofs.same_lines.have_same_lines.Goals as goal
 

@@ -1,5 +1,4 @@
-use Rattle.std.proofs.Common.{◌≡◌, length}
-use Rattle.kmin_lines.specs.Lines.{have_same_lines}
+use Rattle.kmin_lines.proofs.Common.{◌≡◌, length, have_same_lines}
 use Rattle.kmin_lines.proofs.same_lines.have_same_lines.Given as goal
 
 abbrev pub invariant-loop-line : goal.invariant-loop-line

@@ -1,6 +1,4 @@
-use Rattle.std.proofs.Common.{◌≡◌, ◌++◌, drop}
-use Rattle.kmin_lines.specs.WordFiles.{files_of}
-use Rattle.kmin_lines.specs.between.Words.{words_view}
+use Rattle.kmin_lines.proofs.Common.{◌≡◌, ◌++◌, drop, files_of, words_view}
 use Rattle.kmin_lines.proofs.word_files.files_of.Given as goal
 
 -- `paths` has the paths of the files of the words before this one

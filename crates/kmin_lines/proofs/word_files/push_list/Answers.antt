@@ -1,6 +1,5 @@
-use Rattle.std.proofs.Common.{◌++◌, List, ℕ, ap, sym, ◌∙◌, arith}
+use Rattle.kmin_lines.proofs.Common.{◌++◌, List, ℕ, ap, sym, ◌∙◌, arith, words_view}
 use Rattle.kmin_lines.specs.WordFiles.{first_list, further_lists}
-use Rattle.kmin_lines.specs.between.Words.{words_view}
 use Rattle.kmin_lines.proofs.Words.{lists_from, words_appended}
 use Rattle.kmin_lines.proofs.word_files.push_list.Goals as goal
 

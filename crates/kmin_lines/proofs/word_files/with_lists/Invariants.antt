@@ -1,6 +1,4 @@
-use Rattle.std.proofs.Common.{◌≡◌, ◌++◌, drop}
-use Rattle.kmin_lines.specs.WordFiles.{with_lists}
-use Rattle.kmin_lines.specs.between.Words.{lists_view, words_view}
+use Rattle.kmin_lines.proofs.Common.{◌≡◌, ◌++◌, drop, with_lists, lists_view, words_view}
 use Rattle.kmin_lines.proofs.word_files.with_lists.Given as goal
 
 -- `all` has the words that those before this one represent, by the first `used` lists

@@ -1,6 +1,4 @@
-use Rattle.std.proofs.Common.{◌≡◌, true, map, take}
-use Rattle.kmin_lines.specs.WordLines.{are_utf8, words_in}
-use Rattle.kmin_lines.specs.between.Words.{files_view, lists_view}
+use Rattle.kmin_lines.proofs.Common.{◌≡◌, true, map, take, are_utf8, words_in, files_view, lists_view}
 use Rattle.kmin_lines.proofs.word_lines.word_lists.Given as goal
 
 abbrev pub invariant-loop-file : goal.invariant-loop-file

@@ -1,8 +1,4 @@
-use Rattle.std.proofs.Common.{◌≡◌, true, ◌++◌, length}
-use Rattle.std.specs.List.{list_all}
-use Rattle.std.specs.Str.{is_utf8}
-use Rattle.kmin_lines.specs.WordLines.{words_in}
-use Rattle.kmin_lines.specs.between.Words.{words_view}
+use Rattle.kmin_lines.proofs.Common.{◌≡◌, true, ◌++◌, length, list_all, is_utf8, words_in, words_view}
 use Rattle.kmin_lines.proofs.word_lines.words_in.Given as goal
 
 abbrev pub invariant-loop-piece : goal.invariant-loop-piece

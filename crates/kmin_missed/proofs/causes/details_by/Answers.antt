@@ -1,13 +1,7 @@
-use Rattle.std.proofs.Common.{◌∙◌, ap}
+use Rattle.kmin_missed.proofs.Common.{◌∙◌, ap, unit_of, symbol_view, tree_model_of, valuation_tree, valuation_exprs, valuation_values, wanted_by, sources_model,
+    same_at}
 use Rattle.kc_solver.specs.Solutions.{user_of}
-use Rattle.kc_tree_model.specs.TreeLookup.{unit_of}
-use Rattle.kc_tree.specs.between.Views.{symbol_view}
-use Rattle.kc_rules.specs.between.SettledViews.{tree_model_of}
-use Rattle.kc_evaluation.specs.checker.ValuationView.{valuation_tree, valuation_exprs, valuation_values}
-use Rattle.kc_reasons_model.specs.PlainReasons.{wanted_by}
-use Rattle.kmin_explain.specs.between.Sources.{sources_model}
 use Rattle.kmin_missed.proofs.CauseTexts.{details_are}
-use Rattle.kmin_explain.proofs.ReasonTexts.{same_at}
 use Rattle.kmin_missed.proofs.causes.details_by.Goals as goal
 
 pub returns : goal.returns

@@ -1,13 +1,6 @@
-use Rattle.std.proofs.Common.{◌++◌, sym, ◌∙◌, ap}
-use Rattle.std.proofs.lemmas.Result.{on_ok_weaker}
-use Rattle.kc_reasons_model.specs.PlainReasons.{PlainReasons}
-use Rattle.kc_rules.specs.between.SettledViews.{tree_model_of}
-use Rattle.kc_symbol_lines.specs.between.LinesView.{symbol_lines_view}
-use Rattle.kmin_explain.specs.Explanations.{reasons_of}
-use Rattle.kmin_missed.specs.MissedLines.{cause_by}
-use Rattle.kmin_explain.specs.between.Sources.{sources_model}
+use Rattle.kmin_missed.proofs.Common.{◌++◌, sym, ◌∙◌, ap, on_ok_weaker, PlainReasons, tree_model_of, symbol_lines_view, reasons_of, cause_by, sources_model,
+    symbol_there}
 use Rattle.kmin_missed.proofs.CauseTexts.{cause_is}
-use Rattle.kmin_explain.proofs.SymbolTexts.{symbol_there}
 use Rattle.kmin_missed.proofs.causes.push_cause.Goals as goal
 
 pub returns : goal.returns

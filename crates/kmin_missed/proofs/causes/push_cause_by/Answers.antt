@@ -1,10 +1,4 @@
-use Rattle.std.proofs.lemmas.Result.{on_ok_weaker}
-use Rattle.std.proofs.Common.{◌∙◌}
-use Rattle.kc_rules.specs.between.SettledViews.{tree_model_of}
-use Rattle.kc_evaluation.specs.checker.ValuationView.{valuation_tree, valuation_values}
-use Rattle.kc_reasons.specs.between.ReasonsView.{reasons_view}
-use Rattle.kc_symbol_lines.specs.between.LinesView.{symbol_lines_view}
-use Rattle.kmin_explain.specs.between.Sources.{sources_model}
+use Rattle.kmin_missed.proofs.Common.{on_ok_weaker, ◌∙◌, tree_model_of, valuation_tree, valuation_values, reasons_view, symbol_lines_view, sources_model}
 use Rattle.kmin_missed.proofs.CauseTexts.{cause_appended}
 use Rattle.kmin_missed.proofs.causes.push_cause_by.Goals as goal
 

@@ -1,9 +1,5 @@
-use Rattle.std.proofs.Common.{ℕ, ◌<◌, List, All, length, sym, subst, ◌∙◌, ap, arith}
+use Rattle.kmin_missed.proofs.Common.{ℕ, ◌<◌, List, All, length, sym, subst, ◌∙◌, ap, arith, tree_model_of, tree_in, missed, config_of, sources_model}
 use Rattle.kc_tree.specs.TreeModel.{TreeModel}
-use Rattle.kc_rules.specs.between.SettledViews.{tree_model_of}
-use Rattle.kc_config.specs.ConfigStates.{tree_in}
-use Rattle.kc_dotconfig_model.specs.MissedAssignments.{missed}
-use Rattle.kmin_explain.specs.between.Sources.{config_of, sources_model}
 use Rattle.kmin_missed.proofs.MissedMarks.{missed_below, one_more_rows}
 use Rattle.kmin_missed.proofs.missed_lines.lines_of_missed.Goals as goal
 

@@ -1,6 +1,4 @@
-use Rattle.std.proofs.Common.{◌∙◌}
-use Rattle.std.proofs.lemmas.Result.{on_ok_weaker}
-use Rattle.kmin_explain.specs.between.Sources.{sources_model}
+use Rattle.kmin_missed.proofs.Common.{◌∙◌, on_ok_weaker, sources_model}
 use Rattle.kmin_missed.proofs.RowTexts.{all_overridden}
 use Rattle.kmin_missed.proofs.missed_lines.push_all_overridden.Goals as goal
 

@@ -1,9 +1,5 @@
-use Rattle.std.proofs.Common.{◌++◌, sym, ◌∙◌, ap}
-use Rattle.std.specs.Prelude.{option_map}
-use Rattle.std.proofs.lemmas.Result.{on_ok_weaker}
+use Rattle.kmin_missed.proofs.Common.{◌++◌, sym, ◌∙◌, ap, option_map, on_ok_weaker, missed_row, sources_model}
 use Rattle.kc_config_reasons.specs.between.Places.{place_view}
-use Rattle.kmin_missed.specs.MissedLines.{missed_row}
-use Rattle.kmin_explain.specs.between.Sources.{sources_model}
 use Rattle.kmin_missed.proofs.missed_lines.push_missed_row.Goals as goal
 
 pub returns-in-Some : goal.returns-in-Some

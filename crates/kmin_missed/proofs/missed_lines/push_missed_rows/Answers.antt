@@ -1,12 +1,5 @@
-use Rattle.std.proofs.Common.{◌∙◌, ap}
-use Rattle.std.proofs.lemmas.Result.{on_ok_weaker}
-use Rattle.kc_tree_model.specs.Trees.{Symbol}
-use Rattle.kc_tree_model.specs.TreeLookup.{unit_of}
-use Rattle.kc_reasons_model.specs.AssigningLines.{assigning_place}
-use Rattle.kc_tree.specs.between.Views.{symbol_view}
-use Rattle.kc_evaluation.specs.checker.ValuationView.{valuation_tree, valuation_exprs}
-use Rattle.kmin_explain.specs.between.Sources.{sources_model}
-use Rattle.kmin_explain.proofs.ReasonTexts.{same_at}
+use Rattle.kmin_missed.proofs.Common.{◌∙◌, ap, on_ok_weaker, Symbol, unit_of, assigning_place, symbol_view, valuation_tree, valuation_exprs, sources_model,
+    same_at}
 use Rattle.kmin_missed.proofs.RowTexts.{missed_too, not_missed}
 use Rattle.kmin_missed.proofs.missed_lines.push_missed_rows.Goals as goal
 

@@ -1,9 +1,5 @@
-use Rattle.std.proofs.Common.{◌++◌, Some, sym, ◌∙◌, ap}
+use Rattle.kmin_missed.proofs.Common.{◌++◌, Some, sym, ◌∙◌, ap, on_ok_weaker, sources_model, line_in, overridden_row_text}
 use Rattle.std.specs.Option.{option_copied}
-use Rattle.std.proofs.lemmas.Result.{on_ok_weaker}
-use Rattle.kmin_explain.specs.between.Sources.{sources_model}
-use Rattle.kmin_explain.specs.checker.FileLineTexts.{line_in}
-use Rattle.kmin_missed.specs.checker.RowTexts.{overridden_row_text}
 use Rattle.kmin_missed.proofs.missed_lines.push_overridden_row.Goals as goal
 
 pub returns-in-Some-Some : goal.returns-in-Some-Some

@@ -1,8 +1,4 @@
-use Rattle.kc_config_reasons.specs.declared.places.Overridden.{Overridden}
-use Rattle.kmin_explain.specs.between.Sources.{sources_model}
-use Rattle.kmin_explain.specs.checker.FileLineTexts.{line_in}
-use Rattle.kmin_missed.specs.checker.RowTexts.{overridden_row_text}
-use Rattle.kmin_explain.proofs.SymbolTexts.{one_more_text, no_more_text}
+use Rattle.kmin_missed.proofs.Common.{Overridden, sources_model, line_in, overridden_row_text, one_more_text, no_more_text}
 use Rattle.kmin_missed.proofs.missed_lines.push_overridden_rows.Goals as goal
 
 pub loop-one-preserved : goal.loop-one-preserved

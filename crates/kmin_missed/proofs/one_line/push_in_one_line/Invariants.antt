@@ -1,6 +1,4 @@
-use Rattle.std.proofs.Common.{◌≡◌, ◌++◌, length}
-use Rattle.kc_value.specs.Lines.{pieces}
-use Rattle.kmin_missed.specs.MissedLines.{in_one_line}
+use Rattle.kmin_missed.proofs.Common.{◌≡◌, ◌++◌, length, pieces, in_one_line}
 use Rattle.kmin_missed.proofs.one_line.push_in_one_line.Given as goal
 
 abbrev pub invariant-loop-line : goal.invariant-loop-line

@@ -1,7 +1,4 @@
-use Rattle.std.proofs.Common.{◌++◌, ◌∙◌, ap}
-use Rattle.kmin_missed.specs.UnmetLines.{unmet_row_at}
-use Rattle.kmin_explain.specs.between.Sources.{sources_model}
-use Rattle.kmin_explain.proofs.SymbolTexts.{one_more_text, no_more_text}
+use Rattle.kmin_missed.proofs.Common.{◌++◌, ◌∙◌, ap, unmet_row_at, sources_model, one_more_text, no_more_text}
 use Rattle.kmin_missed.proofs.unmet_lines.lines_of_unmet.Goals as goal
 
 pub loop-s-preserved : goal.loop-s-preserved

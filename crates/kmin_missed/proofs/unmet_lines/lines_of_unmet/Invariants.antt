@@ -1,9 +1,4 @@
-use Rattle.std.proofs.Common.{◌≡◌, ◌++◌, List, drop}
-use Rattle.std.specs.Prelude.{flat_map}
-use Rattle.kc_tree_model.specs.Blocks.{Group}
-use Rattle.kc_dotconfig_model.specs.ConfigLines.{LineMeaning}
-use Rattle.kmin_missed.specs.UnmetLines.{unmet_row_at}
-use Rattle.kmin_explain.specs.between.Sources.{AreSourcesOf, sources_model}
+use Rattle.kmin_missed.proofs.Common.{◌≡◌, ◌++◌, List, drop, flat_map, Group, LineMeaning, unmet_row_at, AreSourcesOf, sources_model}
 use Rattle.kmin_missed.proofs.unmet_lines.lines_of_unmet.Given as goal
 
 abbrev pub invariant-loop-s : goal.invariant-loop-s

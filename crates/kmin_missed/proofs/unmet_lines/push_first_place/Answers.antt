@@ -1,13 +1,5 @@
-use Rattle.std.proofs.Common.{◌++◌, ◌∙◌, ap}
-use Rattle.std.proofs.lemmas.Result.{on_ok_weaker}
-use Rattle.kc_tree_model.specs.Trees.{Symbol}
-use Rattle.kc_tree.specs.between.Views.{symbol_view}
-use Rattle.kc_evaluation.specs.checker.ValuationView.{valuation_tree, valuation_exprs}
-use Rattle.kc_config.specs.ConfigStates.{tree_in}
-use Rattle.kc_explanation.specs.Located.{place_text}
-use Rattle.kmin_missed.specs.UnmetLines.{first_place}
-use Rattle.kmin_explain.specs.between.Sources.{config_of}
-use Rattle.kmin_explain.proofs.ReasonTexts.{same_at}
+use Rattle.kmin_missed.proofs.Common.{◌++◌, ◌∙◌, ap, on_ok_weaker, Symbol, symbol_view, valuation_tree, valuation_exprs, tree_in, place_text, first_place,
+    config_of, same_at}
 use Rattle.kmin_missed.proofs.unmet_lines.push_first_place.Goals as goal
 
 pub returns : goal.returns

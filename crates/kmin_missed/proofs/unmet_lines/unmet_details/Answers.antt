@@ -1,10 +1,5 @@
-use Rattle.std.proofs.Common.{[]}
-use Rattle.kc_tree.specs.between.Views.{symbol_view}
-use Rattle.kc_rules.specs.between.SettledViews.{tree_model_of}
-use Rattle.kc_evaluation.specs.checker.ValuationView.{valuation_tree, valuation_exprs, valuation_values}
-use Rattle.kmin_explain.specs.between.Sources.{sources_model}
+use Rattle.kmin_missed.proofs.Common.{[], symbol_view, tree_model_of, valuation_tree, valuation_exprs, valuation_values, sources_model, same_at}
 use Rattle.kmin_missed.proofs.UnmetTexts.{unmet_details_are}
-use Rattle.kmin_explain.proofs.ReasonTexts.{same_at}
 use Rattle.kmin_missed.proofs.unmet_lines.unmet_details.Goals as goal
 
 pub returns : goal.returns

@@ -1,9 +1,5 @@
-use Rattle.std.proofs.Common.{[], ◌∷◌, refl, arith}
-use Rattle.std.proofs.lemmas.Grind.{common_steps}
+use Rattle.kmin_run.proofs.Common.{[], ◌∷◌, refl, arith, common_steps, none, lines_one, memory_err}
 use Rattle.kmin_run.specs.BundleOutputs.{large_line, unread_line, unread, too_large, for_memory}
-use Rattle.kmin_report.specs.StandardError.{none}
-use Rattle.kmin_report.proofs.WriterLemmas.{lines_one}
-use Rattle.kmin_report.proofs.Results.{memory_err}
 use Rattle.kmin_run.proofs.bundle.read_whole.Goals as goal
 
 pub returns-in_err-bytes-clause-stopped : goal.returns-in_err-bytes-clause-stopped

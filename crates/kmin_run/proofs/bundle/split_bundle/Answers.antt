@@ -1,7 +1,6 @@
 use Rattle.kmin_run.proofs.BundleCuts.{found, passed}
 use Rattle.kmin_run.proofs.bundle.split_bundle.Goals as goal
-use Rattle.std.proofs.Common.{◌∙◌, sym, arith}
-use Rattle.std.proofs.lemmas.Grind.{common_steps}
+use Rattle.kmin_run.proofs.Common.{◌∙◌, sym, arith, common_steps}
 
 pub returns-then-eq : goal.returns-then-eq
 returns-then-eq c =

@@ -1,6 +1,4 @@
-use Rattle.std.proofs.Common.{◌≡◌, ◌++◌, ◌⊎◌, List, [], ℕ, IsTrue, length}
-use Rattle.kc_value.specs.Lines.{HasWholeLines}
-use Rattle.kmin_run.specs.Bundles.{has_no_marker}
+use Rattle.kmin_run.proofs.Common.{◌≡◌, ◌++◌, ◌⊎◌, List, [], ℕ, IsTrue, length, HasWholeLines, has_no_marker}
 use Rattle.kmin_run.proofs.bundle.split_bundle.Given as goal
 
 -- the bundle is `rest` after lines none of which is `%%`

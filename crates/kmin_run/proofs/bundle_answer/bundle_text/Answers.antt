@@ -1,5 +1,4 @@
-use Rattle.std.proofs.Common.{rules}
-use Rattle.kmin_report.proofs.Results.{if_err}
+use Rattle.kmin_run.proofs.Common.{rules, if_err}
 use Rattle.kmin_run.proofs.BundleOutputs.{tree_stopped, bundle_answers, configuration_stopped}
 use Rattle.kmin_run.proofs.bundle_answer.bundle_text.Goals as goal
 

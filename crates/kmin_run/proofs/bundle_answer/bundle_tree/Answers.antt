@@ -1,14 +1,7 @@
-use Rattle.std.proofs.Common.{subst, ◌∙◌, ap, codes, ℕ, List, [], refl, IfOk, IfErr, arith}
-use Rattle.std.proofs.lemmas.Grind.{common_steps}
+use Rattle.kmin_run.proofs.Common.{subst, ◌∙◌, ap, codes, ℕ, List, [], refl, IfOk, IfErr, arith, common_steps, tree_of_settled, AreAccepted, TakesLines, none,
+    status_of, ErrorLine, StopsAtTexts, for_memory, memory_err}
 use Rattle.kc_tree_model.specs.TreeFiles.{Files, with_file}
-use Rattle.kc_rules.specs.between.SettledViews.{tree_of_settled}
-use Rattle.kmin_trees.specs.AcceptedTrees.{AreAccepted}
-use Rattle.kmin_report.specs.StandardError.{TakesLines, none}
-use Rattle.kmin_report.specs.between.RunErrors.{status_of}
-use Rattle.kmin_report.specs.Reports.{ErrorLine}
 use Rattle.kmin_trees.specs.between.FileNames.{texts_of}
-use Rattle.kmin_trees.specs.between.TreeStops.{StopsAtTexts, for_memory}
-use Rattle.kmin_report.proofs.Results.{memory_err}
 use Rattle.kmin_run.proofs.bundle_answer.bundle_tree.Goals as goal
 
 pub returns-clause-accepted : goal.returns-clause-accepted

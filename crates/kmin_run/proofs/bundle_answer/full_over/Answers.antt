@@ -1,9 +1,5 @@
-use Rattle.std.proofs.Common.{[], ◌∷◌, codes, refl, ◌∙◌, rules}
-use Rattle.kc_rules.specs.between.SettledViews.{tree_of_settled}
-use Rattle.kc_dotconfig_model.specs.ConfigFiles.{empty_assignment}
+use Rattle.kmin_run.proofs.Common.{[], ◌∷◌, codes, refl, ◌∙◌, rules, tree_of_settled, empty_assignment, bundle_content, if_err, memory_err}
 use Rattle.kc_config.proofs.UserValueUnits.{lies_alone}
-use Rattle.kmin_run.specs.BundleOutputs.{bundle_content}
-use Rattle.kmin_report.proofs.Results.{if_err, memory_err}
 use Rattle.kmin_outputs.proofs.Sequences.{stopped_for_memory}
 use Rattle.kmin_run.proofs.BundleOutputs.{memory_stops, memory_loaded, full_answers}
 use Rattle.kmin_run.proofs.bundle_answer.full_over.Goals as goal

@@ -1,10 +1,7 @@
-use Rattle.std.proofs.Common.{[], ◌∷◌, ◌++◌, Err, ap, inl, inr, refl}
-use Rattle.kmin_report.specs.Reports.{output_line}
+use Rattle.kmin_run.proofs.Common.{[], ◌∷◌, ◌++◌, Err, ap, inl, inr, refl, output_line, lines_append, lines_kept, with_error, value_is_no_error}
 use Rattle.kmin_run.specs.BundleOutputs.{in_bundle, at_write}
-use Rattle.kmin_report.proofs.WriterLemmas.{lines_append}
-use Rattle.kmin_outputs.proofs.JobOutputs.{lines_kept}
 use Rattle.kc_solver.proofs.ErrorExits.{no_success}
-use Rattle.kmin_outputs.proofs.ErrorExits.{with_error, value_is_no_error, error_is}
+use Rattle.kmin_outputs.proofs.ErrorExits.{error_is}
 use Rattle.kmin_run.proofs.bundle_answer.run_bundle.Goals as goal
 
 pub returns-in_err-bundle : goal.returns-in_err-bundle

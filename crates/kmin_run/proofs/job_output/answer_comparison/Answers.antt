@@ -1,12 +1,7 @@
-use Rattle.std.proofs.Common.{inl, sym, ◌∙◌}
-use Rattle.kc_config.specs.ConfigStates.{tree_in}
+use Rattle.kmin_run.proofs.Common.{inl, sym, ◌∙◌, tree_in, settings_view, if_err_map, no_value, with_error}
 use Rattle.kc_minimal_model.specs.Differences.{differences}
-use Rattle.kmin_options.specs.Jobs.{settings_view}
-use Rattle.kmin_report.proofs.Results.{if_err_map}
 use Rattle.kmin_outputs.proofs.ReadFailures.{comparing_unfailed}
 use Rattle.kmin_outputs.proofs.JobOutputs.{comparison_answers, comparison_stops, list_status_small}
-use Rattle.kc_solver.proofs.ErrorExits.{no_value}
-use Rattle.kmin_outputs.proofs.ErrorExits.{with_error}
 use Rattle.kmin_run.proofs.job_output.answer_comparison.Goals as goal
 
 pub returns-in_err-before : goal.returns-in_err-before

@@ -1,12 +1,6 @@
-use Rattle.std.proofs.Common.{inl, List, ℕ, map}
-use Rattle.std.specs.Borrow.{Bor}
-use Rattle.kc_config.specs.ConfigStates.{tree_in}
-use Rattle.kmin_options.specs.Jobs.{settings_view}
-use Rattle.kmin_report.proofs.Results.{if_err_map}
+use Rattle.kmin_run.proofs.Common.{inl, List, ℕ, map, Bor, tree_in, settings_view, if_err_map, no_value, with_error}
 use Rattle.kmin_outputs.proofs.ReadFailures.{answering_unfailed}
 use Rattle.kmin_outputs.proofs.JobOutputs.{verb_answers, verb_stops, verb_status_small}
-use Rattle.kc_solver.proofs.ErrorExits.{no_value}
-use Rattle.kmin_outputs.proofs.ErrorExits.{with_error}
 use Rattle.kmin_run.proofs.job_output.answer_files.Goals as goal
 
 pub returns-in_err-read : goal.returns-in_err-read

@@ -1,7 +1,5 @@
-use Rattle.kmin_report.proofs.Results.{memory_err}
+use Rattle.kmin_run.proofs.Common.{memory_err, no_value, with_error}
 use Rattle.kmin_outputs.specs.between.Comparisons.{at_the_choices, answering_output}
-use Rattle.kc_solver.proofs.ErrorExits.{no_value}
-use Rattle.kmin_outputs.proofs.ErrorExits.{with_error}
 use Rattle.kmin_run.proofs.job_output.noticed_answer.Goals as goal
 
 pub returns-in_err-notice_choices : goal.returns-in_err-notice_choices

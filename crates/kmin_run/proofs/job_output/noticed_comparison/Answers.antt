@@ -1,9 +1,5 @@
-use Rattle.std.proofs.Common.{ap}
-use Rattle.kc_rules.specs.between.SettledViews.{tree_of_settled, profile_of}
-use Rattle.kmin_report.proofs.Results.{memory_err}
+use Rattle.kmin_run.proofs.Common.{ap, tree_of_settled, profile_of, memory_err, no_value, with_error}
 use Rattle.kmin_outputs.specs.between.Comparisons.{at_left, at_right, comparing_output}
-use Rattle.kc_solver.proofs.ErrorExits.{no_value}
-use Rattle.kmin_outputs.proofs.ErrorExits.{with_error}
 use Rattle.kmin_run.proofs.job_output.noticed_comparison.Goals as goal
 
 pub returns-in_err-notice_choices : goal.returns-in_err-notice_choices

@@ -1,9 +1,5 @@
-use Rattle.std.proofs.Common.{rules}
-use Rattle.kc_rules.specs.between.SettledViews.{tree_of_settled}
-use Rattle.kmin_options.specs.Jobs.{settings_view, task_view}
+use Rattle.kmin_run.proofs.Common.{rules, tree_of_settled, settings_view, task_view, if_err, if_err_map, rises_later}
 use Rattle.kmin_outputs.specs.Stops.{at_tree}
-use Rattle.kmin_report.proofs.Results.{if_err, if_err_map}
-use Rattle.kmin_inputs.proofs.FailureCounts.{rises_later}
 use Rattle.kmin_outputs.proofs.JobOutputs.{job_answers, job_stops}
 use Rattle.kmin_run.proofs.job_output.output_of_job.Goals as goal
 

@@ -1,8 +1,5 @@
-use Rattle.std.proofs.Common.{[], ◌∷◌, ◌∙◌, refl, arith}
-use Rattle.kmin_inputs.proofs.FailureCounts.{rises_later}
+use Rattle.kmin_run.proofs.Common.{[], ◌∷◌, ◌∙◌, refl, arith, rises_later, no_value, with_error}
 use Rattle.kmin_outputs.proofs.Sequences.{stopped_more, stopped_later}
-use Rattle.kc_solver.proofs.ErrorExits.{no_value}
-use Rattle.kmin_outputs.proofs.ErrorExits.{with_error}
 use Rattle.kmin_run.proofs.job_output.read_both.Goals as goal
 
 pub returns-in_err-before : goal.returns-in_err-before

@@ -1,5 +1,4 @@
-use Rattle.kmin_report.specs.StandardError.{none}
-use Rattle.kmin_report.proofs.WriterLemmas.{lines_one}
+use Rattle.kmin_run.proofs.Common.{none, lines_one}
 use Rattle.kmin_run.proofs.output_file.report_replace.Goals as goal
 
 pub returns-in-NotRegular-clause-reported : goal.returns-in-NotRegular-clause-reported

@@ -1,6 +1,4 @@
-use Rattle.std.proofs.Common.{ap, Err}
-use Rattle.kmin_report.specs.StandardError.{none}
-use Rattle.kmin_outputs.proofs.ErrorExits.{value_is_no_error}
+use Rattle.kmin_run.proofs.Common.{ap, Err, none, value_is_no_error}
 use Rattle.kmin_run.proofs.output_file.save_text.Goals as goal
 
 pub returns-in-Ok-clause-saved : goal.returns-in-Ok-clause-saved

@@ -1,6 +1,5 @@
-use Rattle.std.proofs.Common.{◌++◌, Err, refl, ap, ◌∙◌}
-use Rattle.kmin_report.specs.Reports.{last_lines}
-use Rattle.kmin_run.specs.Runs.{done, stopped}
+use Rattle.kmin_run.proofs.Common.{◌++◌, Err, refl, ap, ◌∙◌, last_lines, stopped}
+use Rattle.kmin_run.specs.Runs.{done}
 use Rattle.kmin_run.proofs.BundleOutputs.{bundle_ends}
 use Rattle.kmin_run.proofs.RunEnds.{bundle_wrote, five_is_failed, of_fault}
 use Rattle.kmin_run.proofs.program.answer_bundle.Goals as goal

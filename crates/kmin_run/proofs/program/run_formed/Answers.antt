@@ -1,5 +1,4 @@
-use Rattle.std.proofs.Common.{None, refl}
-use Rattle.kmin_report.specs.Reports.{last_lines}
+use Rattle.kmin_run.proofs.Common.{None, refl, last_lines}
 use Rattle.kmin_run.specs.Runs.{form_asked}
 use Rattle.kmin_run.specs.between.WordRuns.{formed, for_memory}
 use Rattle.kmin_run.proofs.program.run_formed.Goals as goal

@@ -1,10 +1,4 @@
-use Rattle.std.proofs.Common.{◌≡◌, ◌∙◌, ℕ, List, Option, map, inl, inr, refl, ap, arith, rules}
-use Rattle.std.specs.Borrow.{Bor}
-use Rattle.kc_files.specs.TextViews.{texts_of}
-use Rattle.kmin_inputs.specs.WordFiles.{Represent}
-use Rattle.kmin_run.specs.between.WordRuns.{AreWordsRead}
-use Rattle.kmin_report.specs.declared.run_error.RunError.TheVariants.{Memory}
-use Rattle.kmin_report.specs.StandardError.{none}
+use Rattle.kmin_run.proofs.Common.{◌≡◌, ◌∙◌, ℕ, List, Option, map, inl, inr, refl, ap, arith, rules, Bor, texts_of, Represent, AreWordsRead, Memory, none}
 use Rattle.kmin_run.proofs.RunEnds.{words_malformed, words_forgotten, words_ended, changes_asked, tidying_asked}
 use Rattle.kmin_run.proofs.RunStatuses.{fault_at_most_six, two_at_most_six}
 use Rattle.kmin_run.proofs.program.run_given.Goals as goal

@@ -1,7 +1,6 @@
-use Rattle.std.proofs.Common.{[], ◌∷◌, inl, inr, refl, arith}
-use Rattle.kmin_options.specs.Jobs.{explain_job_view, settings_view, questions_view, task_view}
+use Rattle.kmin_run.proofs.Common.{[], ◌∷◌, inl, inr, refl, arith, settings_view, questions_view, task_view, lines_one}
+use Rattle.kmin_options.specs.Jobs.{explain_job_view}
 use Rattle.kmin_report.specs.Reports.{refused_line}
-use Rattle.kmin_report.proofs.WriterLemmas.{lines_one}
 use Rattle.kmin_run.specs.TidyRuns.{outputs_of}
 use Rattle.kmin_run.proofs.RunFailures.{help_rises}
 use Rattle.kmin_run.proofs.RunEnds.{explain_ended, job_ended, questions_ended}

@@ -1,6 +1,4 @@
-use Rattle.std.proofs.Common.{ℕ, List, map, ap, ◌∙◌, inl, inr}
-use Rattle.std.specs.Borrow.{Bor}
-use Rattle.kmin_cli.specs.Parses.{AreReadAs}
+use Rattle.kmin_run.proofs.Common.{ℕ, List, map, ap, ◌∙◌, inl, inr, Bor, AreReadAs}
 use Rattle.kmin_run.proofs.RunEnds.{asked, read_ended, read_first, tidied}
 use Rattle.kmin_run.proofs.program.run_read.Goals as goal
 

@@ -1,8 +1,4 @@
-use Rattle.std.proofs.Common.{◌≡◌, ◌⊎◌, ℕ, List, Option, map, inl, inr, refl, subst}
-use Rattle.std.specs.Borrow.{Bor}
-use Rattle.kc_files.specs.TextViews.{texts_of}
-use Rattle.kc_files.specs.TreeContents.{HasRisen}
-use Rattle.kmin_run.specs.between.WordRuns.{AreWordsRead}
+use Rattle.kmin_run.proofs.Common.{◌≡◌, ◌⊎◌, ℕ, List, Option, map, inl, inr, refl, subst, Bor, texts_of, HasRisen, AreWordsRead}
 use Rattle.kmin_run.proofs.RunEnds.{formed_since, words_at_most_six, words_stopped}
 use Rattle.kmin_run.proofs.program.run_words.Goals as goal
 

@@ -1,6 +1,4 @@
-use Rattle.std.proofs.Common.{[], ◌∷◌, refl, rules}
-use Rattle.kmin_report.specs.Reports.{output_line}
-use Rattle.kmin_run.specs.Runs.{stopped}
+use Rattle.kmin_run.proofs.Common.{[], ◌∷◌, refl, rules, output_line, stopped}
 use Rattle.kmin_run.proofs.program.write_help.Goals as goal
 
 pub returns-in-Err-clause-ends : goal.returns-in-Err-clause-ends

@@ -1,8 +1,6 @@
-use Rattle.std.proofs.Common.{ap, option_map}
+use Rattle.kmin_run.proofs.Common.{ap, option_map, none, if_err_map}
 use Rattle.kmin_options.specs.Jobs.{list_view}
-use Rattle.kmin_report.specs.StandardError.{none}
 use Rattle.kmin_run.specs.TidyRuns.{reading}
-use Rattle.kmin_report.proofs.Results.{if_err_map}
 use Rattle.kmin_run.proofs.tidy_command.list_bytes.Goals as goal
 
 pub returns-in-Some-clause-stopped : goal.returns-in-Some-clause-stopped

@@ -1,6 +1,4 @@
-use Rattle.std.proofs.Common.{refl, inl, inr, sym, ◌∙◌}
-use Rattle.kmin_options.specs.Jobs.{tidy_job_view}
-use Rattle.kmin_inputs.proofs.FailureCounts.{rises_later}
+use Rattle.kmin_run.proofs.Common.{refl, inl, inr, sym, ◌∙◌, tidy_job_view, rises_later}
 use Rattle.kmin_run.proofs.RunStatuses.{fault_at_most_six}
 use Rattle.kmin_run.proofs.TidyLemmas.{list_ends, read_before}
 use Rattle.kmin_run.proofs.tidy_command.tidy.Goals as goal

@@ -1,9 +1,5 @@
-use Rattle.std.proofs.Common.{ℕ, List, [], map, inl, inr, refl, arith, rules}
-use Rattle.std.specs.Borrow.{Bor}
-use Rattle.kmin_options.specs.Jobs.{tidy_job_view}
-use Rattle.kmin_report.specs.Reports.{last_lines}
-use Rattle.kmin_report.specs.declared.run_error.RunError.TheVariants.{Memory}
-use Rattle.kmin_run.specs.TidyRuns.{at_list, for_memory}
+use Rattle.kmin_run.proofs.Common.{ℕ, List, [], map, inl, inr, refl, arith, rules, Bor, tidy_job_view, last_lines, Memory, at_list}
+use Rattle.kmin_run.specs.TidyRuns.{for_memory}
 use Rattle.kmin_run.proofs.RunStatuses.{fault_at_most_six, two_at_most_six}
 use Rattle.kmin_run.proofs.TidyLemmas.{malformed_ends, over_all}
 use Rattle.kmin_run.proofs.tidy_command.tidy_listed.Goals as goal

@@ -1,8 +1,5 @@
-use Rattle.std.proofs.Common.{◌∷◌, [], refl, rules}
-use Rattle.kc_files.specs.TextViews.{items_of}
+use Rattle.kmin_run.proofs.Common.{◌∷◌, [], refl, rules, items_of, lines_append, lines_one, if_err}
 use Rattle.kmin_expansions.specs.WantedQuestions.{at_fault}
-use Rattle.kmin_report.proofs.WriterLemmas.{lines_append, lines_one}
-use Rattle.kmin_report.proofs.Results.{if_err}
 use Rattle.kmin_run.proofs.wants_command.answer_questions.Goals as goal
 
 pub returns-in_err-listed-clause-stopped : goal.returns-in_err-listed-clause-stopped

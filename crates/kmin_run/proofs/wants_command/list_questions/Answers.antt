@@ -1,6 +1,4 @@
-use Rattle.std.proofs.Common.{inl, inr, refl, sym, ◌∙◌, arith}
-use Rattle.kmin_options.specs.Jobs.{questions_view}
-use Rattle.kmin_outputs.proofs.JobOutputs.{lines_kept, no_other_status}
+use Rattle.kmin_run.proofs.Common.{inl, inr, refl, sym, ◌∙◌, arith, questions_view, lines_kept, no_other_status}
 use Rattle.kmin_run.proofs.QuestionEnds.{write_stops, questions_end}
 use Rattle.kmin_run.proofs.RunEnds.{of_fault}
 use Rattle.kmin_run.proofs.RunStatuses.{output_at_most_six, output_not_two, output_not_five, output_no_other, failed_at_most_six, failed_not_two, failed_not_done, fault_at_most_six, fault_not_done}

@@ -1,7 +1,4 @@
-use Rattle.std.proofs.Common.{◌≡◌, ℕ, Vec, take}
-use Rattle.std.specs.List.{flat_map}
-use Rattle.std.specs.declared.alloc.Global.{Global}
-use Rattle.kmin_expansions.specs.WantedQuestions.{question_line}
+use Rattle.kmin_run.proofs.Common.{◌≡◌, ℕ, Vec, take, flat_map, Global, question_line}
 use Rattle.kmin_run.proofs.wants_command.question_lines.Given as goal
 
 abbrev pub invariant-loop-question : goal.invariant-loop-question

@@ -1,9 +1,5 @@
 use Rattle.std.proofs.lemmas.Bool.{ne_eqb}
-use Rattle.kc_macros.specs.Runs.{fault_of}
-use Rattle.kc_macros_model.specs.declared.fault.MacroKind.TheVariants.{TooMany}
-use Rattle.kmin_texts.specs.LineDetails.{is_given, is_of_macro_fault, never, on_expanded_line}
-use Rattle.kmin_texts.specs.NumberedLines.{line_at}
-use Rattle.kmin_texts.specs.between.KeptDetails.{kept_detail}
+use Rattle.kmin_texts.proofs.Common.{fault_of, TooMany, is_given, is_of_macro_fault, never, on_expanded_line, line_at, kept_detail}
 use Rattle.kmin_texts.proofs.OwnDetails.{may_also}
 use Rattle.kmin_texts.proofs.FaultSteps.{of_expanded}
 use Rattle.kmin_texts.proofs.fault_details.macro_limit.Goals as goal

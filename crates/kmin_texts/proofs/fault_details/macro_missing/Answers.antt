@@ -1,9 +1,4 @@
-use Rattle.std.proofs.Common.{inr}
-use Rattle.std.proofs.lemmas.Result.{IfOk-weaker}
-use Rattle.kc_macros.specs.Runs.{fault_of}
-use Rattle.kmin_texts.specs.LineDetails.{is_given, is_of_missing, sourced_on, unread}
-use Rattle.kmin_texts.specs.NumberedLines.{line_at}
-use Rattle.kmin_texts.specs.between.KeptDetails.{kept_detail}
+use Rattle.kmin_texts.proofs.Common.{inr, IfOk-weaker, fault_of, is_given, is_of_missing, sourced_on, unread, line_at, kept_detail}
 use Rattle.kmin_texts.proofs.OwnDetails.{may_also}
 use Rattle.kmin_texts.proofs.FaultSteps.{of_macro, of_missing}
 use Rattle.kmin_texts.proofs.fault_details.macro_missing.Goals as goal

@@ -1,7 +1,4 @@
-use Rattle.std.proofs.Common.{Some}
-use Rattle.kc_dotconfig_model.specs.between.Prefixes.{prefix_bytes}
-use Rattle.kmin_report.specs.Reports.{near_names}
-use Rattle.kmin_details.specs.between.Details.{line_detail}
+use Rattle.kmin_texts.proofs.Common.{Some, prefix_bytes, near_names, line_detail}
 use Rattle.kmin_texts.proofs.NoticeSteps.{at_line, hidden_on}
 use Rattle.kmin_texts.proofs.notice_details.notice_at.Goals as goal
 

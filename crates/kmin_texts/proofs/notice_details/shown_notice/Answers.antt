@@ -1,12 +1,6 @@
-use Rattle.std.proofs.Common.{◌≡◌, ℕ, List, Some, ap, map, option_map, sym, ◌∙◌}
-use Rattle.std.specs.Borrow.{Bor}
-use Rattle.std.proofs.lemmas.Result.{IfOk-weaker}
-use Rattle.kc_dotconfig_model.specs.between.Prefixes.{prefix_bytes}
+use Rattle.kmin_texts.proofs.Common.{◌≡◌, ℕ, List, Some, ap, map, option_map, sym, ◌∙◌, Bor, IfOk-weaker, prefix_bytes, near_names, utf8_line, line_detail,
+    nearest_detail}
 use Rattle.kc_tree_model.specs.Trees.{Symbol}
-use Rattle.kmin_report.specs.Reports.{near_names}
-use Rattle.kmin_texts.specs.NumberedLines.{utf8_line}
-use Rattle.kmin_details.specs.between.Details.{line_detail}
-use Rattle.kmin_texts.specs.between.NoticeDetails.{nearest_detail}
 use Rattle.kmin_texts.proofs.OwnDetails.{same_parts}
 use Rattle.kmin_texts.proofs.NoticeSteps.{named_is, nearest_on, shown_on}
 use Rattle.kmin_texts.proofs.notice_details.shown_notice.Goals as goal

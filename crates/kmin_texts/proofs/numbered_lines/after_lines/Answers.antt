@@ -1,5 +1,4 @@
-use Rattle.std.proofs.Common.{◌∙◌, arith}
-use Rattle.kc_value.specs.Lines.{pieces}
+use Rattle.kmin_texts.proofs.Common.{◌∙◌, arith, pieces}
 use Rattle.kmin_texts.proofs.NumberedLines.{drop_next}
 use Rattle.kmin_texts.proofs.numbered_lines.after_lines.Goals as goal
 

@@ -1,5 +1,4 @@
-use Rattle.std.proofs.Common.{◌≡◌, drop}
-use Rattle.kc_value.specs.Lines.{pieces}
+use Rattle.kmin_texts.proofs.Common.{◌≡◌, drop, pieces}
 use Rattle.kmin_texts.proofs.numbered_lines.after_lines.Given as goal
 
 abbrev pub invariant-loop-left : goal.invariant-loop-left

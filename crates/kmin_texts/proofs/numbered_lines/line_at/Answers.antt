@@ -1,5 +1,4 @@
-use Rattle.std.proofs.Common.{ap, sym, refl, ◌∙◌, arith, slice_get}
-use Rattle.kc_value.specs.Lines.{pieces}
+use Rattle.kmin_texts.proofs.Common.{ap, sym, refl, ◌∙◌, arith, slice_get, pieces}
 use Rattle.kmin_texts.proofs.NumberedLines.{numbered_line}
 use Rattle.kmin_texts.proofs.numbered_lines.line_at.Goals as goal
 

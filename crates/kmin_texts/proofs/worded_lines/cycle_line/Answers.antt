@@ -1,9 +1,6 @@
-use Rattle.std.proofs.Common.{◌∙◌, ap, map, option_map, string_bytes, subst}
+use Rattle.kmin_texts.proofs.Common.{◌∙◌, ap, map, option_map, string_bytes, subst, step_of, report_line, IsDetailOf, asked_by}
 use Rattle.std.specs.Global.{Vec}
-use Rattle.kmin_faults.specs.between.Steps.{step_of}
 use Rattle.kmin_faults.specs.declared.steps.Step.{Step}
-use Rattle.kmin_report.specs.between.ReportLines.{report_line}
-use Rattle.kmin_texts.specs.between.Wordings.{IsDetailOf, asked_by}
 use Rattle.kmin_texts.proofs.CycleDetails.{with_steps}
 use Rattle.kmin_texts.proofs.worded_lines.cycle_line.Goals as goal
 

@@ -1,7 +1,4 @@
-use Rattle.std.proofs.lemmas.Result.{IfOk-weaker}
-use Rattle.kmin_report.specs.between.ReportLines.{report_line}
-use Rattle.kmin_details.specs.between.Details.{line_detail}
-use Rattle.kmin_texts.specs.between.Wordings.{asked_by}
+use Rattle.kmin_texts.proofs.Common.{IfOk-weaker, report_line, line_detail, asked_by}
 use Rattle.kmin_texts.proofs.OwnDetails.{spelled}
 use Rattle.kmin_texts.proofs.worded_lines.spelled_line.Goals as goal
 

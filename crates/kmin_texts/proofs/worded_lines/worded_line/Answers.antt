@@ -1,5 +1,4 @@
-use Rattle.std.proofs.Common.{inr}
-use Rattle.kmin_texts.specs.LineDetails.{of_cycle}
+use Rattle.kmin_texts.proofs.Common.{inr, of_cycle}
 use Rattle.kmin_texts.proofs.OwnDetails.{same_detail}
 use Rattle.kmin_texts.proofs.worded_lines.worded_line.Goals as goal
 

@@ -1,6 +1,4 @@
-use Rattle.std.proofs.Common.{ap, ◌∙◌, sym, Some}
-use Rattle.std.specs.Prelude.{option_map}
-use Rattle.kc_tree_model.specs.Keywords.{keyword_in_table}
+use Rattle.kc_answers.proofs.Common.{ap, ◌∙◌, sym, Some, option_map, keyword_in_table}
 use Rattle.kc_answers.proofs.TableLemmas.{answer_items, find_answer}
 use Rattle.kc_answers.proofs.answers.Answers.answer.Goals as goal
 

@@ -1,7 +1,5 @@
-use Rattle.std.proofs.Common.{ap, ◌∙◌, map, None, ◌++◌, ◌∷◌, []}
+use Rattle.kc_answers.proofs.Common.{ap, ◌∙◌, map, None, ◌++◌, ◌∷◌, [], keyword_in_table, answer_of_entry}
 use Rattle.std.specs.Prelude.{◌≡◌}
-use Rattle.kc_tree_model.specs.Keywords.{keyword_in_table}
-use Rattle.kc_answers.specs.checker.TableView.{answer_of_entry}
 use Rattle.kc_answers.proofs.TableLemmas.{answer_items, insert_absent}
 use Rattle.kc_answers.proofs.answers.Answers.insert.Goals as goal
 

@@ -1,8 +1,6 @@
-use Rattle.std.proofs.Common.{ℕ, List, ap, ◌∙◌, rules}
-use Rattle.std.specs.Prelude.{Vec, is_none, map}
-use Rattle.std.specs.declared.alloc.Global.{Global}
+use Rattle.kc_answers.proofs.Common.{ℕ, List, ap, ◌∙◌, rules, Vec, is_none, Global, keyword_in_table}
+use Rattle.std.specs.Prelude.{map}
 use Rattle.std.proofs.lemmas.Fn.{filter_same}
-use Rattle.kc_tree_model.specs.Keywords.{keyword_in_table}
 use Rattle.kc_answers.proofs.TableLemmas.{filtered_items}
 use Rattle.kc_answers.proofs.answers.Answers.keep_open.Goals as goal
 

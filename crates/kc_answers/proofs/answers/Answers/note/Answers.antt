@@ -1,5 +1,4 @@
-use Rattle.std.proofs.Common.{true, false, ◌∷◌, [], None, sym, ap, ◌∙◌}
-use Rattle.kc_answers.specs.RunStates.{questions_of}
+use Rattle.kc_answers.proofs.Common.{true, false, ◌∷◌, [], None, sym, ap, ◌∙◌, questions_of}
 use Rattle.kc_answers.proofs.TableLemmas.{noted, questions_of_append}
 use Rattle.kc_answers.proofs.answers.Answers.note.Goals as goal
 

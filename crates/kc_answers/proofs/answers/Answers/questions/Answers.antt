@@ -1,10 +1,8 @@
-use Rattle.std.proofs.Common.{◌≡◌, ℕ, [], ◌++◌, sym, ap, ◌∙◌}
-use Rattle.std.specs.Prelude.{Vec, map}
-use Rattle.std.specs.declared.alloc.Global.{Global}
+use Rattle.kc_answers.proofs.Common.{◌≡◌, ℕ, [], ◌++◌, sym, ap, ◌∙◌, Vec, Global, questions_of}
+use Rattle.std.specs.Prelude.{map}
 use Rattle.std.specs.Map.Iter.{deref}
 use Rattle.std.proofs.lemmas.List.{append-nil}
 use Rattle.std.proofs.lemmas.Map.Iter.{rest_all}
-use Rattle.kc_answers.specs.RunStates.{questions_of}
 use Rattle.kc_answers.proofs.TableLemmas.{questions_of_keys}
 use Rattle.kc_answers.proofs.answers.Answers.questions.Goals as goal
 

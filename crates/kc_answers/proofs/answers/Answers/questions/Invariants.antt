@@ -1,7 +1,5 @@
-use Rattle.std.proofs.Common.{◌≡◌, ◌++◌}
-use Rattle.std.specs.Prelude.{ℕ, Vec, map}
-use Rattle.std.specs.declared.alloc.Global.{Global}
-use Rattle.std.specs.Map.{keys_of}
+use Rattle.kc_answers.proofs.Common.{◌≡◌, ◌++◌, Vec, Global, keys_of}
+use Rattle.std.specs.Prelude.{ℕ, map}
 use Rattle.kc_answers.proofs.answers.Answers.questions.Given as goal
 
 abbrev pub invariant-loop-question : goal.invariant-loop-question

@@ -1,9 +1,5 @@
-use Rattle.std.proofs.Common.{rules, ◌∙◌, ap, sym, inl, inr, ⊎_elim, take}
-use Rattle.kc_value.specs.declared.limits.TheConstants.{MAX_ANSWER_BYTES}
-use Rattle.kc_tree_model.specs.LogicalLines.{split_at_newlines}
-use Rattle.kc_macros_model.specs.declared.fault.AnswersFault.{AnswersFault}
-use Rattle.kc_macros_model.specs.AnswerFiles.{first_line, recorded_from}
-use Rattle.kc_answers.specs.ReadAnswers.{end_of_file}
+use Rattle.kc_answers.proofs.Common.{rules, ◌∙◌, ap, sym, inl, inr, ⊎_elim, take, MAX_ANSWER_BYTES, split_at_newlines, AnswersFault, first_line, recorded_from,
+    end_of_file}
 use Rattle.kc_answers.proofs.AnswerFileLemmas.{file_recorded, file_unfailed, file_refused, memory_has_no_line}
 use Rattle.kc_answers.proofs.answers.Answers.read.Goals as goal
 

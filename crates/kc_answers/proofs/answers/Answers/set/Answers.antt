@@ -1,7 +1,4 @@
-use Rattle.std.proofs.Common.{ap, ◌∙◌, cond, map, Some}
-use Rattle.std.specs.Prelude.{bytes_eq}
-use Rattle.kc_tree_model.specs.Keywords.{keyword_in_table}
-use Rattle.kc_answers.specs.checker.TableView.{answer_of_entry}
+use Rattle.kc_answers.proofs.Common.{ap, ◌∙◌, cond, map, Some, bytes_eq, keyword_in_table, answer_of_entry}
 use Rattle.kc_answers.proofs.TableLemmas.{answer_items}
 use Rattle.kc_answers.proofs.EntryLemmas.{inserted_at}
 use Rattle.kc_answers.proofs.answers.Answers.set.Goals as goal

@@ -1,5 +1,4 @@
-use Rattle.std.proofs.Common.{ap, ◌∙◌, map, take}
-use Rattle.kc_answers.specs.checker.TableView.{answer_of_entry}
+use Rattle.kc_answers.proofs.Common.{ap, ◌∙◌, map, take, answer_of_entry}
 use Rattle.kc_answers.proofs.TableLemmas.{take_entries}
 use Rattle.kc_answers.proofs.answers.Answers.truncate.Goals as goal
 

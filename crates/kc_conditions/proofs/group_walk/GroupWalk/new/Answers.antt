@@ -1,6 +1,5 @@
-use Rattle.std.proofs.Common.{rules, arith}
-use Rattle.std.proofs.lemmas.Grind.{common_steps}
-use Rattle.kc_expr.proofs.StoreLemmas.{represents_on}
+use Rattle.std.proofs.Common.{rules}
+use Rattle.kc_conditions.proofs.Common.{arith, common_steps, represents_on}
 use Rattle.kc_conditions.proofs.group_walk.GroupWalk.new.Goals as goal
 
 pub returns-clause-walked : goal.returns-clause-walked

@@ -1,18 +1,8 @@
-use Rattle.std.proofs.Common.{◌≡◌, ◌∙◌, List, None, [], length, reverse, arith, refl, sym, subst}
-use Rattle.std.proofs.lemmas.Grind.{common_steps}
-use Rattle.std.specs.Prelude.{slice_get}
-use Rattle.kc_tokens.specs.Languages.{is_linux_6_12}
-use Rattle.kc_expr.specs.between.Arena.{Grows}
-use Rattle.kc_expr.proofs.StoreLemmas.{represents_on}
-use Rattle.kc_parser.proofs.AppendSteps.{grows_same, on_ok}
-use Rattle.kc_statements.proofs.GrownArenas.{attribute_held}
-use Rattle.kc_tree_model.specs.Blocks.{Group, open_blocks}
-use Rattle.kc_tree_model.specs.Conditions.{conjunction_of, context, dependencies_of, prompts_of}
-use Rattle.kc_conditions.specs.checker.Conjuncts.{AreAppended}
-use Rattle.kc_conditions.specs.between.Firsts.{RepresentsPrompt}
-use Rattle.kc_conditions.specs.between.Walks.{RepresentsEnclosing, or_yes}
-use Rattle.kc_conditions.specs.declared.conditions.EnclosingConditions.{EnclosingConditions}
-use Rattle.kc_statements.proofs.ArenaGrowth.{grows_on}
+use Rattle.kc_conditions.proofs.Common.{◌≡◌, ◌∙◌, List, None, [], length, reverse, arith, refl, sym, subst, common_steps, slice_get, is_linux_6_12, Grows,
+    represents_on, grows_same, attribute_held, Group, open_blocks, conjunction_of, context, dependencies_of, AreAppended, RepresentsPrompt, RepresentsEnclosing,
+    or_yes, EnclosingConditions, grows_on}
+use Rattle.kc_parser.proofs.AppendSteps.{on_ok}
+use Rattle.kc_tree_model.specs.Conditions.{prompts_of}
 use Rattle.kc_conditions.proofs.Growth.{there_on, conjoins_there, joined_on}
 use Rattle.kc_conditions.proofs.WalkSteps.{top_shown, entry_is, ended, entered, end_side, other_side, prompt_there, prompt_represents, inside_on, around_on, what_on}
 use Rattle.kc_conditions.proofs.group_walk.GroupWalk.visit.Goals as goal

@@ -1,5 +1,4 @@
-use Rattle.std.proofs.Common.{arith}
-use Rattle.std.proofs.lemmas.Grind.{common_steps}
+use Rattle.kc_config.proofs.Common.{arith, common_steps}
 use Rattle.kc_config.proofs.config.Config.copy.Goals as goal
 
 pub invariant_of-result : goal.invariant_of-result

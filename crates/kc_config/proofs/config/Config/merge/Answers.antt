@@ -1,16 +1,6 @@
-use Rattle.std.proofs.Common.{◌≡◌, ◌++◌, ℕ, List, Option, IsTrue, length, take, ◌∙◌, sym, ap, subst, arith}
-use Rattle.std.proofs.lemmas.Grind.{common_steps, elements}
-use Rattle.std.specs.Prelude.{filter, is_none}
-use Rattle.kc_solver.specs.Changes.{changed_users, FitsChanges, IsTouched, IsCountOf, IsListOf, IsChanged}
-use Rattle.kc_solver.specs.Solutions.{user_of}
-use Rattle.kc_rules_model.specs.Dependencies.{dependencies}
-use Rattle.kc_rules_model.specs.Shapes.{user_fits}
-use Rattle.kc_rules_model.specs.declared.values.UserValue.{UserValue}
-use Rattle.kc_dotconfig_model.specs.ConfigFiles.{overlay}
-use Rattle.kc_config.specs.ConfigStates.{Configured, tree_in}
-use Rattle.kc_dotconfig.specs.Fragments.{FitsTree, changes_of, users_of}
-use Rattle.kc_dotconfig.specs.checker.UserValueOrder.{units_of}
-use Rattle.kc_config.specs.checker.Configs.{overs}
+use Rattle.kc_config.proofs.Common.{◌≡◌, ◌++◌, ℕ, List, Option, IsTrue, length, take, ◌∙◌, sym, ap, subst, arith, common_steps, elements, filter, is_none,
+    changed_users, FitsChanges, IsTouched, IsCountOf, IsListOf, IsChanged, user_of, dependencies, user_fits, UserValue, overlay, Configured, tree_in, FitsTree,
+    changes_of, users_of, units_of, overs}
 use Rattle.kc_config.proofs.MergedValues.{fits_overs}
 use Rattle.kc_config.proofs.UserValueUnits.{fits_changes}
 use Rattle.kc_config.proofs.ConfigSolutions.{solved_by, merged_kept, merged_users}

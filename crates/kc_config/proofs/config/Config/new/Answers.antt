@@ -1,5 +1,4 @@
-use Rattle.std.proofs.Common.{arith}
-use Rattle.std.proofs.lemmas.Grind.{common_steps}
+use Rattle.kc_config.proofs.Common.{arith, common_steps}
 use Rattle.kc_config.proofs.ConfigSolutions.{solved_as, none_kept}
 use Rattle.kc_config.proofs.config.Config.new.Goals as goal
 

@@ -1,13 +1,5 @@
-use Rattle.std.proofs.Common.{◌≡◌, ℕ, List, Option, None, IsTrue, length, replicate, sym, ap, subst, ◌∙◌, arith}
-use Rattle.std.proofs.lemmas.Grind.{common_steps}
-use Rattle.kc_tree_model.specs.Trees.{Tree}
-use Rattle.kc_solver.specs.Changes.{changed_users}
-use Rattle.kc_solver.specs.Solutions.{FitsUsers}
-use Rattle.kc_rules_model.specs.Shapes.{user_fits}
-use Rattle.kc_rules_model.specs.declared.values.UserValue.{UserValue}
-use Rattle.kc_rules.specs.between.SettledViews.{tree_of_settled}
-use Rattle.kc_dotconfig.specs.Fragments.{changes_of, users_of}
-use Rattle.kc_dotconfig.specs.checker.UserValueOrder.{units_of}
+use Rattle.kc_config.proofs.Common.{◌≡◌, ℕ, List, Option, None, IsTrue, length, replicate, sym, ap, subst, ◌∙◌, arith, common_steps, Tree, changed_users,
+    FitsUsers, user_fits, UserValue, tree_of_settled, changes_of, users_of, units_of}
 use Rattle.kc_config.proofs.UserValueUnits.{users_fit}
 use Rattle.kc_config.proofs.ConfigSolutions.{solved_as, fragment_kept}
 use Rattle.kc_config.proofs.config.Config.of.Goals as goal

@@ -1,13 +1,5 @@
-use Rattle.std.proofs.Common.{◌≡◌, ◌++◌, ℕ, List, Option, IsTrue, length, ◌∙◌, sym, ap, subst, arith}
-use Rattle.std.proofs.lemmas.Grind.{common_steps, elements}
-use Rattle.kc_solver.specs.Changes.{changed_users, FitsChanges, IsListOf, IsChanged, IsTouched, IsCountOf}
-use Rattle.kc_rules_model.specs.Dependencies.{dependencies}
-use Rattle.kc_rules_model.specs.Shapes.{user_fits}
-use Rattle.kc_rules_model.specs.declared.values.UserValue.{UserValue}
-use Rattle.kc_config.specs.ConfigStates.{Configured, tree_in}
-use Rattle.kc_dotconfig.specs.Fragments.{FitsTree, changes_of, users_of}
-use Rattle.kc_dotconfig.specs.checker.UserValueOrder.{units_of}
-use Rattle.kc_config.specs.checker.Configs.{clears_of}
+use Rattle.kc_config.proofs.Common.{◌≡◌, ◌++◌, ℕ, List, Option, IsTrue, length, ◌∙◌, sym, ap, subst, arith, common_steps, elements, changed_users, FitsChanges,
+    IsListOf, IsChanged, IsTouched, IsCountOf, dependencies, user_fits, UserValue, Configured, tree_in, FitsTree, changes_of, users_of, units_of, clears_of}
 use Rattle.kc_config.proofs.UserValueUnits.{fits_changes, fits_both}
 use Rattle.kc_dotconfig.proofs.WholeReads.{if_any_err}
 use Rattle.kc_config.proofs.ConfigSolutions.{solved_by, replaced_kept, replaced_users}

@@ -1,5 +1,4 @@
-use Rattle.std.proofs.Common.{arith}
-use Rattle.std.proofs.lemmas.Grind.{common_steps}
+use Rattle.kc_config.proofs.Common.{arith, common_steps}
 use Rattle.kc_config.proofs.config.Config.users.Goals as goal
 
 pub returns-clause-users : goal.returns-clause-users

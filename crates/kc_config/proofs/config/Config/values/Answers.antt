@@ -1,5 +1,4 @@
-use Rattle.std.proofs.Common.{arith}
-use Rattle.std.proofs.lemmas.Grind.{common_steps}
+use Rattle.kc_config.proofs.Common.{arith, common_steps}
 use Rattle.kc_config.proofs.config.Config.values.Goals as goal
 
 pub returns-clause-values : goal.returns-clause-values

@@ -1,7 +1,6 @@
-use Rattle.std.proofs.Common.{ap, refl}
+use Rattle.kc_config_reasons.proofs.Common.{ap, refl, unchosen, silent, meaning_view}
 use Rattle.kc_rules_model.specs.declared.values.UserValue.TheVariants.{Tri as TriUser, Text as TextUser, Member as MemberUser}
-use Rattle.kc_dotconfig_model.specs.ConfigLines.{unchosen, notice, silent}
-use Rattle.kc_dotconfig.specs.between.MeaningViews.{meaning_view}
+use Rattle.kc_dotconfig_model.specs.ConfigLines.{notice}
 use Rattle.kc_config_reasons.proofs.KeptLines.{takes_user, takes_escaped, takes_member, takes_none}
 use Rattle.kc_config_reasons.proofs.file_lines.FileLines.keep.Goals as goal
 

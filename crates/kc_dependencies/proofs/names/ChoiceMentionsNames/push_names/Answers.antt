@@ -1,8 +1,4 @@
-use Rattle.std.proofs.Common.{◌||◌, ◌∙◌, ap, arith}
-use Rattle.std.proofs.lemmas.Grind.{common_steps}
-use Rattle.std.proofs.lemmas.Result.{on_ok_weaker}
-use Rattle.kc_expr.specs.between.Visits.{passes_some_name}
-use Rattle.kc_dependencies.specs.checker.Links.{in_prompt}
+use Rattle.kc_dependencies.proofs.Common.{◌||◌, ◌∙◌, ap, arith, common_steps, on_ok_weaker, passes_some_name, in_prompt}
 use Rattle.kc_dependencies.proofs.Pushes.{two_pushed}
 use Rattle.kc_dependencies.proofs.names.ChoiceMentionsNames.push_names.Goals as goal
 

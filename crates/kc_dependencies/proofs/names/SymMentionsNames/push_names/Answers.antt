@@ -1,7 +1,4 @@
-use Rattle.std.proofs.Common.{◌||◌, ap, sym, ◌∙◌, arith}
-use Rattle.std.proofs.lemmas.Grind.{elements}
-use Rattle.std.proofs.lemmas.Result.{on_ok_weaker}
-use Rattle.kc_expr.specs.between.Visits.{passes_some_name}
+use Rattle.kc_dependencies.proofs.Common.{◌||◌, ap, sym, ◌∙◌, arith, elements, on_ok_weaker, passes_some_name}
 use Rattle.kc_dependencies.proofs.Needs.{prompts_mention}
 use Rattle.kc_dependencies.proofs.names.SymMentionsNames.push_names.Goals as goal
 

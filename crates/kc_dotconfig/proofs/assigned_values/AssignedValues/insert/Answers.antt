@@ -1,6 +1,4 @@
-use Rattle.std.proofs.Common.{◌≡◌, [], inr, sym, subst, arith}
-use Rattle.std.proofs.lemmas.Grind.{common_steps}
-use Rattle.kc_dotconfig.specs.checker.UserValueOrder.{IsAscending, AreBelow}
+use Rattle.kc_dotconfig.proofs.Common.{◌≡◌, [], inr, sym, subst, arith, common_steps, IsAscending, AreBelow}
 use Rattle.kc_dotconfig.proofs.AscendingUnits.{none_of, rises_more, pushed_is}
 use Rattle.kc_dotconfig.proofs.assigned_values.AssignedValues.insert.Goals as goal
 

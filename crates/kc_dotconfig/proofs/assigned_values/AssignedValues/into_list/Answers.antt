@@ -1,5 +1,4 @@
-use Rattle.std.proofs.Common.{arith}
-use Rattle.std.proofs.lemmas.Grind.{common_steps}
+use Rattle.kc_dotconfig.proofs.Common.{arith, common_steps}
 use Rattle.kc_dotconfig.proofs.assigned_values.AssignedValues.into_list.Goals as goal
 
 pub returns-then-is_empty : goal.returns-then-is_empty

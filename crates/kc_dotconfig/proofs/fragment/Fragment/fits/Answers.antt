@@ -1,9 +1,5 @@
-use Rattle.std.proofs.Common.{inl, inr, length, get_or, refl, sym, ap, ◌∙◌, List, ℕ, arith}
-use Rattle.std.proofs.lemmas.Grind.{common_steps}
-use Rattle.std.proofs.lemmas.Bool.{false≢true}
-use Rattle.kc_tree.specs.TreeModel.{TreeModel}
-use Rattle.kc_rules_model.specs.declared.values.UserValue.{UserValue}
-use Rattle.kc_rules.specs.between.SettledViews.{tree_of_settled}
+use Rattle.kc_dotconfig.proofs.Common.{inl, inr, length, get_or, refl, sym, ap, ◌∙◌, List, ℕ, arith, common_steps, false≢true, TreeModel, UserValue,
+    tree_of_settled}
 use Rattle.kc_dotconfig.proofs.FragmentFits.{at_item, unfit, next_is, next_rises, next_each, all_fit}
 use Rattle.kc_dotconfig.proofs.fragment.Fragment.fits.Goals.{then-unit-next-via-then-unit-next, then-unit-next-via-else-unit-next+then-unit-len, then-unit-next-via-else-unit-next+else-unit-len+then-not-user_fits}
 use Rattle.kc_dotconfig.proofs.fragment.Fragment.fits.Goals as goal

@@ -1,9 +1,4 @@
-use Rattle.std.proofs.Common.{◌≡◌, ◌<◌, ◌+◌, ℕ, IsTrue, Some, length}
-use Rattle.std.specs.Prelude.{slice_get, slice_index}
-use Rattle.kc_rules_model.specs.declared.values.UserValue.{UserValue}
-use Rattle.kc_rules_model.specs.Shapes.{user_fits}
-use Rattle.kc_rules.specs.between.SettledViews.{tree_of_settled}
-use Rattle.kc_dotconfig.specs.checker.UserValueOrder.{units_of, next_at}
+use Rattle.kc_dotconfig.proofs.Common.{◌≡◌, ◌<◌, ◌+◌, ℕ, IsTrue, Some, length, slice_get, slice_index, UserValue, user_fits, tree_of_settled, units_of, next_at}
 use Rattle.kc_dotconfig.proofs.fragment.Fragment.fits.Given as goal
 
 -- the user values checked so far fit the tree, and `next` is one more than the last unit checked

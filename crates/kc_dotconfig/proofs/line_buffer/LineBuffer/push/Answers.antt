@@ -1,5 +1,4 @@
-use Rattle.std.proofs.Common.{arith}
-use Rattle.std.proofs.lemmas.Grind.{common_steps, elements}
+use Rattle.kc_dotconfig.proofs.Common.{arith, common_steps, elements}
 use Rattle.kc_dotconfig.proofs.line_buffer.LineBuffer.push.Goals as goal
 
 pub returns-clause-ok : goal.returns-clause-ok

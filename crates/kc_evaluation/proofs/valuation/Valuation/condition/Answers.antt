@@ -1,7 +1,4 @@
-use Rattle.std.proofs.Common.{◌∙◌, arith}
-use Rattle.std.proofs.lemmas.Grind.{common_steps}
-use Rattle.kc_expr.specs.between.Arena.{node_expr}
-use Rattle.kc_evaluation.specs.checker.ValuationView.{valuation_tree, valuation_exprs, valuation_values}
+use Rattle.kc_evaluation.proofs.Common.{◌∙◌, arith, common_steps, node_expr, valuation_tree, valuation_exprs, valuation_values}
 use Rattle.kc_evaluation.proofs.HeldNames.{values_agree}
 use Rattle.kc_evaluation.proofs.valuation.Valuation.condition.Goals as goal
 

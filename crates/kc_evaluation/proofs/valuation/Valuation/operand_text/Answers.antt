@@ -1,5 +1,4 @@
-use Rattle.std.proofs.Common.{arith}
-use Rattle.std.proofs.lemmas.Grind.{elements, common_steps}
+use Rattle.kc_evaluation.proofs.Common.{arith, elements, common_steps}
 use Rattle.kc_evaluation.proofs.valuation.Valuation.operand_text.Goals as goal
 
 pub returns-in-None-look : goal.returns-in-None-look

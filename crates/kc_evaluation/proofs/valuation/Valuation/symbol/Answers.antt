@@ -1,5 +1,4 @@
-use Rattle.std.proofs.Common.{arith}
-use Rattle.std.proofs.lemmas.Grind.{elements}
+use Rattle.kc_evaluation.proofs.Common.{arith, elements}
 use Rattle.kc_evaluation.proofs.valuation.Valuation.symbol.Goals as goal
 
 pub returns-then-is_some : goal.returns-then-is_some

@@ -1,6 +1,4 @@
-use Rattle.std.proofs.Common.{◌∙◌, map, ap}
-use Rattle.kc_macros_model.specs.Variables.{with_variable}
-use Rattle.kc_macros.specs.between.Variables.{bindings_of, entry_of, variable_of}
+use Rattle.kc_macros.proofs.Common.{◌∙◌, map, ap, with_variable, bindings_of, entry_of, variable_of}
 use Rattle.kc_macros.proofs.BindingLemmas.{variable_bound}
 use Rattle.kc_macros.proofs.bindings.Bindings.bind.Goals as goal
 

@@ -1,6 +1,4 @@
-use Rattle.std.proofs.Common.{◌∙◌, ap, sym}
-use Rattle.std.specs.Prelude.{option_map}
-use Rattle.kc_macros.specs.between.Variables.{bindings_of, variable_of}
+use Rattle.kc_macros.proofs.Common.{◌∙◌, ap, sym, option_map, bindings_of, variable_of}
 use Rattle.kc_macros.proofs.BindingLemmas.{find_variable, copied_variable}
 use Rattle.kc_macros.proofs.bindings.Bindings.get.Goals as goal
 

@@ -1,5 +1,4 @@
-use Rattle.std.proofs.Common.{ap, map}
-use Rattle.kc_macros.specs.between.Variables.{bindings_of, entry_of}
+use Rattle.kc_macros.proofs.Common.{ap, map, bindings_of, entry_of}
 use Rattle.kc_macros.proofs.bindings.Bindings.new.Goals as goal
 
 pub returns : goal.returns

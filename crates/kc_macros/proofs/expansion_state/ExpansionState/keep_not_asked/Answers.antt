@@ -1,8 +1,6 @@
-use Rattle.std.proofs.Common.{ℕ, ap, ◌∙◌}
-use Rattle.std.specs.Prelude.{Vec, map}
-use Rattle.std.specs.declared.alloc.Global.{Global}
+use Rattle.kc_macros.proofs.Common.{ℕ, ap, ◌∙◌, Vec, Global, RunState}
+use Rattle.std.specs.Prelude.{map}
 use Rattle.kc_macros_model.specs.Worlds.{not_in}
-use Rattle.kc_answers.specs.RunStates.{RunState}
 use Rattle.kc_answers.proofs.TableLemmas.{missing_are_not_in}
 use Rattle.kc_macros.proofs.expansion_state.ExpansionState.keep_not_asked.Goals as goal
 

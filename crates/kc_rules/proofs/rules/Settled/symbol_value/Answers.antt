@@ -1,7 +1,6 @@
-use Rattle.std.proofs.Common.{Some, ap, cond, ◌∙◌}
+use Rattle.kc_rules.proofs.Common.{Some, ap, cond, ◌∙◌, is_tri_kind}
 use Rattle.std.specs.Option.{option_map}
 use Rattle.kc_value.specs.declared.value.Value.TheVariants.{Tri as TriValue, Text as TextValue}
-use Rattle.kc_value.specs.Kinds.{is_tri_kind}
 use Rattle.kc_rules.specs.between.SettledViews.{value_view}
 use Rattle.kc_rules.proofs.rules.Settled.symbol_value.Goals as goal
 

@@ -1,7 +1,4 @@
-use Rattle.std.proofs.Common.{◌≡◌, ◌∷◌, ◌++◌, [], sym, ◌∙◌, arith}
-use Rattle.std.proofs.lemmas.Grind.{common_steps}
-use Rattle.kc_rules_model.specs.Reports.{is_unmet}
-use Rattle.kc_rules.specs.between.SettledViews.{tree_of_settled}
+use Rattle.kc_rules.proofs.Common.{◌≡◌, ◌∷◌, ◌++◌, [], sym, ◌∙◌, arith, common_steps, is_unmet, tree_of_settled}
 use Rattle.kc_rules.proofs.Filters.{filter_kept, filter_skipped}
 use Rattle.kc_rules.proofs.rules.Settled.unmet.Goals as goal
 use Rattle.kc_rules.proofs.rules.Settled.unmet.Goals.{then-is_unmet+in_ok-push, else-is_unmet}

@@ -1,6 +1,4 @@
-use Rattle.std.proofs.Common.{◌∙◌, arith}
-use Rattle.std.proofs.lemmas.Grind.{elements}
-use Rattle.kc_tree.specs.between.Views.{symbol_view}
+use Rattle.kc_rules.proofs.Common.{◌∙◌, arith, elements, symbol_view}
 use Rattle.kc_rules.proofs.UserFits.{fits_symbol, fits_choice}
 use Rattle.kc_rules.proofs.rules.Settled.user_fits.Goals as goal
 

@@ -1,6 +1,4 @@
-use Rattle.std.proofs.Common.{ap, arith}
-use Rattle.std.proofs.lemmas.Grind.{elements}
-use Rattle.kc_value.specs.Kinds.{is_tri_kind}
+use Rattle.kc_rules.proofs.Common.{ap, arith, elements, is_tri_kind}
 use Rattle.kc_rules.proofs.Blanks.{blank_tri, blank_text, blank_member}
 use Rattle.kc_rules.proofs.systems.SettledSystem.blank.Goals as goal
 

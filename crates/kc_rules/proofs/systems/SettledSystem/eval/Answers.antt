@@ -1,8 +1,6 @@
-use Rattle.std.proofs.Common.{sym, subst, IsTrue, rules}
+use Rattle.kc_rules.proofs.Common.{sym, subst, IsTrue, rules, ∥∥₁_elim, IfOk-weaker}
 use Rattle.std.specs.Option.{option_copied}
 use Rattle.std.proofs.Math.Bool.{Bool-set}
-use Rattle.std.proofs.Math.Logic.{∥∥₁_elim}
-use Rattle.std.proofs.lemmas.Result.{IfOk-weaker}
 use Rattle.kc_rules_model.specs.Shapes.{value_fits}
 use Rattle.kc_rules_model.proofs.FittingValues.{rules_fit}
 use Rattle.kc_rules.proofs.systems.SettledSystem.eval.Goals as goal

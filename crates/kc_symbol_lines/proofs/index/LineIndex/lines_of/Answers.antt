@@ -1,14 +1,7 @@
-use Rattle.std.proofs.Common.{◌≡◌, ℕ, List, cond, map, take, refl, ap, sym, ◌∙◌, subst, arith}
-use Rattle.std.specs.Prelude.{is_some, All}
-use Rattle.kc_tokens.specs.Languages.{is_linux_6_12}
-use Rattle.kc_tree_model.specs.Conditions.{GroupInContext}
-use Rattle.kc_tree_model.specs.Contents.{contents_of, definitions_of}
+use Rattle.kc_symbol_lines.proofs.Common.{◌≡◌, ℕ, List, cond, map, take, refl, ap, sym, ◌∙◌, subst, arith, is_some, All, is_linux_6_12, GroupInContext,
+    contents_of, definitions_of, SymbolLines, position_view, HasBlocks, AreDefinitionLines}
 use Rattle.kc_tree.specs.between.GroupedItems.{items_at}
 use Rattle.kc_tree.specs.between.Views.{symbol_view}
-use Rattle.kc_symbol_lines.specs.declared.located.SymbolLines.{SymbolLines}
-use Rattle.kc_symbol_lines.specs.between.LinesView.{position_view}
-use Rattle.kc_symbol_lines.specs.checker.Blocks.{HasBlocks}
-use Rattle.kc_symbol_lines.specs.checker.Definitions.{AreDefinitionLines}
 use Rattle.kc_symbol_lines.proofs.IndexLaws.{many_symbols, symbol_name, symbol_choice, numbers_below, own_prompts_held, own_direct_held, kept_held, lines_are}
 use Rattle.kc_symbol_lines.proofs.index.LineIndex.lines_of.Goals as goal
 

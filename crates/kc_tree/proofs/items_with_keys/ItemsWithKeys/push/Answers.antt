@@ -1,5 +1,4 @@
-use Rattle.std.proofs.Common.{arith}
-use Rattle.std.proofs.lemmas.Grind.{common_steps}
+use Rattle.kc_tree.proofs.Common.{arith, common_steps}
 use Rattle.kc_tree.proofs.items_with_keys.ItemsWithKeys.push.Goals as goal
 
 pub returns-then-is_err-clause-same_items : goal.returns-then-is_err-clause-same_items

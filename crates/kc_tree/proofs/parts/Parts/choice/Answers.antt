@@ -1,10 +1,5 @@
-use Rattle.std.proofs.Common.{◌≡◌, ◌∙◌, refl, arith}
-use Rattle.std.proofs.lemmas.Option.{slice_get_read}
+use Rattle.kc_tree.proofs.Common.{◌≡◌, ◌∙◌, refl, arith, slice_get_read, slice_index, get_or_default_zero, MemberDefaultFits, choice_from_row}
 use Rattle.std.specs.Prelude.{◌<◌, length}
-use Rattle.std.specs.Prelude.{slice_index}
-use Rattle.std.proofs.lemmas.Grind.{get_or_default_zero}
-use Rattle.kc_tree.specs.between.Views.{MemberDefaultFits}
-use Rattle.kc_tree.specs.between.PartsView.{choice_from_row}
 use Rattle.kc_tree.proofs.RowViews.{seen_get, all_at}
 use Rattle.kc_tree.proofs.parts.Parts.choice.Goals as goal
 

@@ -1,8 +1,5 @@
-use Rattle.std.proofs.Common.{refl, arith}
-use Rattle.std.proofs.lemmas.Grind.{common_steps, elements}
-use Rattle.std.proofs.lemmas.Option.{slice_get_read}
+use Rattle.kc_tree.proofs.Common.{refl, arith, common_steps, elements, slice_get_read, entry_from_row}
 use Rattle.kc_tree_model.proofs.Consistency.Lists.{map-get}
-use Rattle.kc_tree.specs.between.PartsView.{entry_from_row}
 use Rattle.kc_tree.proofs.parts.Parts.entry.Goals as goal
 
 pub returns-in-Definition-clause-entry : goal.returns-in-Definition-clause-entry

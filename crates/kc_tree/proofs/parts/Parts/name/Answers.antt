@@ -1,9 +1,6 @@
-use Rattle.std.proofs.Common.{refl, arith, ap, sym, ◌∙◌, Some}
-use Rattle.std.proofs.lemmas.Grind.{common_steps}
-use Rattle.std.proofs.lemmas.Option.{slice_get_read}
+use Rattle.kc_tree.proofs.Common.{refl, arith, ap, sym, ◌∙◌, Some, common_steps, slice_get_read, symbol_from_row}
 use Rattle.std.specs.Prelude.{option_map}
 use Rattle.kc_tree_model.specs.Trees as tree
-use Rattle.kc_tree.specs.between.PartsView.{symbol_from_row}
 use Rattle.kc_tree.proofs.RowViews.{seen_get}
 use Rattle.kc_tree.proofs.parts.Parts.name.Goals as goal
 

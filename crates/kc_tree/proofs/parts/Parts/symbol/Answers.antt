@@ -1,13 +1,8 @@
-use Rattle.std.proofs.Common.{refl, arith}
-use Rattle.std.proofs.lemmas.Grind.{common_steps}
-use Rattle.std.proofs.lemmas.Option.{slice_get_read}
+use Rattle.kc_tree.proofs.Common.{refl, arith, common_steps, slice_get_read, DefaultFits, RangeFits, HasOperands, ReverseDependencyFits, items_at,
+    symbol_from_row, SymbolRow}
 use Rattle.std.proofs.lemmas.List.Elements.{All-get_or}
 use Rattle.std.specs.Prelude.{◌<◌, length}
 use Rattle.kc_expr.specs.between.Arena.{node_expr}
-use Rattle.kc_tree.specs.between.Views.{DefaultFits, RangeFits, HasOperands, ReverseDependencyFits}
-use Rattle.kc_tree.specs.between.GroupedItems.{items_at}
-use Rattle.kc_tree.specs.between.PartsView.{symbol_from_row}
-use Rattle.kc_tree.specs.declared.parts.SymbolRow.{SymbolRow}
 use Rattle.kc_tree.proofs.RowViews.{seen_get, all_at, mapped_own, all_own}
 use Rattle.kc_tree.proofs.parts.Parts.symbol.Goals as goal
 

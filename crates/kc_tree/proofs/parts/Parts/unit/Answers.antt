@@ -1,5 +1,4 @@
-use Rattle.std.proofs.Common.{arith}
-use Rattle.std.proofs.lemmas.Grind.{elements}
+use Rattle.kc_tree.proofs.Common.{arith, elements}
 use Rattle.kc_tree.proofs.parts.Parts.unit.Goals as goal
 
 pub returns-clause-unit : goal.returns-clause-unit

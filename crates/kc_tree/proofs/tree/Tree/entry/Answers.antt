@@ -1,5 +1,4 @@
-use Rattle.std.proofs.Common.{arith}
-use Rattle.std.proofs.lemmas.Grind.{elements}
+use Rattle.kc_tree.proofs.Common.{arith, elements}
 use Rattle.kc_tree.proofs.RowViews.{symbols_length, choices_length}
 use Rattle.kc_tree.proofs.tree.Tree.entry.Goals as goal
 

@@ -1,7 +1,4 @@
-use Rattle.std.proofs.Common.{◌∙◌, sym, ◌≡◌, Some, arith}
-use Rattle.std.proofs.lemmas.Grind.{common_steps}
-use Rattle.kc_expr.specs.Lookup.{index_of_name}
-use Rattle.kc_tree.specs.between.PartsView.{tree_from_rows}
+use Rattle.kc_tree.proofs.Common.{◌∙◌, sym, ◌≡◌, Some, arith, common_steps, index_of_name, tree_from_rows}
 use Rattle.kc_tree.proofs.SymbolNames.{reported_by_place}
 use Rattle.kc_tree.proofs.tree.Tree.find.Goals as goal
 

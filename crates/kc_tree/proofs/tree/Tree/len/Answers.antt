@@ -1,5 +1,4 @@
-use Rattle.std.proofs.Common.{length, arith, ap}
-use Rattle.kc_tree.specs.TreeModel.{TreeModel}
+use Rattle.kc_tree.proofs.Common.{length, arith, ap, TreeModel}
 use Rattle.kc_tree.proofs.RowViews.{units_length}
 use Rattle.kc_tree.proofs.tree.Tree.len.Goals as goal
 

@@ -1,6 +1,4 @@
-use Rattle.std.proofs.Common.{arith}
-use Rattle.std.proofs.lemmas.Grind.{elements}
-use Rattle.kc_tree.specs.between.PartsView.{tree_from_rows}
+use Rattle.kc_tree.proofs.Common.{arith, elements, tree_from_rows}
 use Rattle.kc_tree.proofs.SymbolNames.{reported_at, reported_past, reported_there}
 use Rattle.kc_tree.proofs.tree.Tree.symbol_at.Goals as goal
 

@@ -1,5 +1,4 @@
-use Rattle.std.proofs.Common.{arith}
-use Rattle.std.proofs.lemmas.Grind.{common_steps}
+use Rattle.kc_tree.proofs.Common.{arith, common_steps}
 use Rattle.kc_tree.proofs.RowViews.{symbols_length, choices_length}
 use Rattle.kc_tree.proofs.tree.Tree.unit.Goals as goal
 

@@ -1,5 +1,4 @@
-use Rattle.std.proofs.Common.{arith}
-use Rattle.std.proofs.lemmas.Grind.{common_steps}
+use Rattle.kc_tree.proofs.Common.{arith, common_steps}
 use Rattle.kc_tree.proofs.tree_lists.Attributes.grouped.Goals as goal
 
 pub grouped-requires-clause-keys : goal.grouped-requires-clause-keys

@@ -1,11 +1,5 @@
-use Rattle.std.proofs.Common.{◌∙◌, ap, sym, subst, arith}
-use Rattle.std.proofs.lemmas.Grind.{common_steps}
-use Rattle.kc_tree_model.specs.Trees.{Tree}
-use Rattle.kc_tree.specs.TreeModel.{TreeModel}
+use Rattle.kc_tree.proofs.Common.{◌∙◌, ap, sym, subst, arith, common_steps, Tree, TreeModel, AreSoundParts, tree_from_rows, Parts}
 use Rattle.kc_tree.specs.checker.GatheredLists.{parts_made}
-use Rattle.kc_tree.specs.between.StoredParts.{AreSoundParts}
-use Rattle.kc_tree.specs.between.PartsView.{tree_from_rows}
-use Rattle.kc_tree.specs.declared.parts.Parts.{Parts}
 use Rattle.kc_tree.proofs.FinishedTables.{kept, whole_same}
 use Rattle.kc_tree.proofs.tree_lists.TreeLists.into_tree.Goals as goal
 

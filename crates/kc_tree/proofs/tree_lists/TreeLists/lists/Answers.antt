@@ -1,5 +1,4 @@
-use Rattle.std.proofs.Common.{◌≡◌, arith, length}
-use Rattle.std.proofs.lemmas.Grind.{common_steps, elements}
+use Rattle.kc_tree.proofs.Common.{◌≡◌, arith, length, common_steps, elements}
 use Rattle.kc_tree.proofs.tree_lists.TreeLists.lists.Goals as goal
 
 pub returns : goal.returns

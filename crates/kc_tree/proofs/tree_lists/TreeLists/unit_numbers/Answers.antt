@@ -1,5 +1,4 @@
-use Rattle.std.proofs.Common.{◌≡◌, arith, length}
-use Rattle.kc_tree.specs.checker.UnitNumbers.{AreNumbered}
+use Rattle.kc_tree.proofs.Common.{◌≡◌, arith, length, AreNumbered}
 use Rattle.kc_tree.proofs.UnitLists.{symbols_there, choices_there, units_apart, members_there, units_had}
 use Rattle.kc_tree.proofs.tree_lists.TreeLists.unit_numbers.Goals as goal
 

@@ -1,5 +1,4 @@
-use Rattle.std.proofs.Common.{◌∙◌, arith}
-use Rattle.std.proofs.lemmas.Grind.{elements}
+use Rattle.kc_value.proofs.Common.{◌∙◌, arith, elements}
 use Rattle.kc_value.proofs.value.Text.as_str.Goals as goal
 
 pub returns-clause-characters : goal.returns-clause-characters

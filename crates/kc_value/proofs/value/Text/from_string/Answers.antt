@@ -1,5 +1,4 @@
-use Rattle.std.proofs.Common.{refl, arith}
-use Rattle.std.proofs.lemmas.Grind.{common_steps}
+use Rattle.kc_value.proofs.Common.{refl, arith, common_steps}
 use Rattle.kc_value.proofs.value.Text.from_string.Goals as goal
 
 pub returns-clause-text : goal.returns-clause-text

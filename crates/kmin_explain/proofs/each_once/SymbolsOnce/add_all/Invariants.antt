@@ -1,6 +1,4 @@
-use Rattle.std.proofs.Common.{◌≡◌, length, drop}
-use Rattle.kmin_explain.specs.Names.{each_once_after}
-use Rattle.kmin_explain.specs.checker.Marks.{AreMarked}
+use Rattle.kmin_explain.proofs.Common.{◌≡◌, length, drop, each_once_after, AreMarked}
 use Rattle.kmin_explain.proofs.each_once.SymbolsOnce.add_all.Given as goal
 
 abbrev pub invariant-loop-s : goal.invariant-loop-s

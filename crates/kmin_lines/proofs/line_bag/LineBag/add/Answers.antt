@@ -1,8 +1,4 @@
-use Rattle.std.proofs.Common.{◌≡◌, [], ◌∷◌, ◌+◌, cond, Some, ap, sym, ◌∙◌, arith, length-append}
-use Rattle.std.specs.Str.{bytes_eq}
-use Rattle.std.proofs.lemmas.Map.Text.{hash_map_updates_str}
-use Rattle.indexmap.specs.IndexMap.{get_by}
-use Rattle.kmin_lines.specs.checker.Bags.{times_among}
+use Rattle.kmin_lines.proofs.Common.{◌≡◌, [], ◌∷◌, ◌+◌, cond, Some, ap, sym, ◌∙◌, arith, length-append, bytes_eq, hash_map_updates_str, get_by, times_among}
 use Rattle.kmin_lines.proofs.BagLemmas.{added, times-le-length}
 use Rattle.kmin_lines.proofs.line_bag.LineBag.add.Goals as goal
 

@@ -1,6 +1,4 @@
-use Rattle.std.proofs.Common.{◌≡◌, ℕ, List, ◌++◌, length}
-use Rattle.kmin_lines.specs.Lines.{lines_of}
-use Rattle.kmin_lines.specs.checker.Bags.{HasLines}
+use Rattle.kmin_lines.proofs.Common.{◌≡◌, ℕ, List, ◌++◌, length, lines_of, HasLines}
 use Rattle.kmin_lines.proofs.line_bag.LineBag.of.Given as goal
 
 abbrev pub invariant-loop-line : goal.invariant-loop-line

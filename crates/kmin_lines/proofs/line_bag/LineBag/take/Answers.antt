@@ -1,8 +1,5 @@
-use Rattle.std.proofs.Common.{◌≡◌, ◌<◌, subst, sym, arith}
-use Rattle.std.specs.Str.{bytes_eq}
-use Rattle.std.proofs.lemmas.Map.Text.{hash_map_updates_str}
-use Rattle.indexmap.specs.IndexMap.{get_by}
-use Rattle.kmin_lines.specs.checker.Bags.{HasLines, times_among}
+use Rattle.std.proofs.Common.{subst}
+use Rattle.kmin_lines.proofs.Common.{◌≡◌, ◌<◌, sym, arith, bytes_eq, hash_map_updates_str, get_by, HasLines, times_among}
 use Rattle.kmin_lines.proofs.BagLemmas.{absent, taken, shorter}
 use Rattle.kmin_lines.proofs.line_bag.LineBag.take.Goals as goal
 
