@@ -113,19 +113,11 @@ value_in_world w newlines answers {p = p} {x = x} h e = related_values h (ends_a
 -- an event doesn't ask the question `question` in a world that leaves it open
 abbrev pub Spares : World → (question : List ℕ) → Event → Type 0
 Spares w question (ask at other) = w.answer other ≡ None → other ≡ question → ⊥
-Spares w question (spend at work) = Unit {0}
-Spares w question (report notice) = Unit {0}
-Spares w question (read_file path) = Unit {0}
-Spares w question (find_file path) = Unit {0}
-Spares w question (list_folder folder) = Unit {0}
+Spares w question x = Unit {0}
 
 pub spared : (w : World) (question : List ℕ) (e : Event) → question_of e ≡ [] → Spares w question e
 spared w question (ask at other) n = absurd (let z : ⊥ = cc in z)
-spared w question (spend at work) n = tt
-spared w question (report notice) n = tt
-spared w question (read_file path) n = tt
-spared w question (find_file path) n = tt
-spared w question (list_folder folder) n = tt
+spared w question x n = tt
 
 module _ (w more : World) (ext : Extends w more) (question : List ℕ) (unanswered : more.answer question ≡ None) where
   pub not_this : (other : List ℕ) → if_unanswered other (more.answer other) ≡ [] → other ≡ question → ⊥

@@ -7,7 +7,7 @@ use Rattle.std.specs.Cmp.{first_so, second_so}
 use Rattle.std.proofs.lemmas.Bool.{eqb-true}
 use Rattle.kc_tree_model.specs.TreeLookup.{is_name_byte}
 use Rattle.kc_macros_model.specs.Variables.{is_environment_name}
-use Rattle.kc_macros_model.specs.LineTokens.{LineToken, gap, run, quoted, other, broken, line_tokens}
+use Rattle.kc_macros_model.specs.LineTokens.{LineToken, quoted, line_tokens}
 use Rattle.kc_macros_model.specs.EnvironmentLines.{solid_tokens, is_run, is_equals_sign, quoted_name, asked_after_sign, asked_after_env, asked_after_option, asked_by, environment_asked, environment_line, meant_line}
 use Rattle.kc_macros_model.proofs.CleanTexts.{IsClean, clean, clean_none, clean_cons, clean_append}
 
@@ -25,10 +25,7 @@ quoted_names (quoted quote s) name e = by_test (is_environment_name s) refl e
     by_test : (b : Bool) → is_environment_name s ≡ b → cond b (Some s) None ≡ Some name → Names name
     by_test true h e = let same : s ≡ name = cc in subst Names same h
     by_test false h e = let z : ⊥ = cc in absurd z
-quoted_names (gap s) name e = let z : ⊥ = cc in absurd z
-quoted_names (run s) name e = let z : ⊥ = cc in absurd z
-quoted_names (other s) name e = let z : ⊥ = cc in absurd z
-quoted_names (broken s) name e = let z : ⊥ = cc in absurd z
+quoted_names x name e = let z : ⊥ = cc in absurd z
 
 sign_names : (ts : List LineToken) (name : List ℕ) → asked_after_sign ts ≡ Some name → Names name
 sign_names [] name e = let z : ⊥ = cc in absurd z

@@ -15,10 +15,7 @@ use Rattle.kc_macros_model.proofs.LineMatches.{TokenNoLess, same_token, quoted_t
 
 abbrev pub is_source : LineForm → Bool
 is_source (sources sort v) = true
-is_source plain = false
-is_source (bare_prompt s) = false
-is_source (replaced_by s) = false
-is_source (named_choice s) = false
+is_source x = false
 
 -- of two forms of lines neither sources files, or both do so in the same way and the second by a path that is no less known
 pub data FormNoLess (lacking newlines : Bool) : LineForm → LineForm → Type 0 where

@@ -89,10 +89,7 @@ module _ (at : Place) (b : Bindings) where
   unfolding gaps_of
   gaps_content may_assign [] e = refl
   gaps_content may_assign (gap s ∷ ts) e = gap_content may_assign s ts (returns (tokens (gaps_of ts))) (gaps_content may_assign ts e)
-  gaps_content may_assign (run s ∷ ts) e = absurd (let z : ⊥ = cc in z)
-  gaps_content may_assign (quoted quote s ∷ ts) e = absurd (let z : ⊥ = cc in z)
-  gaps_content may_assign (other s ∷ ts) e = absurd (let z : ⊥ = cc in z)
-  gaps_content may_assign (broken s ∷ ts) e = absurd (let z : ⊥ = cc in z)
+  gaps_content may_assign x e = absurd (let z : ⊥ = cc in z)
 
 -- the bytes of a first token, and the tokens after it
 token_fits : {t : LineToken} {ts : List LineToken} → AreCleanTokens (t ∷ ts) → IsClean (token_bytes t)

@@ -15,7 +15,7 @@ use Rattle.kc_macros_model.specs.declared.token_sort.TokenSort.TheVariants.{Word
 use Rattle.kc_macros_model.specs.WrittenTokens.{WrittenToken, written_as}
 use Rattle.kc_macros_model.specs.Assignments.{LineContent, tokens, is_gap, line_content}
 use Rattle.kc_macros_model.specs.EnvironmentLines.{environment_asked, meant_line}
-use Rattle.kc_macros_model.specs.LineForms.{SourceSort, LineForm, plain, bare_prompt, replaced_by, named_choice, sources, is_word, is_path, form_by_word, form_of, without_gaps, with_nth_token, line_bytes, is_help_line}
+use Rattle.kc_macros_model.specs.LineForms.{SourceSort, LineForm, plain, named_choice, sources, is_word, is_path, form_by_word, form_of, without_gaps, with_nth_token, line_bytes, is_help_line}
 use Rattle.kc_macros_model.specs.PathPatterns.{is_pattern}
 use Rattle.kc_macros_model.specs.ReadingStates.{ReadingState, Progress, progress, WrittenLine, written_line}
 use Rattle.kc_macros_model.specs.TreeExpansion.{place, SourceReader, form_written, short_line, tokens_written, content_written, bytes_of_lines, lines_written, newlines_of, help_after, lines_read}
@@ -69,10 +69,7 @@ short_stays at help text new s e h =
 
 pub plain_form_is : (f : LineForm) → is_plain_form f ≡ true → f ≡ plain
 plain_form_is plain e = refl
-plain_form_is (bare_prompt text) e = let z : ⊥ = cc in absurd z
-plain_form_is (replaced_by text) e = let z : ⊥ = cc in absurd z
-plain_form_is (named_choice name) e = let z : ⊥ = cc in absurd z
-plain_form_is (sources sort path) e = let z : ⊥ = cc in absurd z
+plain_form_is x e = let z : ⊥ = cc in absurd z
 
 -- a plain line that sources nothing and isn't too long is written as it is
 pub plain_line_stays : (sub : SourceReader) (at : Place) (continued : Bool) (text : List ℕ) (s : ReadingState)

@@ -191,9 +191,7 @@ known_as_it_is (run s) = by_test (list_any is_plain_dollar (items false 0 s))
     by_test : (b : Bool) → is_unknown (cond b (written_as Other s []) (written_as Word s s)) ≡ false
     by_test true = refl
     by_test false = refl
-known_as_it_is (quoted quote s) = refl
-known_as_it_is (other s) = refl
-known_as_it_is (broken s) = refl
+known_as_it_is x = refl
 
 none_unknown : (ts : List LineToken) → list_any is_unknown (without_gaps (map token_as_it_is ts)) ≡ false
 none_unknown [] = refl

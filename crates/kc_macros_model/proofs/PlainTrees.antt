@@ -12,7 +12,7 @@ use Rattle.kc_tree_model.specs.LogicalLines.{PhysicalLine, split_at_newlines, wi
 use Rattle.kc_macros_model.specs.declared.fault.MacroKind.{MacroKind}
 use Rattle.kc_macros_model.specs.declared.fault.MacroKind.TheVariants.{MissingFile, SourceLoop, TooDeep, TooMany}
 use Rattle.kc_value.specs.declared.limits.TheConstants.{MAX_TEXT_BYTES, MAX_FILES, MAX_TREE_BYTES, MAX_OPEN_FILES, MAX_WORK}
-use Rattle.kc_macros_model.specs.Programs.{Place, Fault, Answer, spend, report, ask, read_file, find_file, list_folder, Program, returns, fails, stops, does, ◌>>=◌}
+use Rattle.kc_macros_model.specs.Programs.{Place, Fault, Answer, read_file, Program, returns, fails, stops, does, ◌>>=◌}
 use Rattle.kc_macros_model.specs.Expansion.{fault}
 use Rattle.kc_macros_model.specs.LineTokens.{line_tokens}
 use Rattle.kc_macros_model.specs.declared.token_sort.TokenSort.TheVariants.{Word}
@@ -38,11 +38,7 @@ OnlyReads w P (returns x) = P x
 OnlyReads w P (fails f) = is_fault_of_sources f.kind ≡ true
 OnlyReads w P stops = ⊥
 OnlyReads w P (does (read_file path) k) = OnlyReads w P (k (w.bytes path))
-OnlyReads w P (does (spend at work) k) = ⊥
-OnlyReads w P (does (report notice) k) = ⊥
-OnlyReads w P (does (ask at question) k) = ⊥
-OnlyReads w P (does (find_file path) k) = ⊥
-OnlyReads w P (does (list_folder folder) k) = ⊥
+OnlyReads w P x = ⊥
 
 only_both : {A B : Type 0} (w : World) (Q : A → Type 0) (P : B → Type 0) (p : Program A) (f : A → Program B) → OnlyReads w Q p
     → ((x : A) → Q x → OnlyReads w P (f x)) → OnlyReads w P (p >>= f)
@@ -50,11 +46,7 @@ only_both w Q P (returns x) f h k = k x h
 only_both w Q P (fails g) f h k = h
 only_both w Q P stops f h k = absurd h
 only_both w Q P (does (read_file path) n) f h k = only_both w Q P (n (w.bytes path)) f h k
-only_both w Q P (does (spend at work) n) f h k = absurd h
-only_both w Q P (does (report notice) n) f h k = absurd h
-only_both w Q P (does (ask at question) n) f h k = absurd h
-only_both w Q P (does (find_file path) n) f h k = absurd h
-only_both w Q P (does (list_folder folder) n) f h k = absurd h
+only_both w Q P x f h k = absurd h
 
 -- the outcome of a program that only reads files: no notices, no questions, and a value with the fact `P` or a fault of sourcing
 -- files
@@ -88,11 +80,7 @@ module _ {A : Type 0} (w : World) (P : A → Type 0) where
   quiet_outcome left stops h = absurd h
   quiet_outcome left (does (read_file path) k) h =
       let q = quiet_outcome left (k (w.bytes path)) h in record { notices = q.notices; questions = q.questions; value = q.value; faults = q.faults }
-  quiet_outcome left (does (spend at work) k) h = absurd h
-  quiet_outcome left (does (report notice) k) h = absurd h
-  quiet_outcome left (does (ask at question) k) h = absurd h
-  quiet_outcome left (does (find_file path) k) h = absurd h
-  quiet_outcome left (does (list_folder folder) k) h = absurd h
+  quiet_outcome left x h = absurd h
 
   -- the outcome of a program that only reads files is the same under any answers
   same_outcome : (answer : List ℕ → Option Answer) (left : ℕ) (p : Program A) → OnlyReads w P p → outcome true (record w { answer = answer }) left p
@@ -101,11 +89,7 @@ module _ {A : Type 0} (w : World) (P : A → Type 0) where
   same_outcome answer left (fails g) h = refl
   same_outcome answer left stops h = refl
   same_outcome answer left (does (read_file path) k) h = ap (after_event (read_file path)) (same_outcome answer left (k (w.bytes path)) h)
-  same_outcome answer left (does (spend at work) k) h = absurd h
-  same_outcome answer left (does (report notice) k) h = absurd h
-  same_outcome answer left (does (ask at question) k) h = absurd h
-  same_outcome answer left (does (find_file path) k) h = absurd h
-  same_outcome answer left (does (list_folder folder) k) h = absurd h
+  same_outcome answer left x h = absurd h
 
 -- faults of sources, and what holds where there is none
 module _ (open_files : List (List ℕ)) (s : ReadingState) (path : List ℕ) where

@@ -22,12 +22,7 @@ unquoted_kind : (kind : TokenKind) (text : List ℕ) (start stop : ℕ) → is_h
     (keyword_of (record { kind = kind; start = start; stop = stop; text = text })) ≡ true → IsUnquoted kind
 unquoted_kind Word text start stop h = λ e. cc
 unquoted_kind Quoted text start stop h = cc
-unquoted_kind (Relation op) text start stop h = λ e. cc
-unquoted_kind Not text start stop h = λ e. cc
-unquoted_kind And text start stop h = λ e. cc
-unquoted_kind Or text start stop h = λ e. cc
-unquoted_kind Open text start stop h = λ e. cc
-unquoted_kind Close text start stop h = λ e. cc
+unquoted_kind x text start stop h = λ e. cc
 
 unquoted_help : (ts : List Lexeme) → is_help ts ≡ true → AllKinds IsUnquoted ts
 unquoted_help [] h = tt

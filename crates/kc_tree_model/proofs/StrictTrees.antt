@@ -206,9 +206,7 @@ module _ (version : LinuxVersion) where
   wider_kinds true None h = refl
   wider_kinds true (Some Boolean) h = refl
   wider_kinds true (Some Tristate) h = refl
-  wider_kinds true (Some Text) h = h
-  wider_kinds true (Some Int) h = h
-  wider_kinds true (Some Hex) h = h
+  wider_kinds true w h = h
 
   member_test : (m n x y : Bool) → (m ≡ false → n ≡ false) → (m || (x && true)) ≡ false → (n || (x && y)) ≡ false
   member_test true n x y w h = cc
@@ -239,14 +237,7 @@ module _ (version : LinuxVersion) where
     head_same : (w : GroupHead) → elim w as (λ _. List TreeFault) [ of_head h ↦ faults_of_head Strict c p h | file_end ↦ [] ] ≡ []
         → elim w as (λ _. List TreeFault) [ of_head h ↦ faults_of_head (Linux version) c p h | file_end ↦ [] ] ≡ []
     head_same (of_head (config name)) h = lines_same name h
-    head_same (of_head choice) h = h
-    head_same (of_head (menu title)) h = h
-    head_same (of_head (condition e)) h = h
-    head_same (of_head (comment title)) h = h
-    head_same (of_head (source path)) h = h
-    head_same (of_head mainmenu) h = h
-    head_same (of_head (ends b)) h = h
-    head_same file_end h = h
+    head_same w h = h
 
   groups_same : (c : Contents) (ps : List GroupInContext) → flat_map (faults_of_group Strict c) ps ≡ [] → flat_map (faults_of_group (Linux version) c) ps ≡ []
   groups_same c [] h = refl

@@ -28,14 +28,7 @@ opened_read p (x ∷ before) g h k = elim (has-append p (groups_in_context befor
 
 menu_title : (w : GroupHead) (title : List ℕ) → from_head title_of_head w ≡ Some title → from_head title_in w ≡ Some title
 menu_title (of_head (menu x)) title e = e
-menu_title (of_head (config x)) title e = cc
-menu_title (of_head choice) title e = cc
-menu_title (of_head (condition c)) title e = cc
-menu_title (of_head (comment x)) title e = cc
-menu_title (of_head (source x)) title e = cc
-menu_title (of_head mainmenu) title e = cc
-menu_title (of_head (ends b)) title e = cc
-menu_title file_end title e = cc
+menu_title w title e = cc
 
 same_title : (d e : Entry) (x title : List ℕ) → title_of_entry d ≡ Some x → title_of_entry e ≡ Some title → Some d ≡ Some e → x ≡ title
 same_title d e x title first second k = let same : d ≡ e = cc in let both : Some x ≡ Some title = sym first ∙ ap title_of_entry same ∙ second in cc

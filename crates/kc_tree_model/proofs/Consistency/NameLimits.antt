@@ -48,13 +48,7 @@ head_kept read at (config x) few k =
       one_more_name x (filter_map defined_name read) (is_in_list x (filter_map defined_name read)) refl parts.1 k.0,
       ((λ name e. (let same : x ≡ name = cc in subst (λ n. length n ≤ MAX_NAME_BYTES) same (ltb-false MAX_NAME_BYTES (length x) parts.0))), k.1),
     )
-head_kept read at choice few k = (k.0, ((λ name e. cc), k.1))
-head_kept read at (menu x) few k = (k.0, ((λ name e. cc), k.1))
-head_kept read at (condition x) few k = (k.0, ((λ name e. cc), k.1))
-head_kept read at (comment x) few k = (k.0, ((λ name e. cc), k.1))
-head_kept read at (source x) few k = (k.0, ((λ name e. cc), k.1))
-head_kept read at mainmenu few k = (k.0, ((λ name e. cc), k.1))
-head_kept read at (ends x) few k = (k.0, ((λ name e. cc), k.1))
+head_kept read at w few k = (k.0, ((λ name e. cc), k.1))
 
 attribute_kept : (read : List Group) (line : ℕ) (a : Attribute) → KeepsLimits read → KeepsLimits (with_attribute line a read)
 attribute_kept [] line a k = k

@@ -64,12 +64,7 @@ module _ (P : List ℕ → Type 0) (nothing : P []) (unquoted : (text : List ℕ
   of_operand Quoted text a h e =
       let same : constant_else (letter_value (quoted_text text)) (quoted (quoted_text text)) ≡ a = cc in subst (λ x. P (own_text (alone x))) same
       (of_quoted (letter_value (quoted_text text)) (quoted_text text) (unquoted text h))
-  of_operand (Relation op) text a h e = cc
-  of_operand Not text a h e = cc
-  of_operand And text a h e = cc
-  of_operand Or text a h e = cc
-  of_operand Open text a h e = cc
-  of_operand Close text a h e = cc
+  of_operand w text a h e = cc
 
   of_expr : {l : Level} {d : ℕ} {ts : List Lexeme} {e : Expr} → IsExpr l d ts e → AllTexts P ts → P (own_text e)
   of_expr (one_and h) a = of_expr h a

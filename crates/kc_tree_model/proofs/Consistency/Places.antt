@@ -55,13 +55,7 @@ word_of_name t h =
 word_given : (language : Language) (read : List Group) (l : LogicalLine) (h : Head) → statement_on_line language read l ≡ Ok (Some (head h))
     → NamesWord (of_head h)
 word_given language read l (config name) e = let r = line_names language read l name e in subst IsWord r.1 (word_of_name r.0 r.2)
-word_given language read l choice e = tt
-word_given language read l (menu title) e = tt
-word_given language read l (condition c) e = tt
-word_given language read l (comment title) e = tt
-word_given language read l (source path) e = tt
-word_given language read l mainmenu e = tt
-word_given language read l (ends b) e = tt
+word_given language read l w e = tt
 
 values_given : (language : Language) (read : List Group) (l : LogicalLine) (a : Attribute) → has_newline l.text ≡ false
     → statement_on_line language read l ≡ Ok (Some (attribute a)) → (d : DefaultAttribute) → default_of a ≡ Some d → IsPlainText (own_text d.value)
@@ -213,22 +207,9 @@ choice_read p (g ∷ before) n h e = elim (has-append p (groups_in_context befor
 -- a group that defines a name is a `config` of this name
 pub what_of_name : (w : GroupHead) (name : List ℕ) → from_head name_of_head w ≡ Some name → w ≡ of_head (config name)
 what_of_name (of_head (config x)) name h = ap (λ y. of_head (config y)) cc
-what_of_name (of_head choice) name h = cc
-what_of_name (of_head (menu title)) name h = cc
-what_of_name (of_head (condition c)) name h = cc
-what_of_name (of_head (comment title)) name h = cc
-what_of_name (of_head (source path)) name h = cc
-what_of_name (of_head mainmenu) name h = cc
-what_of_name (of_head (ends b)) name h = cc
-what_of_name file_end name h = cc
+what_of_name w name h = cc
 
 pub what_of_choice : (w : GroupHead) → is_some_block blocks.Choice (from_head block_of_head w) ≡ true → w ≡ of_head choice
 what_of_choice (of_head (config x)) h = cc
 what_of_choice (of_head choice) h = refl
-what_of_choice (of_head (menu title)) h = cc
-what_of_choice (of_head (condition c)) h = cc
-what_of_choice (of_head (comment title)) h = cc
-what_of_choice (of_head (source path)) h = cc
-what_of_choice (of_head mainmenu) h = cc
-what_of_choice (of_head (ends b)) h = cc
-what_of_choice file_end h = cc
+what_of_choice w h = cc

@@ -135,13 +135,7 @@ symbol_unit c p (of_head (config name)) s e h =
     record { name = name; names_it = ap (from_head name_of_head) e; first = b.0; alone = is_nothing (choice_of_symbol c name) b.1; number = d.1 ∙ ap Some same }
 symbol_unit c p (of_head choice) s e h =
     let d = mapped_some of_choice (choice_number c p.group.number) (of_symbol s) h in let k : of_choice d.0 ≡ of_symbol s = d.2 in cc
-symbol_unit c p (of_head (menu title)) s e h = cc
-symbol_unit c p (of_head (condition x)) s e h = cc
-symbol_unit c p (of_head (comment title)) s e h = cc
-symbol_unit c p (of_head (source path)) s e h = cc
-symbol_unit c p (of_head mainmenu) s e h = cc
-symbol_unit c p (of_head (ends b)) s e h = cc
-symbol_unit c p file_end s e h = cc
+symbol_unit c p w s e h = cc
 
 pub choice_unit : (c : Contents) (p : GroupInContext) (w : GroupHead) (k : ℕ) → p.group.head ≡ w → from_head (unit_of_head c p) w ≡ Some (of_choice k)
     → choice_number c p.group.number ≡ Some k
@@ -150,13 +144,7 @@ choice_unit c p (of_head (config name)) k e h =
     let d = mapped_some of_symbol (index_of_name name c.names) (of_choice k) a.1 in cc
 choice_unit c p (of_head choice) k e h =
     let d = mapped_some of_choice (choice_number c p.group.number) (of_choice k) h in let same : d.0 ≡ k = cc in d.1 ∙ ap Some same
-choice_unit c p (of_head (menu title)) k e h = cc
-choice_unit c p (of_head (condition x)) k e h = cc
-choice_unit c p (of_head (comment title)) k e h = cc
-choice_unit c p (of_head (source path)) k e h = cc
-choice_unit c p (of_head mainmenu) k e h = cc
-choice_unit c p (of_head (ends b)) k e h = cc
-choice_unit c p file_end k e h = cc
+choice_unit c p w k e h = cc
 
 -- two groups at which the same unit begins have the same number
 pub same_unit : (c : Contents) (s : IsSound c) (v : TreeUnit) (p q : GroupInContext) → unit_at c p ≡ Some v → unit_at c q ≡ Some v

@@ -26,9 +26,7 @@ no_file (of_head (menu title)) b e = refl
 no_file (of_head (condition c)) b e = refl
 no_file (of_head (comment title)) b e = refl
 no_file (of_head (source path)) b e = cc
-no_file (of_head mainmenu) b e = refl
-no_file (of_head (ends c)) b e = refl
-no_file file_end b e = refl
+no_file x b e = refl
 
 no_files : (gs hs : List Group) → AllBlocks gs → filter_map sourced_path (gs ++ hs) ≡ filter_map sourced_path hs
 no_files [] hs own = refl

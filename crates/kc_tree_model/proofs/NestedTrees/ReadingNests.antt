@@ -151,10 +151,7 @@ attribute_by start before g (of_head (menu title)) line a o e k i s =
     attribute_opening start before s.blocks g line a _ i (ap side_of e) (ap (from_head block_of_head) e) s.own s.opened s.matched
 attribute_by start before g (of_head (condition x)) line a o e k i s = cc
 attribute_by start before g (of_head (comment title)) line a o e k i s = attribute_inside start before g line a (ap side_of e) s
-attribute_by start before g (of_head (source path)) line a o e k i s = cc
-attribute_by start before g (of_head mainmenu) line a o e k i s = cc
-attribute_by start before g (of_head (ends b)) line a o e k i s = cc
-attribute_by start before g file_end line a o e k i s = cc
+attribute_by start before g x line a o e k i s = cc
 
 after_attribute : (start read : List Group) (line : ℕ) (a : Attribute) (o : OpenEntry) → open_entry read ≡ Some o → innermost start ≡ None → Since start read
     → Since start (with_attribute line a read)

@@ -50,11 +50,7 @@ IsDeep ts = (rest : List Lexeme) × IsFirstExprFault (extent ts) (expr_kinds.Too
 
 deep_by : (ts rest : List Lexeme) (kind : ExprKind) → read_expr (extent ts) ≡ Err (kind, rest) → OfDeep {A = ParsedExpr} (IsDeep ts) (Err (kind_of_fault kind))
 deep_by ts rest expr_kinds.TooDeep h = (rest, first_fault (extent ts) (expr_kinds.TooDeep, rest) h)
-deep_by ts rest expr_kinds.Malformed h = tt
-deep_by ts rest expr_kinds.BadToken h = tt
-deep_by ts rest expr_kinds.UnclosedQuote h = tt
-deep_by ts rest expr_kinds.LeftOut h = tt
-deep_by ts rest expr_kinds.OutOfMemory h = tt
+deep_by ts rest x h = tt
 
 deep_leading_by : (ts : List Lexeme) (r : Result Expr (ExprKind × List Lexeme)) → read_expr (extent ts) ≡ r
     → OfDeep (IsDeep ts)
