@@ -11,7 +11,7 @@ use Rattle.kc_value.specs.declared.limits.TheConstants.{MAX_FILES, MAX_TREE_BYTE
 use Rattle.kc_macros_model.specs.ReadingStates.{ReadingState}
 use Rattle.kc_macros_model.specs.TreeExpansion.{source_fault}
 use Rattle.kc_macros_model.specs.declared.fault.MacroKind.{MacroKind}
-use Rattle.kc_expansion.specs.declared.source_faults.ReadCounts.{ReadCounts}
+use Rattle.kc_expansion.specs.declared.read_counts.ReadCounts.{ReadCounts}
 use Rattle.kc_files.specs.between.KnownFiles.{FileRead, missing, unreadable, whole, too_long, AreBytes}
 use Rattle.kc_expansion.specs.checker.Sizes.{size_fault}
 use Rattle.kc_macros.specs.between.SliceTexts.{texts_of_slices}

@@ -25,7 +25,7 @@ use Rattle.std.proofs.lemmas.List.{length-map}
 use Rattle.kc_value.specs.declared.limits.TheConstants.{MAX_OPEN_FILES}
 use Rattle.kc_files.specs.checker.ExpandedViews.{with_file}
 use Rattle.kc_macros.specs.between.SliceTexts.{texts_of_slices}
-use Rattle.kc_expansion.specs.declared.source_faults.ReadCounts.{ReadCounts}
+use Rattle.kc_expansion.specs.declared.read_counts.ReadCounts.{ReadCounts}
 use Rattle.kc_files.proofs.ProgramLemmas.{grouped, same_rest, nothing_after}
 use Rattle.kc_expansion.proofs.FileProgramLemmas.{leads_same, leads_then, leads_on, leads_read, reads_on, reads_early}
 

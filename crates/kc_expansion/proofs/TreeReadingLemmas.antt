@@ -29,7 +29,7 @@ use Rattle.kc_expansion.specs.checker.ReadingViews.{reader_for, lines_left, list
 use Rattle.kc_macros.specs.between.SliceTexts.{texts_of_slices}
 use Rattle.kc_expansion.specs.checker.WrittenViews.{text_up_to}
 use Rattle.kc_expansion.specs.declared.line_places.LineStart.{LineStart}
-use Rattle.kc_expansion.specs.declared.source_faults.ReadCounts.{ReadCounts}
+use Rattle.kc_expansion.specs.declared.read_counts.ReadCounts.{ReadCounts}
 use Rattle.kc_expansion.specs.declared.written_file.WrittenFile.{WrittenFile}
 use Rattle.kc_expansion.proofs.FileProgramLemmas.{leads_same, leads_then, leads_on, reads_on, reads_early, reads_returns, reads_value, stopped_after, steps_stopped}
 use Rattle.kc_expansion.proofs.SourceReadLemmas.{follows_path, file_opened, list_opened, kept_so, list_halted, list_next, after_nothing}

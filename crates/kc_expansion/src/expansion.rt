@@ -18,7 +18,7 @@ use super::choice_names::ChoiceNames;
 use super::faults::fault;
 use super::line_steps::LineState;
 use super::open_files::OpenFiles;
-use super::source_faults::ReadCounts;
+use super::read_counts::ReadCounts;
 use super::tree_expander::TreeExpander;
 use super::tree_reading::read_lines;
 use kc_answers::Answers;

@@ -10,6 +10,7 @@ mod laws;
 mod line_places;
 mod line_steps;
 mod open_files;
+mod read_counts;
 mod same_lines;
 mod source_faults;
 mod source_lines;

@@ -1,49 +1,23 @@
 //! Faults of `source` lines.
-ghost use Rattle.std.specs.Prelude.{◌≡◌, ◌+◌, ◌<◌, ◌≤◌, ◌||◌, nat_le, nat_lt, bytes_eq, IfOk, IfErr};
+ghost use Rattle.std.specs.Prelude.{◌≡◌, ◌+◌, ◌||◌, nat_le, nat_lt, bytes_eq, IfOk, IfErr};
 ghost use Rattle.std.specs.List.{list_any};
 ghost use Rattle.kc_files.specs.checker.FileViews.{file_of};
 ghost use Rattle.kc_macros.specs.between.SliceTexts.{texts_of_slices};
 ghost use Rattle.kc_expansion.specs.checker.ReadingViews.{MayBeRead, MayNotBeRead};
 ghost use Rattle.kc_expansion.specs.checker.Sizes.{size_fault};
 
+use super::read_counts::ReadCounts;
 use kc_files::FileRead;
+use kc_macros::is_text;
 use kc_macros_model::MacroKind;
 use kc_value::{MAX_FILES, MAX_OPEN_FILES, MAX_TREE_BYTES};
 use std::rc::Rc;
-
-/// How many files and bytes of a tree were read so far.
-#[derive(Clone, Copy)]
-pub(crate) struct ReadCounts {
-    pub files: usize,
-    pub bytes: usize,
-}
-
-impl ReadCounts {
-    /// The counts after one more file of `bytes` bytes.
-    pub(crate) fn with(self, bytes: usize) -> ReadCounts
-        requires files { self.files < MAX_FILES }
-        requires bytes { self.bytes + bytes ≤ MAX_TREE_BYTES }
-        ensures value { result ≡ record { files = self.files + 1; bytes = self.bytes + bytes } }
-    {
-        ReadCounts {
-            files: self.files + 1,
-            bytes: self.bytes + bytes,
-        }
-    }
-}
-
-/// Whether two paths are the same.
-fn is_same(one: &[u8], other: &[u8]) -> bool
-    ensures { result ≡ bytes_eq one.now other.now }
-{
-    one == other
-}
 
 /// Whether the file of a path is open.
 fn is_open(open_files: &[&[u8]], path: &[u8]) -> bool
     ensures { result ≡ list_any (λ o. bytes_eq o.now path.now) open_files.now }
 {
-    open_files.iter().any(|other| is_same(other, path))
+    open_files.iter().any(|other| is_text(other, path))
 }
 
 /// Whether a file of `bytes` bytes is one too many, or has too many bytes.

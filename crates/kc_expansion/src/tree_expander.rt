@@ -1,6 +1,6 @@
 //! The state of a reading of a tree.
 use super::line_steps::LineState;
-use super::source_faults::ReadCounts;
+use super::read_counts::ReadCounts;
 use kc_files::{ExpandedFiles, FileCache};
 use std::alloc::Global;
 

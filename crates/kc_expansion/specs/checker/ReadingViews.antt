@@ -25,7 +25,7 @@ use Rattle.kc_files.specs.between.KnownFiles.{FileRead, whole, AreBytes}
 use Rattle.kc_expansion.specs.between.Reads.{FileRun, file_run}
 use Rattle.kc_files.specs.checker.FileViews.{known_of}
 use Rattle.kc_macros.specs.between.SliceTexts.{texts_of_slices}
-use Rattle.kc_expansion.specs.declared.source_faults.ReadCounts.{ReadCounts}
+use Rattle.kc_expansion.specs.declared.read_counts.ReadCounts.{ReadCounts}
 use Rattle.kc_expansion.specs.declared.line_steps.LineState.{LineState}
 use Rattle.kc_expansion.specs.declared.line_steps.LineStep.{LineStep}
 use Rattle.kc_expansion.specs.declared.line_steps.LineStep.TheVariants as steps
