@@ -2,12 +2,4 @@
 #![tactic(auto)]
 
 #[cfg(test)]
-mod expansions;
-#[cfg(test)]
-mod expressions;
-#[cfg(test)]
-mod fault_names;
-#[cfg(test)]
-mod macro_answers;
-#[cfg(test)]
-mod macro_lines;
+mod tests;

@@ -5,7 +5,9 @@ use kc_macro_forms::{
     quoted_text_token, source_line, with_bare_prompt, with_replacement, without_choice_name,
 };
 use kc_macro_lines::{LineContent, is_copied, read_line};
-use kc_macros::{Bindings, MacroNotice, MacroNoticeKind, Place, ExpansionState, Stop, assign, text_value};
+use kc_macros::{
+    Bindings, ExpansionState, MacroNotice, MacroNoticeKind, Place, Stop, assign, text_value,
+};
 use kc_value::Seed;
 use kmin_fakes::twice;
 use std::alloc::{AllocError, Global};
@@ -15,6 +17,16 @@ const AT: Place<'static> = Place {
     file: b"Kconfig",
     line: 7,
 };
+
+/// Compares what a function makes of each of these texts, at its second try where the first is refused, with what is wanted.
+macro_rules! assert_each {
+    ($rt:expr, $made:ident $(, $bindings:expr)?; $first:expr => $first_wanted:expr $(, $text:expr => $wanted:expr)* $(,)?) => {
+        for (text, wanted) in [(&$first[..], &$first_wanted[..]) $(, ($text, $wanted))*] {
+            let found = twice!($made($rt.alloc(), $($bindings,)? text));
+            assert_eq!($rt; found.as_slice(), wanted);
+        }
+    };
+}
 
 /// Answers to three questions.
 fn answers(alloc: Global) -> Result<Answers, AllocError> {
@@ -105,18 +117,15 @@ fn an_answer_takes_the_place_of_one_before(rt: HostRuntime) -> Result<(), std::t
 #[test]
 fn references_have_values(rt: HostRuntime) -> Result<(), std::test::Fail> {
     let none = Bindings::new(rt.alloc(), Seed::fixed());
-    for (text, wanted) in [
-        (&b"a$(ARCH)b$c"[..], &b"ax 86b$c"[..]),
-        (b"$(NOT)", b""),
-        (b"$(shell,uname  )", b"Linux"),
-        (b"$(lineno)$(filename)", b"7Kconfig"),
-        (b"$(OPEN)", b"OPEN"),
-        (b"$(shell,date)", b"$ date"),
-        (b"$(error-if,y,a (b, c))", b"a (b, c)"),
-    ] {
-        let found = twice!(value(rt.alloc(), &none, text));
-        assert_eq!(rt; found.as_slice(), wanted);
-    }
+    assert_each!(rt, value, &none;
+        b"a$(ARCH)b$c" => b"ax 86b$c",
+        b"$(NOT)" => b"",
+        b"$(shell,uname  )" => b"Linux",
+        b"$(lineno)$(filename)" => b"7Kconfig",
+        b"$(OPEN)" => b"OPEN",
+        b"$(shell,date)" => b"$ date",
+        b"$(error-if,y,a (b, c))" => b"a (b, c)",
+    );
     Ok(())
 }
 
@@ -155,18 +164,12 @@ fn noticed(alloc: Global, text: &[u8]) -> Result<Vec<u8>, AllocError> {
 
 #[test]
 fn notices_are_in_order(rt: HostRuntime) -> Result<(), std::test::Fail> {
-    for (text, wanted) in [
-        (&b"a$(ARCH)"[..], &b""[..]),
-        (
-            b"$(info,a $(ARCH))$(warning-if,y,b)$(info,c)",
-            b"info a x 86;warning b;info c;",
-        ),
-        (b"$(warning-if,n,a)$(warning-if,y,b)", b"warning b;"),
-        (b"$(info,a)$(error-if,y,b)$(info,c)", b"info a;"),
-    ] {
-        let found = twice!(noticed(rt.alloc(), text));
-        assert_eq!(rt; found.as_slice(), wanted);
-    }
+    assert_each!(rt, noticed;
+        b"a$(ARCH)" => b"",
+        b"$(info,a $(ARCH))$(warning-if,y,b)$(info,c)" => b"info a x 86;warning b;info c;",
+        b"$(warning-if,n,a)$(warning-if,y,b)" => b"warning b;",
+        b"$(info,a)$(error-if,y,b)$(info,c)" => b"info a;",
+    );
     Ok(())
 }
 
@@ -182,38 +185,26 @@ fn assignments_bind_names(rt: HostRuntime) -> Result<(), std::test::Fail> {
             b"$(S)\t:=  y "
         ],
     ));
-    for (text, wanted) in [
-        (&b"$(S)"[..], &b"x 86 7"[..]),
-        (b"$(R,a,b)", b"<a>x 86 7 b"),
-        (b"$(x 86 7)", b"y "),
-    ] {
-        let found = twice!(value(rt.alloc(), &bindings, text));
-        assert_eq!(rt; found.as_slice(), wanted);
-    }
+    assert_each!(rt, value, &bindings;
+        b"$(S)" => b"x 86 7",
+        b"$(R,a,b)" => b"<a>x 86 7 b",
+        b"$(x 86 7)" => b"y ",
+    );
     Ok(())
 }
 
 #[test]
 fn lines_are_written_with_values(rt: HostRuntime) -> Result<(), std::test::Fail> {
     let bindings = twice!(assigned(rt.alloc(), &[b"K = config", b"B = A_b-1"]));
-    for (text, wanted) in [
-        (
-            &b"\tdefault $(ARCH) # $(OPEN"[..],
-            &b"\tdefault \"x 86\" # $(OPEN"[..],
-        ),
-        (b"$(K) $(B)$(NOT)1", b"\"config\" A_b-11"),
-        (b"if $(NOT) = y", b"if   = y"),
-        (
-            b"bool \"$(ARCH) \\\" $\" if $X",
-            b"bool \"x 86 \\\" \\$\" if $X",
-        ),
-        (b"  X\t +=  $(ARCH) #", b"$(ARCH) #"),
-        (b"source = a", b"source = a"),
-        (b"a b = $(OPEN)", b"OPEN"),
-    ] {
-        let found = twice!(written(rt.alloc(), &bindings, text));
-        assert_eq!(rt; found.as_slice(), wanted);
-    }
+    assert_each!(rt, written, &bindings;
+        b"\tdefault $(ARCH) # $(OPEN" => b"\tdefault \"x 86\" # $(OPEN",
+        b"$(K) $(B)$(NOT)1" => b"\"config\" A_b-11",
+        b"if $(NOT) = y" => b"if   = y",
+        b"bool \"$(ARCH) \\\" $\" if $X" => b"bool \"x 86 \\\" \\$\" if $X",
+        b"  X\t +=  $(ARCH) #" => b"$(ARCH) #",
+        b"source = a" => b"source = a",
+        b"a b = $(OPEN)" => b"OPEN",
+    );
     Ok(())
 }
 
@@ -256,24 +247,21 @@ fn formed(alloc: Global, text: &[u8]) -> Result<Vec<u8>, AllocError> {
 
 #[test]
 fn lines_have_forms(rt: HostRuntime) -> Result<(), std::test::Fail> {
-    for (text, wanted) in [
-        (&b"config A"[..], &b"plain,"[..]),
-        (b"bool Word if A", b"prompt,Word"),
-        (b"bool if A", b"plain,"),
-        (b"option allnoconfig_y", b"replaced,"),
-        (b"option defconfig_list # a", b"replaced,depends on n"),
-        (b"choice NAME", b"choice,NAME"),
-        (b"choice", b"plain,"),
-        (b"source \"a/$(ARCH)\"", b"source,a/x 86"),
-        (b"  rsource 'b'", b"rsource,b"),
-        (b"osource c", b"osource,c"),
-        (b"orsource d", b"orsource,d"),
-        (b"source a b", b"plain,"),
-        (b"\t---help--- # a", b"plain,,help"),
-    ] {
-        let found = twice!(formed(rt.alloc(), text));
-        assert_eq!(rt; found.as_slice(), wanted);
-    }
+    assert_each!(rt, formed;
+        b"config A" => b"plain,",
+        b"bool Word if A" => b"prompt,Word",
+        b"bool if A" => b"plain,",
+        b"option allnoconfig_y" => b"replaced,",
+        b"option defconfig_list # a" => b"replaced,depends on n",
+        b"choice NAME" => b"choice,NAME",
+        b"choice" => b"plain,",
+        b"source \"a/$(ARCH)\"" => b"source,a/x 86",
+        b"  rsource 'b'" => b"rsource,b",
+        b"osource c" => b"osource,c",
+        b"orsource d" => b"orsource,d",
+        b"source a b" => b"plain,",
+        b"\t---help--- # a" => b"plain,,help",
+    );
     Ok(())
 }
 
@@ -302,31 +290,27 @@ fn forms_are_written_anew(rt: HostRuntime) -> Result<(), std::test::Fail> {
 
 #[test]
 fn lines_on_which_nothing_acts_are_found(rt: HostRuntime) -> Result<(), std::test::Fail> {
-    for line in [
-        &b""[..],
-        b"\t# source a",
-        b"config A",
-        b"\tbool \"a\" if A = y",
-        b"\tdefault y if A && \"help\"",
-        b"\tdepends on A",
-        b"  menu 'a'",
+    for (line, wanted) in [
+        (&b""[..], true),
+        (b"\t# source a", true),
+        (b"config A", true),
+        (b"\tbool \"a\" if A = y", true),
+        (b"\tdefault y if A && \"help\"", true),
+        (b"\tdepends on A", true),
+        (b"  menu 'a'", true),
+        (b"source \"a\"", false),
+        (b"\thelp", false),
+        (b"\t---help---", false),
+        (b"A = b", false),
+        (b"A+=b", false),
+        (b"A  := b", false),
+        (b"\tbool word", false),
+        (b"choice A", false),
+        (b"option allnoconfig_y", false),
+        (b"config $(A)", false),
+        (b"config \xff", false),
     ] {
-        assert!(rt; is_copied(line));
-    }
-    for line in [
-        &b"source \"a\""[..],
-        b"\thelp",
-        b"\t---help---",
-        b"A = b",
-        b"A+=b",
-        b"A  := b",
-        b"\tbool word",
-        b"choice A",
-        b"option allnoconfig_y",
-        b"config $(A)",
-        b"config \xff",
-    ] {
-        assert!(rt; !is_copied(line));
+        assert_eq!(rt; is_copied(line), wanted);
     }
     Ok(())
 }

@@ -22,6 +22,18 @@ fn read(
     }
 }
 
+/// Passes a test if a file is refused at this line for this reason.
+macro_rules! assert_refused {
+    ($rt:expr, $answers:ident, $file:expr, $then:expr, $line:expr, $kind:expr) => {{
+        let fault = AnswersFault {
+            line: $line,
+            kind: $kind,
+        };
+        let result = read($rt.alloc(), &mut $answers, $file, $then)?;
+        assert_eq!($rt; result, Err(fault));
+    }};
+}
+
 #[test]
 fn a_file_of_answers_is_read(rt: HostRuntime) -> Result<(), std::test::Fail> {
     let mut answers = Answers::new(rt.alloc(), Seed::fixed());
@@ -52,11 +64,7 @@ fn a_refused_file_changes_no_answer(rt: HostRuntime) -> Result<(), std::test::Fa
         (&b"A=1\nZ=2\n"[..], 2, AnswersKind::TwoAnswers),
         (&b"\n# \n\xff\n"[..], 3, AnswersKind::NotUtf8),
     ] {
-        let fault = AnswersFault { line, kind };
-        assert_eq!(rt;
-            read(rt.alloc(), &mut answers, file, Then::End)?,
-            Err(fault)
-        );
+        assert_refused!(rt, answers, file, Then::End, line, kind);
         assert_eq!(rt; answers.answer(b"A"), None);
         assert_eq!(rt; answers.answer(b"Z"), Some(Some(&b"1"[..])));
     }
@@ -71,11 +79,7 @@ fn a_failed_read_refuses_a_file(rt: HostRuntime) -> Result<(), std::test::Fail> 
         (&b"A=1\n$ a\n"[..], 3, AnswersKind::Read),
         (&b"A=1\nB\nC"[..], 2, AnswersKind::Malformed),
     ] {
-        let fault = AnswersFault { line, kind };
-        assert_eq!(rt;
-            read(rt.alloc(), &mut answers, file, Then::Fail)?,
-            Err(fault)
-        );
+        assert_refused!(rt, answers, file, Then::Fail, line, kind);
         assert_eq!(rt; answers.answer(b"A"), None);
     }
     Ok(())
@@ -88,13 +92,6 @@ fn a_line_may_have_65536_bytes(rt: HostRuntime) -> Result<(), std::test::Fail> {
     twice!(line.resize(65_536, b'x'));
     assert_eq!(rt; read(rt.alloc(), &mut answers, &line, Then::End)?, Ok(()));
     twice!(line.push(b'x'));
-    let fault = AnswersFault {
-        line: 1,
-        kind: AnswersKind::LineTooLong,
-    };
-    assert_eq!(rt;
-        read(rt.alloc(), &mut answers, &line, Then::End)?,
-        Err(fault)
-    );
+    assert_refused!(rt, answers, &line, Then::End, 1, AnswersKind::LineTooLong);
     Ok(())
 }

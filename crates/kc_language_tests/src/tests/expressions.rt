@@ -92,27 +92,29 @@ fn returns_names(rt: HostRuntime) -> Result<(), std::test::Fail> {
     Ok(())
 }
 
+/// A walk through expressions, and the names that it has found.
+#[derive(Drop)]
+struct Walk {
+    visited: VisitedSet,
+    found: Vec<NameId>,
+}
+
 /// Appends the names in an expression that this walk hasn't visited. Where memory runs out, the list has to stay as it was, and
-/// a new walk, which has visited nothing, tries once more.
-fn push_unvisited(
-    arena: &Arena,
-    id: ExprId,
-    walk: &mut VisitedSet,
-    found: &mut Vec<NameId>,
-) -> Result<(), AllocError>
+/// the walk, which has visited nothing then, tries once more.
+fn push_unvisited(arena: &Arena, id: ExprId, walk: &mut Walk) -> Result<(), AllocError>
     requires there { id < length arena.now.nodes }
-    requires found { HasFound arena.now walk.old found.old.items }
-    ensures found { OnOk result (HasFound arena.now walk.new found.new.items) }
+    requires found { HasFound arena.now walk.old.visited walk.old.found.items }
+    ensures found { OnOk result (HasFound arena.now walk.new.visited walk.new.found.items) }
 {
-    let others = found.len();
-    match arena.push_new_names(id, walk, found) {
+    let others = walk.found.len();
+    match arena.push_new_names(id, &mut walk.visited, &mut walk.found) {
         Ok(()) => Ok(()),
         Err(fault) => {
-            if found.len() != others {
+            if walk.found.len() != others {
                 return Err(fault);
             }
-            *walk = arena.walk()?;
-            arena.push_new_names(id, walk, found)
+            walk.visited = arena.walk()?;
+            arena.push_new_names(id, &mut walk.visited, &mut walk.found)
         }
     }
 }
@@ -126,27 +128,25 @@ fn is_visited_once(alloc: Global) -> Result<bool, ExprFault> {
 fn is_visited_once_in(alloc: Global, arena: &mut Arena) -> Result<bool, ExprFault> {
     let (id, _, _) = read(alloc, arena, "A && B || !C")?;
     let both = doubled(arena, id)?;
-    Ok(is_visited_once_by(alloc, arena, both, &mut twice!(arena.walk()))?)
+    let mut walk = Walk {
+        visited: twice!(arena.walk()),
+        found: Vec::new(alloc),
+    };
+    Ok(is_visited_once_by(arena, both, &mut walk)?)
 }
 
 /// Whether this walk, which has visited nothing yet, visits each of three names once, and again once it is begun anew.
-fn is_visited_once_by(
-    alloc: Global,
-    arena: &Arena,
-    id: ExprId,
-    walk: &mut VisitedSet,
-) -> Result<bool, AllocError>
+fn is_visited_once_by(arena: &Arena, id: ExprId, walk: &mut Walk) -> Result<bool, AllocError>
     requires there { id < length arena.now.nodes }
-    requires found { HasFound arena.now walk.old [] }
+    requires found { HasFound arena.now walk.old.visited walk.old.found.items }
 {
-    let mut found = Vec::new(alloc);
-    push_unvisited(arena, id, walk, &mut found)?;
-    let first = found.len();
-    push_unvisited(arena, id, walk, &mut found)?;
-    let again = found.len();
-    walk.begin();
-    push_unvisited(arena, id, walk, &mut found)?;
-    Ok(first == 3 && again == 3 && found.len() == 6)
+    push_unvisited(arena, id, walk)?;
+    let first = walk.found.len();
+    push_unvisited(arena, id, walk)?;
+    let again = walk.found.len();
+    walk.visited.begin();
+    push_unvisited(arena, id, walk)?;
+    Ok(first == 3 && again == 3 && walk.found.len() == 6)
 }
 
 #[test]
