@@ -7,11 +7,12 @@ ghost use Rattle.kc_reasons_model.specs.Reasons.{name_of_symbol, value_text};
 ghost use Rattle.kc_explanation.specs.Asked.{is_by_user, outcome_text, why_text, line_place, asked_value, asks_text};
 
 use super::explanation::name_of;
-use super::token_texts::{push_text_of_kind, push_value_text};
+use super::token_texts::push_value_text;
 use super::words::hindrance_text;
 use itoa::Buffer;
 use kc_dotconfig_model::Strings;
 use kc_evaluation::{Valuation, letter_of};
+use kc_minimal::push_spelled;
 use kc_reasons::{Case, ChoiceCase, Hindrance, TextCase, TriCase, is_given_y};
 use kc_rules_model::UserValue;
 use kc_tree::Sym;
@@ -130,6 +131,7 @@ fn push_asked_member(
 }
 
 /// Appends what a user value asks of symbol `s` of this type. An `Err` means out of memory.
+#[tactic(auto, using(crate::proofs::Spellings::spelled_is))]
 pub fn push_asked_value(
     out: &mut Vec<u8>,
     under: &Valuation<'_>,
@@ -142,7 +144,7 @@ pub fn push_asked_value(
 {
     match user {
         UserValue::Tri(t) => out.extend_from_slice(letter_of(*t).as_bytes()),
-        UserValue::Text(text) => push_text_of_kind(out, strings, kind, text.as_str()),
+        UserValue::Text(text) => push_spelled(out, strings, kind, text.as_str()),
         UserValue::Member(m) => push_asked_member(out, under, s, *m),
         UserValue::Lines(lines) => push_letter_of(out, is_given_y(lines.as_slice(), s)),
     }

@@ -11,7 +11,7 @@ ghost use Rattle.kc_expr.specs.between.Operand.{operand_of_ref, HasKnownName};
 ghost use Rattle.kc_evaluation.specs.checker.ValuationView.{valuation_tree, valuation_exprs, valuation_values};
 ghost use Rattle.kc_rules_model.specs.SymbolValues.{environment};
 ghost use Rattle.kc_reasons_model.specs.Spelling.{operand_token, token_text, spelling};
-ghost use Rattle.kc_reasons_model.specs.Reasons.{text_of_kind, value_text, word_value, valued_token};
+ghost use Rattle.kc_reasons_model.specs.Reasons.{value_text, word_value, valued_token};
 ghost use Rattle.kc_explanation.specs.Explained.{in_parentheses, value_in_parentheses, token_with_value, spelled_with_values};
 ghost use Rattle.kc_explanation.specs.checker.Contexts.{exprs_of, names_of};
 ghost use Rattle.kc_explanation.specs.between.SpelledTokens.{left_operand, right_operand, lexeme_of, lexemes_of, IsTokenOf};
@@ -24,20 +24,8 @@ use kc_expr::{ExprId, ExprParts, Looked, Operand};
 use kc_minimal::push_spelled;
 use kc_reasons::parts_at;
 use kc_tokens::Relop;
-use kc_value::{Kind, Tri, loose_number_of, push_escaped};
+use kc_value::{Tri, loose_number_of, push_escaped};
 use std::alloc::{AllocError, Global};
-
-/// Appends a value of this type as it is spelled in a configuration file.
-pub(crate) fn push_text_of_kind(
-    out: &mut Vec<u8>,
-    strings: Strings,
-    kind: Kind,
-    text: &str,
-) -> Result<(), AllocError>
-    ensures { OnOk result (out.new.items ≡ out.old.items ++ text_of_kind strings kind text.now) }
-{
-    push_spelled(out, strings, kind, text)
-}
 
 /// Appends the value of a symbol as it is spelled in a configuration file.
 pub(crate) fn push_value_text(
@@ -47,7 +35,7 @@ pub(crate) fn push_value_text(
 ) -> Result<(), AllocError>
     ensures { OnOk result (out.new.items ≡ out.old.items ++ value_text strings (Some (symbol_value_of seen.now))) }
 {
-    push_text_of_kind(out, strings, seen.kind, seen.text)
+    push_spelled(out, strings, seen.kind, seen.text)
 }
 
 /// Appends the value of a symbol in parentheses.
