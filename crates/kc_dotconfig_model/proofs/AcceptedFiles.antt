@@ -16,10 +16,10 @@ use Rattle.kc_dotconfig_model.specs.between.LineMeanings.{line_meaning, with_res
 use Rattle.kc_dotconfig_model.specs.FileLaws.{AcceptedFilesAreRead}
 use Rattle.kc_dotconfig_model.proofs.LineLaws.{line_read, file_read}
 
-count_more : (b : ℕ) (bytes : List ℕ) → newline_count (b ∷ bytes) ≡ cond (b == 10) 1 0 + newline_count bytes
+pub count_more : (b : ℕ) (bytes : List ℕ) → newline_count (b ∷ bytes) ≡ cond (b == 10) 1 0 + newline_count bytes
 count_more b bytes = sum_by-cons (λ c. cond (c == 10) 1 0) b bytes
 
-count_ends : (earlier : List ℕ) → newline_count (earlier ++ 10 ∷ []) ≡ newline_count earlier + 1
+pub count_ends : (earlier : List ℕ) → newline_count (earlier ++ 10 ∷ []) ≡ newline_count earlier + 1
 count_ends earlier = sum_by-append (λ c. cond (c == 10) 1 0) earlier (10 ∷ [])
 
 -- after one more line
@@ -84,9 +84,6 @@ some_line b bytes e = go (b == 10) (file_lines bytes) e where
 no_bytes : (bytes : List ℕ) → file_lines bytes ≡ [] → bytes ≡ []
 no_bytes [] e = refl
 no_bytes (b ∷ bytes) e = absurd (some_line b bytes e)
-
-abbrev Placed : List ℕ → List ℕ → ℕ → Type 0
-Placed bytes line n = (start : ℕ) × IsLineAt bytes line n start
 
 -- the line at index `k` of `file_lines`, counted from 0, is the line of the file with the number `k + 1`, counted from 1
 pub placed : (bytes : List ℕ) (k n : ℕ) (line : List ℕ) → n ≡ k + 1 → slice_get (file_lines bytes) k ≡ Some line → (start : ℕ) × IsLineAt bytes line n start

@@ -5,11 +5,10 @@ use Rattle.std.specs.Str.{is_utf8}
 use Rattle.std.proofs.lemmas.Str.{IsUtf8-from_is_utf8, is_utf8-from_IsUtf8}
 use Rattle.std.specs.List.{list_all, onto_first}
 use Rattle.std.proofs.lemmas.Bool.{and_parts, and_from, not-true, cases_Bool, cases_lt, eq-eqb, false≢true}
-use Rattle.std.proofs.lemmas.List.Sums.{sum_by-cons, sum_by-append}
 use Rattle.std.proofs.lemmas.Option.{slice_get_within}
 use Rattle.kc_tree_model.specs.Trees.{Tree}
 use Rattle.kc_dotconfig_model.specs.Formats.{FileFormat}
-use Rattle.kc_dotconfig_model.specs.declared.fault.LoadKind.TheVariants.{Malformed, NotUtf8, LineTooLong, TooManyLines, Read, OutOfMemory, TooLarge}
+use Rattle.kc_dotconfig_model.specs.declared.fault.LoadKind.TheVariants.{Malformed, NotUtf8, LineTooLong, TooManyLines, TooLarge}
 use Rattle.kc_solver.proofs.Lists.{get-some}
 use Rattle.kc_value.specs.Lines.{has_no_byte, newline_count}
 use Rattle.kc_dotconfig_model.specs.PrefixGrammar.{is_name_prefix}
@@ -19,15 +18,9 @@ use Rattle.kc_dotconfig_model.specs.ConfigFiles.{file_lines, has_utf8_lines}
 use Rattle.kc_dotconfig_model.specs.FileLaws.{IsGoodLine, AcceptedFilesHaveGoodLines}
 use Rattle.kc_dotconfig_model.specs.between.LineMeanings.{line_meaning}
 use Rattle.kc_dotconfig_model.proofs.LineLaws.{line_read}
-use Rattle.kc_dotconfig_model.proofs.AcceptedFiles.{placed}
+use Rattle.kc_dotconfig_model.proofs.AcceptedFiles.{placed, count_more, count_ends}
 use Rattle.kc_value.specs.declared.limits.TheConstants.{MAX_CONFIG_BYTES, MAX_CONFIG_LINES, MAX_LINE_BYTES}
 use Rattle.kc_dotconfig_model.specs.LoadFaults.{IsLineAt, IsAccepted}
-
-count_more : (b : ℕ) (bytes : List ℕ) → newline_count (b ∷ bytes) ≡ cond (b == 10) 1 0 + newline_count bytes
-count_more b bytes = sum_by-cons (λ c. cond (c == 10) 1 0) b bytes
-
-count_ends : (earlier : List ℕ) → newline_count (earlier ++ 10 ∷ []) ≡ newline_count earlier + 1
-count_ends earlier = sum_by-append (λ c. cond (c == 10) 1 0) earlier (10 ∷ [])
 
 abbrev Ends : List ℕ → List ℕ → Type 0
 Ends line rest = ((rest ≡ []) × (0 < length line)) ⊎ ((later : List ℕ) × (rest ≡ 10 ∷ later))
@@ -118,8 +111,7 @@ accepted_of_lines format tree bytes small few good LineTooLong byte number c =
 accepted_of_lines format tree bytes small few good NotUtf8 byte number c = let l = line_listed bytes c.0 number c.1 c.2 in absurd (c.3 (good l.0 c.0 l.1).utf8)
 accepted_of_lines format tree bytes small few good Malformed byte number c =
     let l = line_listed bytes c.0 number c.1 c.2 in let g = good l.0 c.0 l.1 in absurd (c.3 g.meaning g.has_meaning)
-accepted_of_lines format tree bytes small few good Read byte number c = absurd c
-accepted_of_lines format tree bytes small few good OutOfMemory byte number c = absurd c
+accepted_of_lines format tree bytes small few good _ byte number c = absurd c
 
 -- a line without a meaning is malformed
 has_some_meaning : (format : FileFormat) (tree : Tree) (line : List ℕ) → is_name_prefix format.prefix ≡ true → (IsMalformed format tree line → ⊥)

@@ -26,7 +26,7 @@ use Rattle.kc_dotconfig_model.specs.declared.format.Strings.{Strings}
 use Rattle.kc_dotconfig_model.specs.declared.notice.NoticeKind.{NoticeKind}
 use Rattle.kc_dotconfig_model.specs.declared.notice.NoticeKind.TheVariants.{UnknownSymbol, NotOfType}
 use Rattle.kc_dotconfig_model.specs.Formats.{FileFormat, IsStringSpelling}
-use Rattle.kc_dotconfig_model.specs.ConfigLines.{LineMeaning, assigns, assigns_escaped, unchosen, notice, silent, unchosen_meaning, has_escape_notice, text_meaning, unset_meaning, ValueMeans, tri, chosen, not_chosen, quoted, number, no_int, no_hex, no_tri, no_text, no_number, Means, value, unset, unknown_value, unknown_unset, empty, comment}
+use Rattle.kc_dotconfig_model.specs.ConfigLines.{LineMeaning, assigns, assigns_escaped, unchosen, notice, silent, unchosen_meaning, has_escape_notice, text_meaning, unset_meaning, ValueMeans, tri, chosen, not_chosen, quoted, number, no_int, no_hex, Means, value, unset, empty, comment}
 use Rattle.kc_tree_model.specs.LogicalLines.{without_white_end}
 use Rattle.kc_dotconfig_model.specs.ConfigFiles.{over, assigned_over}
 
@@ -53,14 +53,29 @@ one_further format tree first lines u means h =
 
 -- a text that is a user value over another one is either of these
 text_over : (y : UserValue) (o : Option UserValue) (means : List ℕ) → over y o ≡ TextUser means → (y ≡ TextUser means) ⊎ (o ≡ Some (TextUser means))
-text_over (TriUser t) o means e = cc
-text_over (MemberUser s) o means e = cc
 text_over (TextUser t) o means e = inl e
-text_over (LinesUser l) None means e = cc
-text_over (LinesUser l) (Some (TriUser t)) means e = cc
-text_over (LinesUser l) (Some (MemberUser s)) means e = cc
-text_over (LinesUser l) (Some (LinesUser k)) means e = cc
 text_over (LinesUser l) (Some (TextUser t)) means e = inr (ap Some e)
+text_over _ _ means e = cc
+
+-- a text that a unit has after a line that gives a unit a value, and then other lines: it had it before, or one of the lines assigns it
+here_or_before : (format : FileFormat) (tree : Tree) (line : List ℕ) (lines : List (List ℕ)) (meaning : LineMeaning) (held : List (Option UserValue)) (u : ℕ)
+    (means : List ℕ) (w : ℕ) (z : UserValue) → Means format tree (without_white_end line) meaning → u < length held
+    → (user_of (slice_set held w (Some z)) u ≡ Some (TextUser means)) ⊎ HasAssigningLine format tree lines u means
+    → (u ≡ w → z ≡ TextUser means → (user_of held u ≡ Some (TextUser means)) ⊎ AssignsText u means meaning)
+    → (user_of held u ≡ Some (TextUser means)) ⊎ HasAssigningLine format tree (line ∷ lines) u means
+here_or_before format tree line lines meaning held u means w z has_meaning inside rest own = elim rest [
+  | inl before ↦ elim (cases_eq u w) [
+    | inl same ↦
+        let here : user_of (slice_set held w (Some z)) u ≡ Some z = ap (λ k. user_of (slice_set held k (Some z)) u) (sym same)
+        ∙ get_or-set_same held u (Some z) None inside in
+        elim (own same (let value : z ≡ TextUser means = cc (here, before) in value)) [
+          | inl held_before ↦ inl held_before
+          | inr assigned ↦ inr (record { number = 0; line = line; at = refl; meaning = meaning; has_meaning = has_meaning; assigned = assigned })
+        ]
+    | inr other ↦ inl (sym (get_or-set_other held w u (Some z) None other) ∙ before)
+  ]
+  | inr later ↦ inr (one_further format tree line lines u means later)
+]
 
 -- a text that a unit has as its user value after some lines of a configuration file it had before them, or one of the lines
 -- assigns it
@@ -71,64 +86,23 @@ pub assigning_line : (format : FileFormat) (tree : Tree) (lines : List (List ℕ
 assigning_line format tree [] [] held u means reads inside has = inl has
 assigning_line format tree [] (meaning ∷ meanings) held u means reads inside has = absurd reads
 assigning_line format tree (line ∷ lines) [] held u means reads inside has = absurd reads
-assigning_line format tree (line ∷ lines) (unchosen w s ∷ meanings) held u means reads inside has =
-    elim (assigning_line format tree lines meanings held u means reads.1 inside has) [
-      | inl before ↦ inl before
-      | inr later ↦ inr (one_further format tree line lines u means later)
-    ]
-assigning_line format tree (line ∷ lines) (notice kind ∷ meanings) held u means reads inside has =
-    elim (assigning_line format tree lines meanings held u means reads.1 inside has) [
-      | inl before ↦ inl before
-      | inr later ↦ inr (one_further format tree line lines u means later)
-    ]
-assigning_line format tree (line ∷ lines) (silent ∷ meanings) held u means reads inside has =
-    elim (assigning_line format tree lines meanings held u means reads.1 inside has) [
-      | inl before ↦ inl before
-      | inr later ↦ inr (one_further format tree line lines u means later)
-    ]
 assigning_line format tree (line ∷ lines) (assigns_escaped w text ∷ meanings) held u means reads inside has =
     let len = length-set held w (Some (TextUser text)) in
-    elim (assigning_line format tree lines meanings (slice_set held w (Some (TextUser text))) u means reads.1 (omega arith) has) [
-      | inl before ↦ elim (cases_eq u w) [
-        | inl same ↦
-            let here : user_of (slice_set held w (Some (TextUser text))) u ≡ Some (TextUser text) =
-            ap (λ k. user_of (slice_set held k (Some (TextUser text))) u) (sym same)
-            ∙ get_or-set_same held u (Some (TextUser text)) None inside in
-            let own : text ≡ means = cc (here, before) in
-            inr (record {
-              number = 0;
-              line = line;
-              at = refl;
-              meaning = assigns_escaped w text;
-              has_meaning = reads.0;
-              assigned = inr (ap (λ k. assigns_escaped k text) (sym same) ∙ ap (assigns_escaped u) own);
-            })
-        | inr other ↦ inl (sym (get_or-set_other held w u (Some (TextUser text)) None other) ∙ before)
-      ]
-      | inr later ↦ inr (one_further format tree line lines u means later)
-    ]
+    here_or_before format tree line lines (assigns_escaped w text) held u means w (TextUser text) reads.0 inside
+    (assigning_line format tree lines meanings (slice_set held w (Some (TextUser text))) u means reads.1 (omega arith) has)
+    (λ same value. let own : text ≡ means = cc in inr (inr (ap (λ k. assigns_escaped k text) (sym same) ∙ ap (assigns_escaped u) own)))
 assigning_line format tree (line ∷ lines) (assigns w y ∷ meanings) held u means reads inside has =
     let z = over y (user_of held w) in
     let len = length-set held w (Some z) in
-    elim (assigning_line format tree lines meanings (slice_set held w (Some z)) u means reads.1 (omega arith) has) [
-      | inl before ↦ elim (cases_eq u w) [
-        | inl same ↦
-            let here : user_of (slice_set held w (Some z)) u ≡ Some z = ap (λ k. user_of (slice_set held k (Some z)) u) (sym same)
-            ∙ get_or-set_same held u (Some z) None inside in
-            let value : z ≡ TextUser means = cc (here, before) in
-            elim (text_over y (user_of held w) means value) [
-              | inl own ↦ inr (record {
-                number = 0;
-                line = line;
-                at = refl;
-                meaning = assigns w y;
-                has_meaning = reads.0;
-                assigned = inl (ap (λ k. assigns k y) (sym same) ∙ ap (assigns u) own);
-              })
-              | inr held_before ↦ inl (ap (user_of held) same ∙ held_before)
-            ]
-        | inr other ↦ inl (sym (get_or-set_other held w u (Some z) None other) ∙ before)
-      ]
+    here_or_before format tree line lines (assigns w y) held u means w z reads.0 inside
+    (assigning_line format tree lines meanings (slice_set held w (Some z)) u means reads.1 (omega arith) has) (λ same value.
+    elim (text_over y (user_of held w) means value) [
+      | inl own ↦ inr (inl (ap (λ k. assigns k y) (sym same) ∙ ap (assigns u) own))
+      | inr held_before ↦ inl (ap (user_of held) same ∙ held_before)
+    ])
+assigning_line format tree (line ∷ lines) (_ ∷ meanings) held u means reads inside has =
+    elim (assigning_line format tree lines meanings held u means reads.1 inside has) [
+      | inl before ↦ inl before
       | inr later ↦ inr (one_further format tree line lines u means later)
     ]
 
@@ -201,9 +175,7 @@ text_means strings tree s symbol text meaning u means (number _ some) (inl e) =
 text_means strings tree s symbol text meaning u means (number _ some) (inr e) = cc
 text_means strings tree s symbol text meaning u means (no_int is) a = absurd (silent_no_text u means a)
 text_means strings tree s symbol text meaning u means (no_hex is) a = absurd (silent_no_text u means a)
-text_means strings tree s symbol text meaning u means (no_tri _ small meant) a = absurd (notice_no_text NotOfType u means a)
-text_means strings tree s symbol text meaning u means (no_text _ is without) a = absurd (notice_no_text NotOfType u means a)
-text_means strings tree s symbol text meaning u means (no_number b rest large other without) a = absurd (notice_no_text NotOfType u means a)
+text_means strings tree s symbol text meaning u means _ a = absurd (notice_no_text NotOfType u means a)
 
 unset_no_text : (tree : Tree) (s : ℕ) (symbol : Symbol) (o : Option ℕ) (u : ℕ) (means : List ℕ) → AssignsText u means (unset_meaning tree s symbol o) → ⊥
 unset_no_text tree s symbol (Some c) u means a = unchosen_no_text tree.language (unit_of tree s) s u means a
@@ -219,10 +191,9 @@ text_line format tree line meaning u means (value _ name text s symbol _ is name
     let t = text_means format.strings tree s symbol text meaning u means has_meaning a in
     record { name = name; text = text; s = s; symbol = symbol; whole = is.2; named = named; at = at; unit = t.0; has_meaning = t.1 }
 text_line format tree line meaning u means (unset _ name s symbol is named at) a = absurd (unset_no_text tree s symbol symbol.choice u means a)
-text_line format tree line meaning u means (unknown_value _ name text is named) a = absurd (notice_no_text UnknownSymbol u means a)
-text_line format tree line meaning u means (unknown_unset _ name is named) a = absurd (notice_no_text UnknownSymbol u means a)
 text_line format tree line meaning u means empty a = absurd (silent_no_text u means a)
 text_line format tree line meaning u means (comment _ hash without) a = absurd (silent_no_text u means a)
+text_line format tree line meaning u means _ a = absurd (notice_no_text UnknownSymbol u means a)
 
 -- the symbol that is found in the tree by a name has that name
 pub named_so : (tree : Tree) (name : List ℕ) (s : ℕ) (symbol : Symbol) → symbol_named tree name ≡ Some s → slice_get tree.symbols s ≡ Some symbol

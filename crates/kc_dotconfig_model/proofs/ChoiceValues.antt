@@ -4,12 +4,12 @@ use Rattle.std.specs.Prelude.{is_some, slice_get, slice_set}
 use Rattle.std.specs.List.{AllZip, AllByRecursion, list_all}
 use Rattle.std.specs.Option.{option_map, option_or, option_and_then}
 use Rattle.std.proofs.lemmas.Bool.{cases_eq, ne_eqb, false≢true}
-use Rattle.std.proofs.lemmas.List.{get_or-set_same, get_or-set_other, length-set, map-append}
+use Rattle.std.proofs.lemmas.List.{get_or-set_same, get_or-set_other, map-append}
 use Rattle.std.proofs.lemmas.List.Elements.{filter-append}
 use Rattle.std.proofs.lemmas.Option.{slice_get_within}
 use Rattle.kc_tokens.specs.declared.language.Language.{Language}
-use Rattle.kc_tokens.specs.declared.language.Language.TheVariants.{Strict, Linux}
-use Rattle.kc_tokens.specs.declared.language.LinuxVersion.TheVariants.{Unknown, V6_1, V6_12}
+use Rattle.kc_tokens.specs.declared.language.Language.TheVariants.{Linux}
+use Rattle.kc_tokens.specs.declared.language.LinuxVersion.TheVariants.{V6_12}
 use Rattle.kc_tokens.specs.Languages.{is_linux_6_12}
 use Rattle.kc_tree_model.specs.Trees.{Tree, Choice}
 use Rattle.kc_tree_model.specs.TreeLookup.{IsConsistent}
@@ -33,7 +33,7 @@ use Rattle.kc_dotconfig_model.specs.ConfigFiles.{FileMeans, has_utf8_lines, file
 use Rattle.kc_dotconfig_model.specs.OtherChoices.{has_no_version, choice_line_of, choice_lines_from, placed_from, lines_of, given_by, noticed_line, other_member, other_line, other_line_of_unit}
 use Rattle.kc_dotconfig_model.specs.OtherChoiceLaws.{own_member, member_since, lines_in_files, IsUnitOfChoice, IsOtherSince, IsGivenN, IsHiddenLast, ChoicesFollowLines, NoticesAreWhereValuesDiffer, DifferingValuesHaveReasons}
 use Rattle.kc_dotconfig_model.proofs.FittingFiles.{SayingFits, lines_lack, sayings_fit, none_held, none_length}
-use Rattle.kc_dotconfig_model.proofs.Overlays.{file_over}
+use Rattle.kc_dotconfig_model.proofs.Overlays.{assigned_length, file_length, file_over}
 use Rattle.kc_dotconfig_model.proofs.OtherLines.{have_reasons, have_lines}
 
 -- the user value that lines of members give the choice whose unit is `u`: the member last assigned `y`
@@ -131,17 +131,6 @@ module _ (tree : Tree) (before : is_linux_6_12 tree.language ≡ false) (u c : �
   one_line f n (notice kind) users fits inside = refl
   one_line f n silent users fits inside = refl
 
-  assigned_length : (meaning : LineMeaning) (users : List (Option UserValue)) → length (assigned meaning users) ≡ length users
-  assigned_length (assigns w x) users = length-set users w (Some (over x (user_of users w)))
-  assigned_length (assigns_escaped w text) users = length-set users w (Some (TextUser text))
-  assigned_length (unchosen w s) users = refl
-  assigned_length (notice kind) users = refl
-  assigned_length silent users = refl
-
-  file_length : (meanings : List LineMeaning) (users : List (Option UserValue)) → length (assigned_over meanings users) ≡ length users
-  file_length [] users = refl
-  file_length (meaning ∷ meanings) users = file_length meanings (assigned meaning users) ∙ assigned_length meaning users
-
   -- the user value of a choice after the lines of a file
   one_file : (f n : ℕ) (meanings : List LineMeaning) (users : List (Option UserValue)) → AllByRecursion (SayingFits tree) meanings → u < length users
       → user_of (assigned_over meanings users) u
@@ -188,12 +177,11 @@ all_fit : (format : FileFormat) (tree : Tree) → IsConsistent tree → (texts :
     → AllZip (λ bytes meanings. (has_utf8_lines bytes ≡ true) × FileMeans format tree bytes meanings) texts files
     → AllByRecursion (AllByRecursion (SayingFits tree)) files
 all_fit format tree sound [] [] all = tt
-all_fit format tree sound [] (meanings ∷ files) all = absurd all
-all_fit format tree sound (bytes ∷ texts) [] all = absurd all
 all_fit format tree sound (bytes ∷ texts) (meanings ∷ files) all = (
   sayings_fit format tree sound (file_lines bytes) meanings (lines_lack format tree sound bytes) all.0.0 all.0.1,
   all_fit format tree sound texts files all.1,
 )
+all_fit format tree sound _ _ all = absurd all
 
 module _ (profile : Profile) (tree : Tree) (values : List UnitValue) (u : ℕ) (choice : Choice) (own : IsUnitOfChoice tree u choice) where
   choice_value : (user : Option UserValue) → is_linux_6_12 tree.language ≡ false → rule profile tree u user values ≡ MemberValue (shown_choice_rule tree choice user values)
@@ -213,17 +201,14 @@ follow_lines format profile tree files values u choice sound before gives own =
 
 -- a tree whose language doesn't say its version hasn't the rules of Linux 6.12
 not_since : (language : Language) → has_no_version language ≡ true → is_linux_6_12 language ≡ false
-not_since Strict e = refl
-not_since (Linux Unknown) e = refl
-not_since (Linux V6_1) e = refl
 not_since (Linux V6_12) e = absurd (false≢true e)
+not_since _ e = refl
 
 -- two members are equal as values exactly if they are the same
 same_member : (a b : Option ℕ) → same_value (MemberValue a) (MemberValue b) ≡ true → a ≡ b
 same_member None None e = refl
-same_member None (Some b) e = absurd (false≢true e)
-same_member (Some a) None e = absurd (false≢true e)
 same_member (Some a) (Some b) e = ap (λ s. Some s) (eqb-true a b e)
+same_member _ _ e = absurd (false≢true e)
 
 member_same : (a b : Option ℕ) → a ≡ b → same_value (MemberValue a) (MemberValue b) ≡ true
 member_same a b e = ap (λ m. same_value (MemberValue a) (MemberValue m)) (sym e) ∙ itself a where

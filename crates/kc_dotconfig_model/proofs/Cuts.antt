@@ -95,16 +95,14 @@ one_of R (z ∷ front) x rest (y ∷ ys) all = one_of R front x rest ys all.1
 
 pub zip_length : {A B : Type 0} (R : A → B → Type 0) (xs : List A) (ys : List B) → AllZip R xs ys → length xs ≡ length ys
 zip_length R [] [] all = refl
-zip_length R [] (y ∷ ys) all = absurd all
-zip_length R (x ∷ xs) [] all = absurd all
 zip_length R (x ∷ xs) (y ∷ ys) all = let rest = zip_length R xs ys all.1 in omega arith
+zip_length R _ _ all = absurd all
 
 pub zip_append : {A B : Type 0} (R : A → B → Type 0) (xs : List A) (ys : List B) (x : A) (y : B) → AllZip R xs ys → R x y
     → AllZip R (xs ++ x ∷ []) (ys ++ y ∷ [])
 zip_append R [] [] x y all h = (h, tt)
-zip_append R [] (z ∷ ys) x y all h = absurd all
-zip_append R (z ∷ xs) [] x y all h = absurd all
 zip_append R (z ∷ xs) (w ∷ ys) x y all h = (all.0, zip_append R xs ys x y all.1 h)
+zip_append R _ _ x y all h = absurd all
 
 -- bytes that end with a newline have as many lines as newlines
 pub line_count : (earlier : List ℕ) → length (file_lines (earlier ++ 10 ∷ [])) ≡ newline_count (earlier ++ 10 ∷ [])
@@ -134,10 +132,6 @@ pub data LinePlace (front line : List ℕ) (more found : List ℕ) (f r : List �
 -- of two numbers the first is less than the second, or the second is at most the first
 pub split : (a b : ℕ) → (a < b) ⊎ (b ≤ a)
 split a b = grind arith
-
-positive : (g : List ℕ) → (g ≡ [] → ⊥) → 0 < length g
-positive [] some = absurd (some refl)
-positive (x ∷ g) some = omega arith
 
 empty_right : (k g : List ℕ) → k ++ g ≡ [] → g ≡ []
 empty_right [] g e = e

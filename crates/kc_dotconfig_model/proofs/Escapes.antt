@@ -10,6 +10,7 @@ use Rattle.kc_dotconfig_model.specs.declared.format.Strings.TheVariants.{Escaped
 use Rattle.kc_dotconfig_model.specs.Formats.{string_spelling, has_other_escape}
 use Rattle.kc_dotconfig_model.specs.ConfigLines.{has_escape_notice}
 use Rattle.kc_dotconfig_model.specs.FileLaws.{EscapesAreNoticed}
+use Rattle.kc_tree_model.proofs.Consistency.Definitions.{not_not}
 
 -- bytes that are written between quotes have no other escapes
 written_has_none : (text : List ℕ) → has_other_escape false (flat_map escaped_byte text ++ 34 ∷ []) ≡ false
@@ -29,10 +30,6 @@ spelling_unnoticed Strict strings text = refl
 spelling_unnoticed (Linux version) Raw text = refl
 spelling_unnoticed (Linux version) Escaped text = quoted_has_none text
 
-not_false : (b : Bool) → not b ≡ false → b ≡ true
-not_false true e = refl
-not_false false e = sym e
-
 -- bytes between quotes without other escapes are those that are written
 written_body : {body means : List ℕ} → IsBody 34 body means → has_other_escape false (body ++ 34 ∷ []) ≡ false → body ≡ flat_map escaped_byte means
 written_body none e = refl
@@ -43,7 +40,7 @@ written_body (plain {c = c} {bs = bs} {cs = cs} quote escape rest) e =
 written_body (pair {c = c} {bs = bs} {cs = cs} rest) e =
     let parts = or_parts (not (c == 34 || (c == 92))) (has_other_escape false (bs ++ 34 ∷ [])) e in
     ap (λ l. 92 ∷ c ∷ l) (written_body rest parts.1)
-    ∙ sym (ap (λ b. cond b (92 ∷ c ∷ []) (c ∷ []) ++ flat_map escaped_byte cs) (not_false (c == 34 || (c == 92)) parts.0))
+    ∙ sym (ap (λ b. cond b (92 ∷ c ∷ []) (c ∷ []) ++ flat_map escaped_byte cs) (not_not (c == 34 || (c == 92)) parts.0))
 
 -- in the languages of Linux the spelling of an escaped string has no notice exactly if it is the one that is written
 pub escapes_are_noticed : EscapesAreNoticed

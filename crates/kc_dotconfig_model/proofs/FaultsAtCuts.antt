@@ -10,7 +10,7 @@ use Rattle.std.proofs.lemmas.List.Folds.{list_all-append}
 use Rattle.kc_tree_model.specs.Trees.{Tree}
 use Rattle.kc_dotconfig_model.specs.Formats.{FileFormat}
 use Rattle.kc_dotconfig_model.specs.declared.fault.LoadKind.{LoadKind}
-use Rattle.kc_dotconfig_model.specs.declared.fault.LoadKind.TheVariants.{Malformed, NotUtf8, LineTooLong, TooManyLines, Read, OutOfMemory, TooLarge}
+use Rattle.kc_dotconfig_model.specs.declared.fault.LoadKind.TheVariants.{Malformed, NotUtf8, LineTooLong, TooManyLines, TooLarge}
 use Rattle.kc_value.specs.Lines.{has_no_byte, newline_count, HasWholeLines}
 use Rattle.kc_dotconfig_model.specs.ConfigLines.{LineMeaning, Means, silent, empty, IsMalformed}
 use Rattle.kc_tree_model.specs.LogicalLines.{without_white_end}
@@ -104,8 +104,7 @@ module _ (format : FileFormat) (tree : Tree) (known line : List ℕ) (meanings :
         | this same after ↦ (let e = ap length same in let h = no_shorter line more found at.rest c.one_line at.ends after in omega arith)
         | later h ↦ omega arith
       ]
-  clean more Read byte number h = absurd h
-  clean more OutOfMemory byte number h = absurd h
+  clean more _ byte number h = absurd h
 
   -- a fault after the known bytes is the first, if no other at its byte comes before it
   first_by : (more : List ℕ) (kind : LoadKind) (number : ℕ) → OccursAt format tree (known ++ more) kind (length known) number
@@ -193,23 +192,14 @@ module _ (format : FileFormat) (tree : Tree) (known line : List ℕ) (meanings :
   after_large : (more : List ℕ) (n : ℕ) → (OccursAt format tree (known ++ more) TooLarge (length known) n → ⊥) → (other : LoadKind)
       → OccursAt format tree (known ++ more) other (length known) n → 1 ≤ rank_of other
   after_large more n a TooLarge at = absurd (a at)
-  after_large more n a TooManyLines at = omega arith
-  after_large more n a LineTooLong at = omega arith
-  after_large more n a NotUtf8 at = omega arith
-  after_large more n a Malformed at = omega arith
-  after_large more n a Read at = omega arith
-  after_large more n a OutOfMemory at = omega arith
+  after_large more n a _ at = omega arith
 
   after_many : (more : List ℕ) (n : ℕ) → (OccursAt format tree (known ++ more) TooLarge (length known) n → ⊥)
       → (OccursAt format tree (known ++ more) TooManyLines (length known) n → ⊥)
       → (other : LoadKind) → OccursAt format tree (known ++ more) other (length known) n → 2 ≤ rank_of other
   after_many more n a b TooLarge at = absurd (a at)
   after_many more n a b TooManyLines at = absurd (b at)
-  after_many more n a b LineTooLong at = omega arith
-  after_many more n a b NotUtf8 at = omega arith
-  after_many more n a b Malformed at = omega arith
-  after_many more n a b Read at = omega arith
-  after_many more n a b OutOfMemory at = omega arith
+  after_many more n a b _ at = omega arith
 
   after_long : (more : List ℕ) (n : ℕ) → (OccursAt format tree (known ++ more) TooLarge (length known) n → ⊥)
       → (OccursAt format tree (known ++ more) TooManyLines (length known) n → ⊥) → (OccursAt format tree (known ++ more) LineTooLong (length known) n → ⊥)
@@ -217,10 +207,7 @@ module _ (format : FileFormat) (tree : Tree) (known line : List ℕ) (meanings :
   after_long more n a b d TooLarge at = absurd (a at)
   after_long more n a b d TooManyLines at = absurd (b at)
   after_long more n a b d LineTooLong at = absurd (d at)
-  after_long more n a b d NotUtf8 at = omega arith
-  after_long more n a b d Malformed at = omega arith
-  after_long more n a b d Read at = omega arith
-  after_long more n a b d OutOfMemory at = omega arith
+  after_long more n a b d _ at = omega arith
 
   after_odd : (more : List ℕ) (n : ℕ) → (OccursAt format tree (known ++ more) TooLarge (length known) n → ⊥)
       → (OccursAt format tree (known ++ more) TooManyLines (length known) n → ⊥) → (OccursAt format tree (known ++ more) LineTooLong (length known) n → ⊥)
@@ -230,9 +217,7 @@ module _ (format : FileFormat) (tree : Tree) (known line : List ℕ) (meanings :
   after_odd more n a b d e TooManyLines at = absurd (b at)
   after_odd more n a b d e LineTooLong at = absurd (d at)
   after_odd more n a b d e NotUtf8 at = absurd (e at)
-  after_odd more n a b d e Malformed at = omega arith
-  after_odd more n a b d e Read at = omega arith
-  after_odd more n a b d e OutOfMemory at = omega arith
+  after_odd more n a b d e _ at = omega arith
 
   pub too_many : (more : List ℕ) → line ≡ [] → length meanings ≡ MAX_CONFIG_LINES → length known < MAX_CONFIG_BYTES → 0 < length more
       → IsFirstFault format tree complete (known ++ more) TooManyLines (length meanings + 1)
@@ -369,15 +354,13 @@ module _ (format : FileFormat) (tree : Tree) (known line : List ℕ) (meanings :
         go LineTooLong byte number (found, start, at, long, is_byte) = let sound = (found_sound found number start at).1.short in omega arith
         go NotUtf8 byte number (found, start, at, bad, is_byte) = bad ((found_sound found number start at).1.text)
         go Malformed byte number (found, start, at, bad, is_byte) = let sound = found_sound found number start at in bad sound.0 sound.1.has_meaning
-        go Read byte number h = h
-        go OutOfMemory byte number h = h
+        go _ byte number h = h
 
   all_mean : (lines : List (List ℕ)) (all : List LineMeaning) → AllZip (IsSound format tree) lines all
       → AllZip (λ l x. Means format tree (without_white_end l) x) lines all
   all_mean [] [] h = tt
-  all_mean [] (x ∷ all) h = absurd h
-  all_mean (l ∷ lines) [] h = absurd h
   all_mean (l ∷ lines) (x ∷ all) h = (h.0.has_meaning, all_mean lines all h.1)
+  all_mean _ _ h = absurd h
 
   -- a file that ends where its known part ends has the meanings of the complete lines and then that of the last line
   pub file_means : (last : List LineMeaning) → MeansLast last → FileMeans format tree known (meanings ++ last)

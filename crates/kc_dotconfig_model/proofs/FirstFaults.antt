@@ -2,7 +2,6 @@
 use Rattle.std.proofs.Common.{◌≡◌, inl, inr, ℕ, zero, suc, ◌+◌, ◌≤◌, true, not, ◌==◌, cond, List, [], ◌∷◌, ◌++◌, length, take, refl, sym, ◌∙◌, ap, arith}
 use Rattle.std.proofs.lemmas.Bool.{and_parts, not-true, cases_lt}
 use Rattle.std.proofs.Math.Seq.{take-length}
-use Rattle.std.proofs.lemmas.List.Sums.{sum_by-cons}
 use Rattle.kc_tree_model.specs.Trees.{Tree}
 use Rattle.kc_dotconfig_model.specs.Formats.{FileFormat}
 use Rattle.kc_dotconfig_model.specs.declared.fault.LoadKind.{LoadKind}
@@ -11,9 +10,7 @@ use Rattle.kc_value.specs.Lines.{has_no_byte, newline_count}
 use Rattle.kc_value.specs.declared.limits.TheConstants.{MAX_LINE_BYTES}
 use Rattle.kc_dotconfig_model.specs.LoadFaults.{InputEnd, complete, cut_short, IsLineAt, OccursAt, IsConsideredAt, rank_of}
 use Rattle.kc_dotconfig_model.specs.FileLaws.{OneFaultIsFirst, FaultyFilesAreRefused, FailedReadsAreReported}
-
-count_more : (b : ℕ) (bytes : List ℕ) → newline_count (b ∷ bytes) ≡ cond (b == 10) 1 0 + newline_count bytes
-count_more b bytes = sum_by-cons (λ c. cond (c == 10) 1 0) b bytes
+use Rattle.kc_dotconfig_model.proofs.AcceptedFiles.{count_more}
 
 -- no newline is met within a line
 none_within : (line rest : List ℕ) (k : ℕ) → has_no_byte 10 line ≡ true → k ≤ length line → newline_count (take k (line ++ rest)) ≡ 0
@@ -45,10 +42,9 @@ number_at : (format : FileFormat) (tree : Tree) (bytes : List ℕ) (kind : LoadK
 number_at format tree bytes TooLarge byte number c = c.2 ∙ ap (λ k. newline_count (take k bytes) + 1) (sym c.1)
 number_at format tree bytes TooManyLines byte number c = line_counts bytes c.0 number byte 0 byte c.1 (omega arith) (omega arith)
 number_at format tree bytes LineTooLong byte number c = line_counts bytes c.0 number c.1 MAX_LINE_BYTES byte c.2 (let long = c.3 in omega arith) c.4
-number_at format tree bytes NotUtf8 byte number c = line_counts bytes c.0 number c.1 (length c.0) byte c.2 (omega arith) c.4
-number_at format tree bytes Malformed byte number c = line_counts bytes c.0 number c.1 (length c.0) byte c.2 (omega arith) c.4
 number_at format tree bytes Read byte number c = absurd c
 number_at format tree bytes OutOfMemory byte number c = absurd c
+number_at format tree bytes _ byte number c = line_counts bytes c.0 number c.1 (length c.0) byte c.2 (omega arith) c.4
 
 abbrev kind_at : ℕ → LoadKind
 kind_at n =
@@ -57,12 +53,7 @@ kind_at n =
 
 kind_back : (kind : LoadKind) → kind_at (rank_of kind) ≡ kind
 kind_back TooLarge = refl
-kind_back TooManyLines = refl
-kind_back LineTooLong = refl
-kind_back NotUtf8 = refl
-kind_back Malformed = refl
-kind_back Read = refl
-kind_back OutOfMemory = refl
+kind_back _ = refl
 
 -- the line number of a considered fault is one more than the number of newlines before its byte
 pub line_number_of_fault : (format : FileFormat) (tree : Tree) (extent : InputEnd) (bytes : List ℕ) (kind : LoadKind) (byte number : ℕ)

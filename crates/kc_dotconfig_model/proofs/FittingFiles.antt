@@ -16,7 +16,7 @@ use Rattle.std.proofs.lemmas.List.Folds.{list_all-append}
 use Rattle.kc_value.specs.declared.tri.Tri.{Tri}
 use Rattle.kc_value.specs.declared.tri.Tri.TheVariants.{N, Y}
 use Rattle.kc_value.specs.declared.value.Kind.{Kind}
-use Rattle.kc_value.specs.declared.value.Kind.TheVariants.{Bool as Boolean, Tristate, Text, Int, Hex}
+use Rattle.kc_value.specs.declared.value.Kind.TheVariants.{Bool as Boolean, Tristate, Int, Hex}
 use Rattle.kc_value.specs.QuotedTexts.{IsBody, none, plain, pair, IsQuoted}
 use Rattle.kc_tree_model.specs.Trees.{Tree, Symbol}
 use Rattle.kc_tree_model.specs.declared.ids.Unit.{Unit as TreeUnit}
@@ -35,7 +35,7 @@ use Rattle.kc_value.specs.Number.{number_of_text}
 use Rattle.kc_rules_model.specs.Shapes.{user_fits, unit_user_fits, symbol_user_fits, choice_user_fits, is_member, tri_fits, user_text_fits}
 use Rattle.kc_tree_model.proofs.Lookups.{unit_is}
 use Rattle.kc_value.specs.Lines.{has_no_byte, has_newline}
-use Rattle.kc_dotconfig_model.specs.ConfigLines.{LineMeaning, assigns, assigns_escaped, unchosen, notice, silent, tri_of_text, unchosen_meaning, has_escape_notice, text_meaning, ValueMeans, tri, chosen, not_chosen, quoted, number, no_int, no_hex, no_tri, no_text, no_number, unset_meaning, Means, value, unset, unknown_value, unknown_unset, empty, comment}
+use Rattle.kc_dotconfig_model.specs.ConfigLines.{LineMeaning, assigns, assigns_escaped, unchosen, silent, tri_of_text, unchosen_meaning, has_escape_notice, text_meaning, ValueMeans, tri, chosen, not_chosen, quoted, number, unset_meaning, Means, value, unset}
 use Rattle.kc_tree_model.specs.LogicalLines.{without_white_end}
 use Rattle.kc_dotconfig_model.specs.ConfigFiles.{file_lines, over, assigned_over, empty_assignment}
 use Rattle.kc_dotconfig_model.specs.FileLaws.{FilesFit}
@@ -44,9 +44,7 @@ use Rattle.kc_dotconfig_model.specs.FileLaws.{FilesFit}
 abbrev pub SayingFits : Tree → LineMeaning → Type 0
 SayingFits tree (assigns u x) = user_fits tree u x ≡ true
 SayingFits tree (assigns_escaped u text) = user_fits tree u (TextUser text) ≡ true
-SayingFits tree (unchosen u s) = Unit {0}
-SayingFits tree (notice kind) = Unit {0}
-SayingFits tree silent = Unit {0}
+SayingFits tree _ = Unit {0}
 
 bool_meant : (text : List ℕ) (t : Tri) → tri_of_text Boolean text ≡ Some t → not (is_m t) ≡ true
 bool_meant text t e = go (bytes_eq text (codes "y")) (bytes_eq text (codes "n")) e where
@@ -58,23 +56,17 @@ bool_meant text t e = go (bytes_eq text (codes "y")) (bytes_eq text (codes "n"))
 tri_meant_fits : (kind : Kind) (text : List ℕ) (t : Tri) → tri_of_text kind text ≡ Some t → tri_fits kind t ≡ true
 tri_meant_fits Boolean text t e = bool_meant text t e
 tri_meant_fits Tristate text t e = refl
-tri_meant_fits Text text t e = cc
-tri_meant_fits Int text t e = cc
-tri_meant_fits Hex text t e = cc
+tri_meant_fits _ text t e = cc
 
 n_fits : (kind : Kind) → is_tri_kind kind ≡ true → tri_fits kind N ≡ true
 n_fits Boolean e = refl
 n_fits Tristate e = refl
-n_fits Text e = absurd (false≢true e)
-n_fits Int e = absurd (false≢true e)
-n_fits Hex e = absurd (false≢true e)
+n_fits _ e = absurd (false≢true e)
 
 number_fits : (kind : Kind) (text : List ℕ) → is_some (number_of_text kind text) ≡ true → (user_text_fits kind text ≡ true) × (kind ≢ Boolean)
-number_fits Boolean text e = absurd (false≢true e)
-number_fits Tristate text e = absurd (false≢true e)
-number_fits Text text e = absurd (false≢true e)
 number_fits Int text e = (e, λ same. cc)
 number_fits Hex text e = (e, λ same. cc)
+number_fits _ text e = absurd (false≢true e)
 
 body_one_line : (body means : List ℕ) → IsBody 34 body means → has_no_byte 10 body ≡ true → has_newline means ≡ false
 body_one_line body means none one = refl
@@ -189,11 +181,7 @@ module _ (tree : Tree) (sound : IsConsistent tree) (s : ℕ) (symbol : Symbol) (
       (is_utf8-from_IsUtf8 means (string_utf8 strings text means is_spelling utf8))))
   value_fits_unit strings text meaning one utf8 (number _ some) =
       let fits = number_fits symbol.kind text some in outside_fits (TextUser text) (outside symbol.choice refl fits.1) fits.0
-  value_fits_unit strings text meaning one utf8 (no_int is) = tt
-  value_fits_unit strings text meaning one utf8 (no_hex is) = tt
-  value_fits_unit strings text meaning one utf8 (no_tri _ small meant) = tt
-  value_fits_unit strings text meaning one utf8 (no_text _ is without) = tt
-  value_fits_unit strings text meaning one utf8 (no_number b rest large other without) = tt
+  value_fits_unit strings text meaning one utf8 _ = tt
 
   unset_fits : (o : Option ℕ) → symbol.choice ≡ o → (t : Bool) → is_tri_kind symbol.kind ≡ t → SayingFits tree (unset_meaning tree s symbol o)
   unset_fits (Some c) e t small = unchosen_fits c e
@@ -228,14 +216,12 @@ module _ (tree : Tree) where
   -- a user value over an earlier one fits where both do
   pub over_user_fits : (u : ℕ) (x : UserValue) (o : Option UserValue) → user_fits tree u x ≡ true → IfSome o (λ y. IsTrue (user_fits tree u y)) → user_fits tree u (over x o) ≡ true
   unfolding user_fits
-  over_user_fits u (TriUser t) o fits held = fits
-  over_user_fits u (TextUser t) o fits held = fits
-  over_user_fits u (MemberUser s) o fits held = fits
   over_user_fits u (LinesUser l) None fits held = fits
   over_user_fits u (LinesUser l) (Some (TriUser t)) fits held = held
   over_user_fits u (LinesUser l) (Some (TextUser t)) fits held = held
   over_user_fits u (LinesUser l) (Some (MemberUser s)) fits held = held
   over_user_fits u (LinesUser l) (Some (LinesUser k)) fits held = laid_over_fits (slice_get tree.units u) l k fits held
+  over_user_fits u _ o fits held = fits
 
   pub held_fits : (users : List (Option UserValue)) (u : ℕ) → FitsUsers (length tree.units) (λ w y. IsTrue (user_fits tree w y)) users
       → IfSome (user_of users u) (λ y. IsTrue (user_fits tree u y))
@@ -252,10 +238,7 @@ module _ (format : FileFormat) (tree : Tree) (sound : IsConsistent tree) where
       value_fits_unit tree sound s symbol at format.strings text meaning (second_lacks (61 ∷ []) text behind_name)
       (utf8_of_back line (format.prefix ++ name) text 61 (omega arith) utf8 parted) has_meaning
   line_fits line meaning one utf8 (unset _ name s symbol is named at) = unset_fits tree sound s symbol at symbol.choice refl (is_tri_kind symbol.kind) refl
-  line_fits line meaning one utf8 (unknown_value _ name text is named) = tt
-  line_fits line meaning one utf8 (unknown_unset _ name is named) = tt
-  line_fits line meaning one utf8 empty = tt
-  line_fits line meaning one utf8 (comment _ hash without) = tt
+  line_fits line meaning one utf8 _ = tt
 
   front_lacks : (n : ℕ) (line : List ℕ) → has_no_byte 10 line ≡ true → has_no_byte 10 (take n line) ≡ true
   front_lacks zero line one = refl
@@ -282,14 +265,13 @@ module _ (format : FileFormat) (tree : Tree) (sound : IsConsistent tree) where
       → list_all is_utf8 lines ≡ true
       → AllZip (λ line meaning. Means format tree (without_white_end line) meaning) lines meanings → AllByRecursion (SayingFits tree) meanings
   sayings_fit [] [] one utf8 all = tt
-  sayings_fit [] (meaning ∷ meanings) one utf8 all = absurd all
-  sayings_fit (line ∷ lines) [] one utf8 all = absurd all
   sayings_fit (line ∷ lines) (meaning ∷ meanings) one utf8 all =
       let parts = and_parts (is_utf8 line) (list_all is_utf8 lines) utf8 in (
         line_fits (without_white_end line) meaning (front_lacks _ line one.0) (trimmed_utf8 line (IsUtf8-from_is_utf8 line parts.0)) all.0,
         sayings_fit lines
             meanings one.1 parts.1 all.1,
       )
+  sayings_fit _ _ one utf8 all = absurd all
 
   set_fits : (users : List (Option UserValue)) (u : ℕ) (x : UserValue) → FitsUsers (length tree.units) (λ w y. IsTrue (user_fits tree w y)) users
       → user_fits tree u x ≡ true → FitsUsers (length tree.units) (λ w y. IsTrue (user_fits tree w y)) (slice_set users u (Some x))
@@ -310,9 +292,7 @@ module _ (format : FileFormat) (tree : Tree) (sound : IsConsistent tree) where
   over_fits [] users fitting all = fitting
   over_fits (assigns u x ∷ meanings) users fitting all = over_fits meanings (slice_set users u (Some (over x (user_of users u)))) (set_fits users u (over x (user_of users u)) fitting (over_user_fits tree u x (user_of users u) all.0 (held_fits tree users u fitting))) all.1
   over_fits (assigns_escaped u text ∷ meanings) users fitting all = over_fits meanings (slice_set users u (Some (TextUser text))) (set_fits users u (TextUser text) fitting all.0) all.1
-  over_fits (unchosen u s ∷ meanings) users fitting all = over_fits meanings users fitting all.1
-  over_fits (notice kind ∷ meanings) users fitting all = over_fits meanings users fitting all.1
-  over_fits (silent ∷ meanings) users fitting all = over_fits meanings users fitting all.1
+  over_fits (_ ∷ meanings) users fitting all = over_fits meanings users fitting all.1
 
 pub none_held : (n u : ℕ) → get_or {A = Option UserValue} (replicate n None) u None ≡ None
 none_held zero u = refl

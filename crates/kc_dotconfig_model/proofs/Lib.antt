@@ -1,3 +1,4 @@
+pub mod Tables
 pub mod ValueLaws
 pub mod LineForms
 pub mod LineLaws

@@ -13,19 +13,8 @@ use Rattle.kc_dotconfig_model.specs.PrefixGrammar.{is_name_prefix}
 use Rattle.kc_dotconfig_model.specs.ConfigLines.{BeginsWithHash, IsValueLine, IsUnsetLine}
 use Rattle.kc_dotconfig_model.specs.FileLaws.{PrefixedLinesHaveValues}
 use Rattle.kc_dotconfig_model.specs.between.LineMeanings.{is_hash, begins_with_hash, after_front, split_at_byte, if_named, named_before, value_parts, if_not_set, unset_name}
-
-after_front_is : (front text rest : List ℕ) → after_front front text ≡ Some rest → text ≡ front ++ rest
-after_front_is [] text rest e = cc
-after_front_is (a ∷ front) [] rest e = cc
-after_front_is (a ∷ front) (b ∷ text) rest e = go (a == b) refl e (after_front_is front text rest) where
-  go : (t : Bool) → (a == b) ≡ t → cond t (after_front front text) None ≡ Some rest → (after_front front text ≡ Some rest → text ≡ front ++ rest)
-      → b ∷ text ≡ a ∷ (front ++ rest)
-  go true same e next = ap (λ c. c ∷ text) (sym (eqb-true a b same)) ∙ ap (λ l. a ∷ l) (next e)
-  go false same e next = cc
-
-after_front_append : (front rest : List ℕ) → after_front front (front ++ rest) ≡ Some rest
-after_front_append [] rest = refl
-after_front_append (a ∷ front) rest = ap (λ t. cond t (after_front front (front ++ rest)) None) (eq-eqb a a refl) ∙ after_front_append front rest
+use Rattle.kc_dotconfig_model.proofs.LineParts.{after_front_is, after_front_append}
+use Rattle.kc_tree_model.proofs.Consistency.Units.{and_then_some}
 
 abbrev Parts : Type 0
 Parts = List ℕ × List ℕ
@@ -83,10 +72,6 @@ named_front : (b : ℕ) (name after : List ℕ) → 0 < length name → has_no_b
 named_front b name after some all =
     ap (option_and_then if_named) (cut_front b name after all) ∙ ap (λ t. cond {A = Option Parts} t (Some (name, after)) None) (lt-ltb 0 (length name) some)
 
-some_and_then : {X Y : Type 0} (f : X → Option Y) (o : Option X) (y : Y) → option_and_then f o ≡ Some y → (x : X) × (o ≡ Some x) × (f x ≡ Some y)
-some_and_then f None y e = cc
-some_and_then f (Some x) y e = (x, refl, e)
-
 -- what is read of a line `CONFIG_NAME=text`, given whether its first byte that isn't white is `#`
 abbrev parts_unless : Bool → List ℕ → List ℕ → Option Parts
 parts_unless t prefix line = cond t None (option_and_then (named_before 61) (after_front prefix line))
@@ -97,7 +82,7 @@ value_line_is prefix line parts e = go (begins_with_hash line) refl e where
   go : (t : Bool) → begins_with_hash line ≡ t → parts_unless t prefix line ≡ Some parts → IsValueLine prefix line parts.0 parts.1
   go true hash e = cc
   go false none e =
-      let rest = some_and_then (named_before 61) (after_front prefix line) parts e in
+      let rest = and_then_some (named_before 61) (after_front prefix line) parts e in
       let cut = named_is 61 rest.0 parts rest.2 in (
         cut.some,
         cut.lacking,
@@ -156,8 +141,8 @@ if_not_set_is parts name e = go (bytes_eq parts.1 (codes "is not set")) refl e w
 
 pub unset_line_is : (prefix line name : List ℕ) → unset_name prefix line ≡ Some name → IsUnsetLine prefix line name
 unset_line_is prefix line name e =
-    let cut = some_and_then if_not_set (option_and_then (named_before 32) (after_front (codes "# " ++ prefix) line)) name e in
-    let rest = some_and_then (named_before 32) (after_front (codes "# " ++ prefix) line) cut.0 cut.1 in
+    let cut = and_then_some if_not_set (option_and_then (named_before 32) (after_front (codes "# " ++ prefix) line)) name e in
+    let rest = and_then_some (named_before 32) (after_front (codes "# " ++ prefix) line) cut.0 cut.1 in
     let form = named_is 32 rest.0 cut.0 rest.2 in
     let parts = if_not_set_is cut.0 name cut.2 in (
       subst (λ l. 0 < length l) parts.0 form.some,

@@ -1,13 +1,13 @@
 -- A line has the meaning that `line_meaning` returns, and no other.
-use Rattle.std.proofs.Common.{◌≡◌, inl, inr, ℕ, ◌<◌, ◌≤◌, Bool, true, false, not, ◌||◌, ◌==◌, cond, List, [], ◌∷◌, ◌++◌, Option, Some, None, length, find, refl, sym, ◌∙◌, ap, subst, arith}
-use Rattle.std.specs.Prelude.{codes, slice_get, nat_lt}
+use Rattle.std.proofs.Common.{◌≡◌, inl, inr, ℕ, ◌<◌, ◌≤◌, Bool, true, false, not, cond, List, [], ◌∷◌, Option, Some, None, length, find, refl, ◌∙◌, ap, subst, arith}
+use Rattle.std.specs.Prelude.{slice_get, nat_lt}
 use Rattle.std.specs.Option.{option_and_then}
-use Rattle.std.specs.List.{AllZip, list_all}
-use Rattle.std.proofs.lemmas.Bool.{cases_Bool, false≢true, eqb-true, and_parts, ltb-true}
+use Rattle.std.specs.List.{AllZip}
+use Rattle.std.proofs.lemmas.Bool.{false≢true, eqb-true, ltb-true}
 use Rattle.std.proofs.lemmas.Option.{slice_get_cases}
 use Rattle.kc_tokens.specs.Token.{is_white_byte}
 use Rattle.kc_tree_model.specs.Trees.{Tree, Symbol}
-use Rattle.kc_tree_model.specs.TreeLookup.{is_name_byte, symbol_named}
+use Rattle.kc_tree_model.specs.TreeLookup.{symbol_named}
 use Rattle.kc_dotconfig_model.specs.Formats.{FileFormat}
 use Rattle.kc_dotconfig_model.specs.PrefixGrammar.{is_name_prefix}
 use Rattle.kc_dotconfig_model.specs.ConfigLines.{LineMeaning, BeginsWithHash, silent, Means, value, unset, unknown_value, unknown_unset, empty, comment, IsValueLine, IsUnsetLine, unset_meaning}
@@ -155,11 +155,10 @@ lines_sound format tree valid (line ∷ lines) meanings e =
 lines_complete : (format : FileFormat) (tree : Tree) → is_name_prefix format.prefix ≡ true → (lines : List (List ℕ)) (meanings : List LineMeaning)
     → AllZip (λ line meaning. Means format tree (without_white_end line) meaning) lines meanings → meanings_of_lines format tree lines ≡ Some meanings
 lines_complete format tree valid [] [] all = refl
-lines_complete format tree valid [] (meaning ∷ meanings) all = absurd all
-lines_complete format tree valid (line ∷ lines) [] all = absurd all
 lines_complete format tree valid (line ∷ lines) (meaning ∷ meanings) all =
     ap (λ o. with_rest o (meanings_of_lines format tree lines)) ((line_read format tree (without_white_end line) meaning valid).1 all.0)
     ∙ ap (with_rest (Some meaning)) (lines_complete format tree valid lines meanings all.1)
+lines_complete format tree valid _ _ all = absurd all
 
 pub file_read : FilesAreRead
 file_read format tree bytes meanings valid =

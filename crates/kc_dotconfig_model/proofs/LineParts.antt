@@ -11,11 +11,11 @@ use Rattle.std.proofs.lemmas.Bool.{eqb-true, eq-eqb, lt-ltb}
 use Rattle.kc_dotconfig_model.specs.Formats.{between_quotes}
 use Rattle.kc_dotconfig_model.specs.between.LineMeanings.{after_front, split_at_byte, if_named, named_before}
 
-after_front_append : (front rest : List ℕ) → after_front front (front ++ rest) ≡ Some rest
+pub after_front_append : (front rest : List ℕ) → after_front front (front ++ rest) ≡ Some rest
 after_front_append [] rest = refl
 after_front_append (a ∷ front) rest = ap (λ t. cond t (after_front front (front ++ rest)) None) (eq-eqb a a refl) ∙ after_front_append front rest
 
-after_front_is : (front text rest : List ℕ) → after_front front text ≡ Some rest → text ≡ front ++ rest
+pub after_front_is : (front text rest : List ℕ) → after_front front text ≡ Some rest → text ≡ front ++ rest
 after_front_is [] text rest e = cc
 after_front_is (a ∷ front) [] rest e = cc
 after_front_is (a ∷ front) (b ∷ text) rest e = go (a == b) refl e (after_front_is front text rest) where
@@ -48,16 +48,6 @@ after_front_none front text other = go (after_front front text) refl where
   go : (o : Option (List ℕ)) → after_front front text ≡ o → after_front front text ≡ None
   go None e = e
   go (Some rest) e = absurd (other rest (after_front_is front text rest e))
-
--- removing two joined prefixes from a text is removing the first and then the second
-pub after_two_fronts : (a b text : List ℕ) → after_front (a ++ b) text ≡ option_and_then (after_front b) (after_front a text)
-after_two_fronts [] b text = refl
-after_two_fronts (x ∷ a) b [] = refl
-after_two_fronts (x ∷ a) b (y ∷ text) = go (x == y) (after_two_fronts a b text) where
-  go : (t : Bool) → after_front (a ++ b) text ≡ option_and_then (after_front b) (after_front a text)
-      → cond t (after_front (a ++ b) text) None ≡ option_and_then (after_front b) (cond t (after_front a text) None)
-  go true e = e
-  go false e = refl
 
 abbrev Parts : Type 0
 Parts = List ℕ × List ℕ
@@ -104,10 +94,6 @@ pub named_is : (b : ℕ) (text name rest : List ℕ) → split_at_byte b text �
 named_is b text [] rest e some = cc
 named_is b text (c ∷ name) rest e some =
     ap (option_and_then if_named) e ∙ ap (λ t. cond {A = Option Parts} t (Some (c ∷ name, rest)) None) (lt-ltb 0 (length (c ∷ name)) (omega arith))
-
-pub not_named : (b : ℕ) (text name rest : List ℕ) → split_at_byte b text ≡ Some (name, rest) → (length name == 0) ≡ true → named_before b text ≡ None
-not_named b text [] rest e none = ap (option_and_then if_named) e
-not_named b text (c ∷ name) rest e none = let n = eqb-true (length (c ∷ name)) 0 none in absurd (omega arith)
 
 -- for a text that begins with `"`, the result of removing a `"` at its end is the text between both quotes
 pub inner_is : (text rest : List ℕ) (r : Option (Bor (List ℕ))) → text ≡ 34 ∷ rest

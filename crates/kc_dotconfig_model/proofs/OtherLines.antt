@@ -1,10 +1,10 @@
 -- What lines of a choice select by the rules from Linux 6.10 on, beside what they select by those before.
-use Rattle.std.proofs.Common.{◌≡◌, ◌≢◌, ◌⊎◌, inl, inr, ℕ, Bool, true, false, not, ◌&&◌, ◌||◌, ◌==◌, eq-eqb, eqb-true, cond, filter, find, map, List, [], ◌∷◌, ◌++◌, Option, Some, None, refl, sym, ◌∙◌, ap, subst}
+use Rattle.std.proofs.Common.{◌≡◌, ◌≢◌, ◌⊎◌, inl, inr, ℕ, Bool, true, false, not, ◌&&◌, ◌||◌, ◌==◌, eq-eqb, eqb-true, cond, filter, find, List, [], ◌∷◌, ◌++◌, Option, Some, None, refl, sym, ◌∙◌, ap}
 use Rattle.std.specs.Prelude.{is_some}
-use Rattle.std.specs.List.{list_any}
 use Rattle.std.specs.Option.{option_map, option_or, option_and_then}
-use Rattle.std.proofs.lemmas.Bool.{cases_Bool, false≢true, and_parts}
+use Rattle.std.proofs.lemmas.Bool.{false≢true, and_parts}
 use Rattle.std.proofs.lemmas.List.Folds.{list_any-append}
+use Rattle.std.proofs.lemmas.Bool.{or_right}
 use Rattle.kc_tree_model.specs.Trees.{Tree, Choice, MemberDefault}
 use Rattle.kc_rules_model.specs.declared.values.MemberLine.{MemberLine}
 use Rattle.kc_rules_model.specs.declared.values.UnitValue.{UnitValue}
@@ -15,7 +15,7 @@ use Rattle.kc_rules_model.specs.MemberLines.{is_listed, laid_over, last_y, first
 use Rattle.kc_rules_model.specs.Rule.{is_shown, is_visible_member, default_member, assigned_member}
 use Rattle.kc_dotconfig_model.specs.declared.choice_line.ChoiceLine.{ChoiceLine}
 use Rattle.kc_dotconfig_model.specs.MissedAssignments.{is_given_n}
-use Rattle.kc_dotconfig_model.specs.OtherChoices.{kept_last, given_by, last_line, last_n_line, noticed_line, other_member}
+use Rattle.kc_dotconfig_model.specs.OtherChoices.{kept_last, given_by, last_line, last_n_line, other_member}
 use Rattle.kc_dotconfig_model.specs.OtherChoiceLaws.{own_member, IsGivenN, IsHiddenLast, OtherChoicesHaveReasons, OtherChoicesHaveLines, FilesAreLaidOver}
 
 -- the members of the kept lines are those of all lines
@@ -125,10 +125,7 @@ module _ (seen : ℕ → Bool) where
   last_kept (l ∷ lines) m e is = by (last_y (λ s. true) lines) refl (λ f. last_kept lines m f is) e where
     more_n : (b : Bool) → is_given_n (kept_last lines) m ≡ true → is_given_n (cond b (kept_last lines) (l ∷ kept_last lines)) m ≡ true
     more_n true n = n
-    more_n false n = ap (λ t. ((l.member == m) && not l.is_y) || t) n ∙ or_true ((l.member == m) && not l.is_y) where
-      or_true : (b : Bool) → (b || true) ≡ true
-      or_true true = refl
-      or_true false = refl
+    more_n false n = ap (λ t. ((l.member == m) && not l.is_y) || t) n ∙ or_right ((l.member == m) && not l.is_y) true refl
 
     more_y : (b : Bool) → last_y seen (kept_last lines) ≡ Some m → last_y seen (cond b (kept_last lines) (l ∷ kept_last lines)) ≡ Some m
     more_y true y = y
@@ -277,13 +274,9 @@ y_listed seen (l ∷ lines) r e = go (last_y seen lines) refl (y_listed seen lin
   own true f = let same : l.member ≡ r = cc in ap (λ b. b || is_listed lines r) (eq-eqb l.member r same)
   own false f = cc
 
-  or_true : (b : Bool) → (b || true) ≡ true
-  or_true true = refl
-  or_true false = refl
-
   go : (o : Option ℕ) → last_y seen lines ≡ o → (last_y seen lines ≡ Some r → is_listed lines r ≡ true) → option_or o (cond (l.is_y && seen l.member) (Some l.member) None) ≡ Some r
       → ((l.member == r) || is_listed lines r) ≡ true
-  go (Some k) is rest f = ap (λ b. (l.member == r) || b) (rest (is ∙ f)) ∙ or_true (l.member == r)
+  go (Some k) is rest f = ap (λ b. (l.member == r) || b) (rest (is ∙ f)) ∙ or_right (l.member == r) true refl
   go None is rest f = own (l.is_y && seen l.member) f
 
 some_or : {A : Type 0} (a b : Option A) → is_some b ≡ true → is_some (option_or a b) ≡ true

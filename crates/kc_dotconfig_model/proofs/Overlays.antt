@@ -4,31 +4,32 @@ use Rattle.std.specs.Prelude.{slice_set, replicate}
 use Rattle.std.proofs.lemmas.List.{length-set}
 use Rattle.std.proofs.lemmas.List.Elements.{filter-append}
 use Rattle.std.proofs.lemmas.Bool.{eqb-true}
+use Rattle.std.proofs.lemmas.Bool.{or_right}
+use Rattle.std.proofs.Math.Bool.{or_assoc}
 use Rattle.kc_solver.specs.Solutions.{user_of}
 use Rattle.kc_rules_model.specs.declared.values.MemberLine.{MemberLine}
 use Rattle.kc_rules_model.specs.MemberLines.{is_listed, laid_over}
 use Rattle.kc_rules_model.specs.declared.values.UserValue.TheVariants.{Tri as TriUser, Text as TextUser, Member as MemberUser, Lines as LinesUser}
 use Rattle.kc_rules_model.specs.declared.values.UserValue.{UserValue}
-use Rattle.kc_dotconfig_model.specs.ConfigLines.{LineMeaning, assigns, assigns_escaped, unchosen, notice, silent}
-use Rattle.kc_dotconfig_model.specs.ConfigFiles.{assigned_over, over, overlay, empty_assignment}
+use Rattle.kc_dotconfig_model.specs.ConfigLines.{LineMeaning, assigns, assigns_escaped}
+use Rattle.kc_dotconfig_model.specs.ConfigFiles.{assigned, assigned_over, over, overlay, empty_assignment}
 use Rattle.kc_dotconfig_model.specs.FileLaws.{FilesLieOverAssignments}
-
-or_assoc : (a b c : Bool) → (a || (b || c)) ≡ ((a || b) || c)
-or_assoc true b c = refl
-or_assoc false b c = refl
-
-or_true : (a : Bool) → (a || true) ≡ true
-or_true true = refl
-or_true false = refl
+use Rattle.kc_dotconfig_model.proofs.FittingFiles.{none_length}
 
 none_over : (n : ℕ) (users : List (Option UserValue)) → length users ≡ n → overlay (replicate n None) users ≡ users
 none_over zero users e = refl
 none_over (suc n) [] e = absurd (omega arith)
 none_over (suc n) (x ∷ users) e = ap (λ l. x ∷ l) (none_over n users (omega arith))
 
-none_length : (n : ℕ) → length {A = Option UserValue} (replicate n None) ≡ n
-none_length zero = refl
-none_length (suc n) = let rest = none_length n in omega arith
+pub assigned_length : (meaning : LineMeaning) (users : List (Option UserValue)) → length (assigned meaning users) ≡ length users
+assigned_length (assigns w x) users = length-set users w (Some (over x (user_of users w)))
+assigned_length (assigns_escaped w text) users = length-set users w (Some (TextUser text))
+assigned_length _ users = refl
+
+-- the lines of a file give values to as many units as there were
+pub file_length : (meanings : List LineMeaning) (users : List (Option UserValue)) → length (assigned_over meanings users) ≡ length users
+file_length [] users = refl
+file_length (meaning ∷ meanings) users = file_length meanings (assigned meaning users) ∙ assigned_length meaning users
 
 -- which members are listed in a list that is laid over another one
 listed_over : (z p : List MemberLine) (s : ℕ) → is_listed (filter (λ (l : MemberLine). not (is_listed z l.member)) p ++ z) s ≡ (is_listed p s || is_listed z s)
@@ -38,8 +39,8 @@ listed_over z (l ∷ p) s = go (is_listed z l.member) refl (l.member == s) refl 
       → is_listed (filter (λ (k : MemberLine). not (is_listed z k.member)) p ++ z) s ≡ (is_listed p s || is_listed z s)
       → is_listed (cond (not a) (l ∷ filter (λ (k : MemberLine). not (is_listed z k.member)) p) (filter (λ (k : MemberLine). not (is_listed z k.member)) p) ++ z) s
       ≡ ((b || is_listed p s) || is_listed z s)
-  go false unlisted b same next = ap (λ t. (l.member == s) || t) next ∙ ap (λ t. t || (is_listed p s || is_listed z s)) same ∙ or_assoc b (is_listed p s) (is_listed z s)
-  go true listed true same next = next ∙ ap (λ t. is_listed p s || t) (ap (is_listed z) (sym (eqb-true l.member s same)) ∙ listed) ∙ or_true (is_listed p s)
+  go false unlisted b same next = ap (λ t. (l.member == s) || t) next ∙ ap (λ t. t || (is_listed p s || is_listed z s)) same ∙ sym (or_assoc b (is_listed p s) (is_listed z s))
+  go true listed true same next = next ∙ ap (λ t. is_listed p s || t) (ap (is_listed z) (sym (eqb-true l.member s same)) ∙ listed) ∙ or_right (is_listed p s) true refl
   go true listed false same next = next
 
 module _ (z p : List MemberLine) where
@@ -75,9 +76,7 @@ laid_over_twice z p q =
 -- a user value over none is itself
 pub over_none : (x : UserValue) → over x None ≡ x
 over_none (TriUser t) = refl
-over_none (TextUser t) = refl
-over_none (MemberUser s) = refl
-over_none (LinesUser l) = refl
+over_none _ = refl
 
 pub over_twice : (x o : UserValue) (y : Option UserValue) → over x (Some (over o y)) ≡ over (over x (Some o)) y
 over_twice (TriUser t) o y = refl
@@ -86,21 +85,17 @@ over_twice (MemberUser s) o y = refl
 over_twice (LinesUser z) (TriUser t) y = refl
 over_twice (LinesUser z) (TextUser t) y = refl
 over_twice (LinesUser z) (MemberUser s) y = refl
-over_twice (LinesUser z) (LinesUser p) None = refl
-over_twice (LinesUser z) (LinesUser p) (Some (TriUser t)) = refl
-over_twice (LinesUser z) (LinesUser p) (Some (TextUser t)) = refl
-over_twice (LinesUser z) (LinesUser p) (Some (MemberUser s)) = refl
 over_twice (LinesUser z) (LinesUser p) (Some (LinesUser q)) = ap (λ l. LinesUser l) (laid_over_twice z p q)
+over_twice (LinesUser z) (LinesUser p) _ = refl
 
 set_over : (later users : List (Option UserValue)) (u : ℕ) (x : UserValue) → length later ≡ length users
     → slice_set (overlay later users) u (Some (over x (user_of (overlay later users) u))) ≡ overlay (slice_set later u (Some (over x (user_of later u)))) users
 set_over [] [] u x e = refl
-set_over [] (y ∷ users) u x e = absurd (omega arith)
-set_over (o ∷ later) [] u x e = absurd (omega arith)
 set_over (None ∷ later) (y ∷ users) zero x e = ap (λ z. Some (over z y) ∷ overlay later users) (sym (over_none x))
 set_over (None ∷ later) (y ∷ users) (suc u) x e = ap (λ l. y ∷ l) (set_over later users u x (omega arith))
 set_over (Some o ∷ later) (y ∷ users) zero x e = ap (λ z. Some z ∷ overlay later users) (over_twice x o y)
 set_over (Some o ∷ later) (y ∷ users) (suc u) x e = ap (λ l. Some (over o y) ∷ l) (set_over later users u x (omega arith))
+set_over _ _ u x e = absurd (omega arith)
 
 file_lines_over : (meanings : List LineMeaning) (later users : List (Option UserValue)) → length later ≡ length users
     → assigned_over meanings (overlay later users) ≡ overlay (assigned_over meanings later) users
@@ -111,9 +106,7 @@ file_lines_over (assigns u x ∷ meanings) later users e =
 file_lines_over (assigns_escaped u text ∷ meanings) later users e =
     ap (assigned_over meanings) (set_over later users u (TextUser text) e)
     ∙ file_lines_over meanings (slice_set later u (Some (TextUser text))) users (length-set later u (Some (TextUser text)) ∙ e)
-file_lines_over (unchosen u s ∷ meanings) later users e = file_lines_over meanings later users e
-file_lines_over (notice kind ∷ meanings) later users e = file_lines_over meanings later users e
-file_lines_over (silent ∷ meanings) later users e = file_lines_over meanings later users e
+file_lines_over (_ ∷ meanings) later users e = file_lines_over meanings later users e
 
 pub file_over : FilesLieOverAssignments
 file_over tree meanings users e =

@@ -1,9 +1,9 @@
 -- Lines of UTF-8 without the white bytes at their end.
-use Rattle.std.proofs.Common.{◌≡◌, inl, inr, ℕ, ◌-◌, ◌<◌, ◌≤◌, Bool, true, false, ◌&&◌, ◌||◌, ◌==◌, List, [], ◌∷◌, length, get_or, reverse, IsUtf8, refl, sym, ap, ◌∙◌, subst, arith}
-use Rattle.std.specs.Prelude.{nat_lt, nat_le}
+use Rattle.std.proofs.Common.{◌≡◌, inl, inr, ℕ, ◌-◌, ◌<◌, ◌≤◌, true, List, [], ◌∷◌, length, get_or, reverse, IsUtf8, sym, ap, ◌∙◌, subst, arith}
+use Rattle.std.specs.Prelude.{nat_lt}
 use Rattle.std.specs.Str.{IsCharBoundary}
 use Rattle.std.specs.List.{list_all, suffix_len}
-use Rattle.std.proofs.lemmas.Bool.{and_parts, cases_lt, false≢true, ltb-true, lt-ltb}
+use Rattle.std.proofs.lemmas.Bool.{and_parts, cases_lt, ltb-true, lt-ltb}
 use Rattle.std.proofs.lemmas.Bool.Decides.{nat_tests}
 use Rattle.std.proofs.lemmas.List.{get_or-reverse, length-take-le}
 use Rattle.std.proofs.lemmas.List.Sums.{prefix_len_passes, suffix_len-le-length}
@@ -14,42 +14,13 @@ use Rattle.kc_rules_model.proofs.Ink.{all_weaker}
 use Rattle.kc_tree_model.specs.LogicalLines.{without_white_end}
 use Rattle.kc_value.proofs.UnquotedUtf8.{ascii_then}
 
-other_than : (a b : ℕ) → b < a → (a == b) ≡ false
-other_than a b h = grind (arith, nat_tests)
-
-not_at_most : (a b : ℕ) → b < a → nat_le a b ≡ false
-not_at_most a b h = grind (arith, nat_tests)
-
-all_or : (a b c d e : Bool) → a ≡ false → b ≡ false → c ≡ false → d ≡ false → e ≡ false → (a || b || c || d || e) ≡ false
-all_or a b c d e p q r s t = rw (p, q, r, s, t) refl
-
 -- a white byte is below 128
 white_low : (b : ℕ) → is_white_byte b ≡ true → b < 128
-white_low b white = elim (cases_lt b 128) [
-  | inl low ↦ low
-  | inr high ↦ absurd (false≢true (sym (all_or (b == 9) (b == 11) (b == 12) (b == 13) (b == 32) (other_than b 9 (omega arith)) (other_than b 11 (omega arith))
-      (other_than b 12 (omega arith)) (other_than b 13 (omega arith)) (other_than b 32 (omega arith))) ∙ white))
-]
-
-none_of_names : (p q r a b c d : Bool) → a ≡ false → b ≡ false → c ≡ false → d ≡ false → ((p && a) || (q && b) || (r && c) || d) ≡ false
-none_of_names p q r a b c d ea eb ec ed = rw (ea, eb, ec, ed) (go p q r) where
-  go : (p q r : Bool) → ((p && false) || (q && false) || (r && false) || false) ≡ false
-  go true true true = refl
-  go true true false = refl
-  go true false true = refl
-  go true false false = refl
-  go false true true = refl
-  go false true false = refl
-  go false false true = refl
-  go false false false = refl
+white_low b white = grind (arith, nat_tests)
 
 -- so is a byte of a name
 name_low : (b : ℕ) → is_name_byte b ≡ true → nat_lt b 128 ≡ true
-name_low b named = elim (cases_lt b 128) [
-  | inl low ↦ lt-ltb b 128 low
-  | inr high ↦ absurd (false≢true (sym (none_of_names (nat_le 97 b) (nat_le 65 b) (nat_le 48 b) (nat_le b 122) (nat_le b 90) (nat_le b 57) (b == 95)
-      (not_at_most b 122 (omega arith)) (not_at_most b 90 (omega arith)) (not_at_most b 57 (omega arith)) (other_than b 95 (omega arith))) ∙ named))
-]
+name_low b named = let low : b < 128 = grind (arith, nat_tests) in lt-ltb b 128 low
 
 -- a text whose bytes are all below 128 is UTF-8
 pub low_utf8 : (text : List ℕ) → list_all (λ b. nat_lt b 128) text ≡ true → IsUtf8 text

@@ -1,17 +1,17 @@
 -- Which texts after `# ` are unset lines where names have no prefix.
-use Rattle.std.proofs.Common.{◌≡◌, ◌↔◌, inl, inr, ℕ, ◌+◌, ◌-◌, ◌<◌, ◌≤◌, Bool, true, false, cond, List, [], ◌∷◌, ◌++◌, length, take, reverse, refl, sym, ap, ◌∙◌, subst, arith, length-append}
+use Rattle.std.proofs.Common.{◌≡◌, inl, inr, ℕ, ◌+◌, ◌-◌, ◌<◌, ◌≤◌, Bool, true, false, cond, List, ◌++◌, length, take, reverse, refl, sym, ap, ◌∙◌, subst, arith, length-append}
 use Rattle.std.specs.Prelude.{codes, eqb, nat_lt, bytes_eq}
 use Rattle.std.specs.List.{prefix_len, suffix_len}
 use Rattle.std.proofs.Math.Seq.{take-append_seam, take-append-add}
-use Rattle.std.proofs.lemmas.Bool.{and_parts, and_from, cases_Bool, cases_lt, eqb-true, ltb-true, lt-ltb}
+use Rattle.std.proofs.lemmas.Bool.{and_parts, and_from, cases_lt, eqb-true, ltb-true, lt-ltb}
 use Rattle.std.proofs.lemmas.List.{length-reverse, length-take-le, reverse-append}
 use Rattle.std.proofs.lemmas.List.Folds.{prefix_len-append}
-use Rattle.std.proofs.lemmas.List.Sums.{prefix_len-le-length, suffix_len-le-length}
+use Rattle.std.proofs.lemmas.List.Sums.{suffix_len-le-length}
 use Rattle.std.proofs.lemmas.Slice.Eq.{bytes_eq-Decides}
 use Rattle.kc_value.specs.Lines.{has_no_byte}
 use Rattle.kc_tokens.specs.Token.{is_white_byte}
 use Rattle.kc_tree_model.specs.LogicalLines.{without_white_end}
-use Rattle.kc_dotconfig_model.specs.ConfigLines.{is_name_not_set, is_unset_text, IsUnsetLine}
+use Rattle.kc_dotconfig_model.specs.ConfigLines.{is_name_not_set, is_unset_text}
 use Rattle.kc_dotconfig_model.specs.FileLaws.{UnsetTextsAreRead}
 
 -- the white bytes at the end of two texts, one after the other, are those of the second, unless all of it is white

@@ -104,9 +104,8 @@ before_quote_is (c ∷ d ∷ rest) means e =
     ap (λ l. c ∷ l) (before_quote_is (d ∷ rest) o.0 o.1) ∙ ap (λ l. l ++ 34 ∷ []) (sym o.2)
 
 before_its_quote : (means : List ℕ) → before_quote (means ++ 34 ∷ []) ≡ Some means
-before_its_quote [] = refl
-before_its_quote (c ∷ []) = refl
 before_its_quote (c ∷ d ∷ means) = ap (option_map (λ text. c ∷ text)) (before_its_quote (d ∷ means))
+before_its_quote _ = refl
 
 raw_is : (text means : List ℕ) → raw_text text ≡ Some means → text ≡ between_quotes means
 raw_is [] means e = cc
@@ -167,37 +166,29 @@ value_means strings tree s symbol text = means_at_kind strings tree s symbol tex
 is_tri_meant : (kind : Kind) (text : List ℕ) (t : Tri) → tri_of_text kind text ≡ Some t → is_tri_kind kind ≡ true
 is_tri_meant Boolean text t e = refl
 is_tri_meant Tristate text t e = refl
-is_tri_meant Text text t e = cc
-is_tri_meant Int text t e = cc
-is_tri_meant Hex text t e = cc
+is_tri_meant _ text t e = cc
 
 of_tri_kind : (language : Language) (strings : Strings) (kind : Kind) (u s : ℕ) (choice : Option ℕ) (text : List ℕ) → is_tri_kind kind ≡ true
     → meaning_of_kind language strings kind u s choice text ≡ tri_meaning language u s choice (tri_of_text kind text)
 of_tri_kind language strings Boolean u s choice text e = refl
 of_tri_kind language strings Tristate u s choice text e = refl
-of_tri_kind language strings Text u s choice text e = absurd (false≢true e)
-of_tri_kind language strings Int u s choice text e = absurd (false≢true e)
-of_tri_kind language strings Hex u s choice text e = absurd (false≢true e)
+of_tri_kind language strings _ u s choice text e = absurd (false≢true e)
 
 of_number_kind : (language : Language) (strings : Strings) (kind : Kind) (u s : ℕ) (choice : Option ℕ) (text : List ℕ) → is_tri_kind kind ≡ false → kind ≢ Text
     → meaning_of_kind language strings kind u s choice text ≡ number_meaning u kind text
-of_number_kind language strings Boolean u s choice text e other = absurd (false≢true (sym e))
-of_number_kind language strings Tristate u s choice text e other = absurd (false≢true (sym e))
 of_number_kind language strings Text u s choice text e other = absurd (other refl)
 of_number_kind language strings Int u s choice text e other = refl
 of_number_kind language strings Hex u s choice text e other = refl
+of_number_kind language strings _ u s choice text e other = absurd (false≢true (sym e))
 
 number_kind : (kind : Kind) (text : List ℕ) → is_some (number_of_text kind text) ≡ true → (is_tri_kind kind ≡ false) × (kind ≢ Text)
-number_kind Boolean text e = absurd (false≢true e)
-number_kind Tristate text e = absurd (false≢true e)
-number_kind Text text e = absurd (false≢true e)
 number_kind Int text e = (refl, λ same. cc)
 number_kind Hex text e = (refl, λ same. cc)
+number_kind _ text e = absurd (false≢true e)
 
 not_y : (t : Tri) → t ≢ Y → is_y t ≡ false
-not_y N other = refl
-not_y M other = refl
 not_y Y other = absurd (other refl)
+not_y _ other = refl
 
 no_int_number : number_of_text Int [] ≡ None
 unfolding int_text

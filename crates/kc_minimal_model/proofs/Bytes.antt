@@ -1,6 +1,6 @@
 -- Bytes of lines: what ends a line, and what cuts a file into lines.
 use Rattle.std.proofs.Common.{◌≡◌, ℕ, ◌+◌, ◌-◌, ◌<◌, Bool, true, false, not, ◌==◌, cond, List, [], ◌∷◌, ◌++◌, length, take, reverse, refl, sym, ◌∙◌, ap, append_assoc, arith}
-use Rattle.std.specs.List.{list_all, prefix_len, onto_first}
+use Rattle.std.specs.List.{list_all, prefix_len}
 use Rattle.std.proofs.lemmas.Bool.{and_parts, and_from, or_parts, not-true}
 use Rattle.std.proofs.lemmas.List.{reverse-append}
 use Rattle.std.proofs.lemmas.List.Folds.{list_all-append}
@@ -10,7 +10,6 @@ use Rattle.kc_tree_model.specs.TreeLookup.{is_name_byte}
 use Rattle.kc_rules_model.proofs.Ink.{is_ink, isn't, all_weaker}
 use Rattle.kc_value.specs.Lines.{has_no_byte}
 use Rattle.kc_tree_model.specs.LogicalLines.{without_white_end}
-use Rattle.kc_dotconfig_model.specs.ConfigFiles.{file_lines}
 
 pub all_of_both : (p : ℕ → Bool) (xs ys : List ℕ) → list_all p xs ≡ true → list_all p ys ≡ true → list_all p (xs ++ ys) ≡ true
 all_of_both p xs ys a b = list_all-append p xs ys ∙ and_from (list_all p xs) (list_all p ys) a b
@@ -18,9 +17,6 @@ all_of_both p xs ys a b = list_all-append p xs ys ∙ and_from (list_all p xs) (
 -- a name doesn't contain a byte that isn't a name byte
 pub name_lacks : (k : ℕ) → is_name_byte k ≡ false → (name : List ℕ) → list_all is_name_byte name ≡ true → has_no_byte k name ≡ true
 name_lacks k fails = all_weaker is_name_byte (λ c. not (c == k)) (λ b passes. ap not (isn't is_name_byte k b fails passes))
-
-ink_lacks_newline : (text : List ℕ) → list_all is_ink text ≡ true → has_no_byte 10 text ≡ true
-ink_lacks_newline = all_weaker is_ink (λ c. not (c == 10)) (λ b passes. ap not (isn't is_ink 10 b refl passes))
 
 -- `without_white_end` leaves a line as it is if the last byte of the line isn't white
 pub ends_in_ink : (front : List ℕ) (b : ℕ) → is_white_byte b ≡ false → without_white_end (front ++ b ∷ []) ≡ front ++ b ∷ []
@@ -46,11 +42,3 @@ keeps_text front (x ∷ xs) some all =
     let split = last_ink x xs all in
     let same : front ++ (x ∷ xs) ≡ (front ++ split.0) ++ split.1 ∷ [] = ap (λ l. front ++ l) split.2 ∙ sym (append_assoc front split.0 (split.1 ∷ [])) in
     ap without_white_end same ∙ ends_in_ink (front ++ split.0) split.1 (ink_not_white split.1 split.3) ∙ sym same
-
--- the lines of a file that begins with a line and its newline are that line and then the lines of the remaining bytes
-pub first_line : (line rest : List ℕ) → has_no_byte 10 line ≡ true → file_lines (line ++ 10 ∷ rest) ≡ line ∷ file_lines rest
-first_line [] rest all = refl
-first_line (b ∷ line) rest all =
-    let parts = and_parts (not (b == 10)) (has_no_byte 10 line) all in
-    ap (λ t. cond t ([] ∷ file_lines (line ++ 10 ∷ rest)) (onto_first b (file_lines (line ++ 10 ∷ rest)))) (not-true (b == 10) parts.0)
-    ∙ ap (onto_first b) (first_line line rest parts.1)

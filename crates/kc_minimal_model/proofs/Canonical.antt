@@ -35,7 +35,9 @@ use Rattle.kc_minimal_model.proofs.MinimalLineList.{lines_are_utf8}
 use Rattle.kc_minimal_model.proofs.KeptUnits.{others_fail}
 use Rattle.kc_minimal_model.proofs.KeptLines.{meant, user_meant, unit_inside}
 use Rattle.kc_minimal_model.proofs.LineUnits.{different_units}
-use Rattle.kc_minimal_model.proofs.LeastFile.{passes_filter, none_held, none_length, after_lines, length_after, lines_mean, least_of_lines, reads_as_least}
+use Rattle.kc_minimal_model.proofs.LeastFile.{passes_filter, after_lines, lines_mean, least_of_lines, reads_as_least}
+use Rattle.kc_dotconfig_model.proofs.FittingFiles.{none_held, none_length}
+use Rattle.kc_dotconfig_model.proofs.Overlays.{file_length}
 
 -- the text of the minimal file with only the lines of the symbols that pass a test
 abbrev pub symbol_lines : (ℕ → Bool) → FileFormat → Profile → Tree → List UnitValue → List ℕ
@@ -173,7 +175,7 @@ module _ (format : FileFormat) (valid : is_name_prefix format.prefix ≡ true) (
       (file_assignment tree (map (λ s. meant tree.language values (unit_of tree s)) (minimal_symbols profile tree values)))
       (file_assignment tree (map (λ s. meant tree.language values (unit_of tree s)) (filter keeps (minimal_symbols profile tree values))))
   cut = record {
-    one_each = length_after tree values (filter keeps (minimal_symbols profile tree values)) (empty_assignment tree) ∙ none_length (length tree.units);
+    one_each = file_length (map (λ s. meant tree.language values (unit_of tree s)) (filter keeps (minimal_symbols profile tree values))) (empty_assignment tree) ∙ none_length (length tree.units);
     cut =
         λ u h. user_after (filter keeps (minimal_symbols profile tree values)) u h
         ∙ elim (cases_Bool (list_any (λ s. unit_of tree s == u) (filter keeps (minimal_symbols profile tree values)))) [

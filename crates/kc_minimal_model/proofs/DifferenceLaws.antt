@@ -6,10 +6,9 @@ use Rattle.std.specs.List.{filter_map, cons_option, range_with_len}
 use Rattle.std.proofs.lemmas.Bool.{cases_Bool, cases_eq, false≢true, and_parts, and_from, eqb-true, eq-eqb}
 use Rattle.std.proofs.lemmas.Option.{slice_get-get_or}
 use Rattle.std.proofs.lemmas.Slice.Eq.{bytes_eq-Decides}
-use Rattle.kc_value.specs.declared.tri.Tri.{Tri}
-use Rattle.kc_value.specs.declared.tri.Tri.TheVariants.{N, M, Y}
+use Rattle.kc_value.specs.declared.tri.Tri.TheVariants.{N, Y}
 use Rattle.kc_value.specs.declared.value.Kind.{Kind}
-use Rattle.kc_value.specs.declared.value.Kind.TheVariants.{Bool as Boolean, Tristate, Text, Int, Hex}
+use Rattle.kc_value.specs.declared.value.Kind.TheVariants.{Bool as Boolean, Tristate}
 use Rattle.kc_expr.specs.Expr.{SymbolValue}
 use Rattle.kc_tree_model.specs.Trees.{Tree, Symbol, Choice}
 use Rattle.kc_tree_model.specs.declared.ids.Unit.{Unit as TreeUnit}
@@ -22,21 +21,20 @@ use Rattle.kc_value.specs.Kinds.{is_tri_kind}
 use Rattle.kc_rules_model.specs.SymbolValues.{value_of_symbol, value_in_unit, tri_symbol_value, tri_of, text_of, member_of, tri_if_selected}
 use Rattle.kc_rules_model.specs.Shapes.{value_fits, unit_value_fits, symbol_value_fits, choice_value_fits, is_member, tri_fits, text_fits}
 use Rattle.kc_rules_model.specs.Equality.{same_tri}
-use Rattle.kc_rules_model.specs.checker.EqualityLaws.{values_decided}
 use Rattle.kc_rules_model.specs.Reports.{symbol_numbers}
 use Rattle.kc_tree_model.proofs.Lookups.{inside, place_is, unit_is}
 use Rattle.kc_minimal_model.specs.Differences.{Difference, is_same_value, difference_at, differences}
 use Rattle.kc_minimal_model.proofs.KeptLines.{tri_kind}
 use Rattle.kc_minimal_model.specs.MinimalFileLaws.{DifferencesAreExact}
+use Rattle.kc_dotconfig_model.proofs.Tables.{same_from, same_itself}
 
 same_by_get : (v w : List UnitValue) → length v ≡ length w → ((u : ℕ) → u < length v → slice_get v u ≡ slice_get w u) → v ≡ w
 same_by_get [] [] len same = refl
-same_by_get [] (y ∷ w) len same = absurd (omega arith)
-same_by_get (x ∷ v) [] len same = absurd (omega arith)
 same_by_get (x ∷ v) (y ∷ w) len same =
     let first : Some x ≡ Some y = same 0 (omega arith) in
     let head : x ≡ y = cc in
     ap (λ z. z ∷ v) head ∙ ap (λ l. y ∷ l) (same_by_get v w (omega arith) (λ u h. same (suc u) (omega arith)))
+same_by_get _ _ len same = absurd (omega arith)
 
 pub none_left : {X Z : Type 0} (f : X → Option Z) (xs : List X) → ((x : X) → f x ≡ None) → filter_map f xs ≡ []
 none_left f [] none = refl
@@ -51,38 +49,28 @@ none_each f (suc n) a s low high e = go (f a) refl e (cases_eq s a) (none_each f
   go None here e (inl same) next = ap f same ∙ here
   go None here e (inr other) next = next (omega arith) (omega arith) e
 
-tri_same : (t : Tri) → same_tri t t ≡ true
-tri_same N = refl
-tri_same M = refl
-tri_same Y = refl
-
 pub same_as_itself : (s : ℕ) (o : Option SymbolValue) → difference_at s o o ≡ None
 same_as_itself s None = refl
 same_as_itself s (Some a) =
     ap (λ t. cond {A = Option Difference} t None (Some (record { symbol = s; left = a; right = a })))
-    (and_from (same_tri a.tri a.tri) (bytes_eq a.text a.text) (tri_same a.tri) ((bytes_eq-Decides a.text a.text).1 refl))
+    (and_from (same_tri a.tri a.tri) (bytes_eq a.text a.text) (same_itself a.tri) ((bytes_eq-Decides a.text a.text).1 refl))
 
 pub text_kind : (kind : Kind) (text : List ℕ) → text_fits kind text ≡ true → is_tri_kind kind ≡ false
 text_kind Boolean t e = absurd (false≢true e)
 text_kind Tristate t e = absurd (false≢true e)
-text_kind Text t e = refl
-text_kind Int t e = refl
-text_kind Hex t e = refl
+text_kind _ t e = refl
 
 -- two values of one shape that read the same
 record ReadSame (a b : SymbolValue) : Type 0 where
   tri : a.tri ≡ b.tri
   text : a.text ≡ b.text
 
-tri_from : (a b : Tri) → same_tri a b ≡ true → a ≡ b
-tri_from a b e = let same : TriValue a ≡ TriValue b = (values_decided (TriValue a) (TriValue b)).0 e in cc
-
 read_same : (s : ℕ) (a b : SymbolValue) → difference_at s (Some a) (Some b) ≡ None → ReadSame a b
 read_same s a b e = go (is_same_value a b) refl e where
   go : (t : Bool) → is_same_value a b ≡ t → cond {A = Option Difference} t None (Some (record { symbol = s; left = a; right = b })) ≡ None → ReadSame a b
   go true same e =
       let parts = and_parts (same_tri a.tri b.tri) (bytes_eq a.text b.text) same in
-      record { tri = tri_from a.tri b.tri parts.0; text = (bytes_eq-Decides a.text b.text).0 parts.1 }
+      record { tri = same_from a.tri b.tri parts.0; text = (bytes_eq-Decides a.text b.text).0 parts.1 }
   go false same e = cc
 
 tri_if_y : (s : ℕ) (o : Option ℕ) → tri_if_selected s o ≡ Y → o ≡ Some s
@@ -118,13 +106,11 @@ module _ (tree : Tree) (sound : IsConsistent tree) (v w : List UnitValue) (fits_
   of_kind kind (TextValue a) (TriValue b) symbol is fa fb t tri same =
       absurd (false≢true (sym (text_kind kind a (sym (ap (λ k. text_fits k a) is) ∙ fa)) ∙ tri_kind kind b (sym (ap (λ k. tri_fits k b) is) ∙ fb)))
   of_kind kind (MemberValue a) b symbol is fa fb t tri same = absurd (false≢true fa)
-  of_kind kind (TriValue a) (MemberValue b) symbol is fa fb t tri same = absurd (false≢true fb)
-  of_kind kind (TextValue a) (MemberValue b) symbol is fa fb t tri same = absurd (false≢true fb)
+  of_kind kind _ (MemberValue b) symbol is fa fb t tri same = absurd (false≢true fb)
 
   member_value : (o : Option Choice) (x : UnitValue) → choice_value_fits o x ≡ true → (m : Option ℕ) × (x ≡ MemberValue m)
-  member_value o (TriValue t) e = absurd (false≢true e)
-  member_value o (TextValue t) e = absurd (false≢true e)
   member_value o (MemberValue m) e = (m, refl)
+  member_value o _ e = absurd (false≢true e)
 
   unit_same : (u : ℕ) → (unit : TreeUnit) → slice_get tree.units u ≡ Some unit → (a b : UnitValue) → slice_get v u ≡ Some a → slice_get w u ≡ Some b
       → unit_value_fits tree (Some unit) a ≡ true → unit_value_fits tree (Some unit) b ≡ true → a ≡ b

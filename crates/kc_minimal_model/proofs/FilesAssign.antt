@@ -1,5 +1,5 @@
 -- Every file that gives the values of a minimal file assigns each of its units, and has at least as many assigning lines.
-use Rattle.std.proofs.Common.{◌≡◌, ◌⊎◌, inl, inr, ℕ, zero, suc, ◌+◌, ◌<◌, ◌≤◌, Bool, true, false, cond, IsTrue, List, [], ◌∷◌, Option, Some, None, is_some, length, map, filter, slice_set, refl, sym, ◌∙◌, ap, arith}
+use Rattle.std.proofs.Common.{◌≡◌, ◌⊎◌, ◌||◌, inl, inr, ℕ, zero, suc, ◌+◌, ◌<◌, ◌≤◌, Bool, true, false, cond, IsTrue, List, [], ◌∷◌, Option, Some, None, is_some, length, map, filter, slice_set, refl, sym, ◌∙◌, ap, arith}
 use Rattle.std.specs.Prelude.{eqb}
 use Rattle.std.specs.List.{list_any, IsDistinct, range_with_len, AllByRecursion}
 use Rattle.std.proofs.lemmas.Bool.{cases_Bool, cases_eq, false≢true, eqb-true, eq-eqb, or_left, or_right, or_cases}
@@ -13,7 +13,7 @@ use Rattle.kc_rules_model.specs.declared.values.UserValue.{UserValue}
 use Rattle.kc_rules_model.specs.declared.values.UserValue.TheVariants.{Text as TextUser}
 use Rattle.kc_rules_model.specs.Shapes.{user_fits}
 use Rattle.kc_dotconfig_model.specs.Formats.{FileFormat}
-use Rattle.kc_dotconfig_model.specs.ConfigLines.{LineMeaning, assigns, assigns_escaped, unchosen, notice, silent}
+use Rattle.kc_dotconfig_model.specs.ConfigLines.{LineMeaning, assigns, assigns_escaped}
 use Rattle.kc_dotconfig_model.specs.ConfigFiles.{file_assignment, over, assigned_over, empty_assignment}
 use Rattle.kc_dotconfig_model.proofs.FittingFiles.{file_fits}
 use Rattle.kc_minimal_model.specs.MinimalFile.{has_line, minimal_symbols}
@@ -26,7 +26,7 @@ use Rattle.std.proofs.lemmas.List.{length-map, get_or-set_other}
 use Rattle.kc_rules_model.specs.Reports.{symbol_numbers}
 use Rattle.kc_minimal_model.proofs.LineUnits.{different_units}
 use Rattle.kc_minimal_model.proofs.NeededUnits.{needs_units, needs_values}
-use Rattle.kc_minimal_model.proofs.LeastFile.{none_held}
+use Rattle.kc_dotconfig_model.proofs.FittingFiles.{none_held}
 
 kept_if_some : (x : Option UserValue) → x ≡ cond (is_some x) x None
 kept_if_some None = refl
@@ -46,27 +46,25 @@ eqb_laws = record {
   congr = λ x y z equal. let e = eqb-true x y equal in ap (λ w. eqb w z) e;
 }
 
+at_unit : (w : ℕ) (z : UserValue) (held : List (Option UserValue)) (u : ℕ) (meanings : List LineMeaning)
+    → (is_some (user_of (slice_set held w (Some z)) u) ≡ true) ⊎ (list_any (eqb u) (assigned_units meanings) ≡ true)
+    → (is_some (user_of held u) ≡ true) ⊎ ((eqb u w || list_any (eqb u) (assigned_units meanings)) ≡ true)
+at_unit w z held u meanings is = elim is [
+  | inl before ↦ elim (cases_eq u w) [
+    | inl same ↦ inr (or_left (eqb u w) (list_any (eqb u) (assigned_units meanings)) (eq-eqb u w same))
+    | inr other ↦ inl (ap is_some (sym (get_or-set_other held w u (Some z) None other)) ∙ before)
+  ]
+  | inr later ↦ inr (or_right (eqb u w) (list_any (eqb u) (assigned_units meanings)) later)
+]
+
 -- what is assigned after some lines was assigned before, or by one of them
 by_a_line : (meanings : List LineMeaning) (held : List (Option UserValue)) (u : ℕ) → is_some (user_of (assigned_over meanings held) u) ≡ true
     → (is_some (user_of held u) ≡ true) ⊎ (list_any (eqb u) (assigned_units meanings) ≡ true)
 by_a_line [] held u some = inl some
-by_a_line (assigns_escaped w text ∷ meanings) held u some = elim (by_a_line meanings (slice_set held w (Some (TextUser text))) u some) [
-  | inl before ↦ elim (cases_eq u w) [
-    | inl same ↦ inr (or_left (eqb u w) (list_any (eqb u) (assigned_units meanings)) (eq-eqb u w same))
-    | inr other ↦ inl (ap is_some (sym (get_or-set_other held w u (Some (TextUser text)) None other)) ∙ before)
-  ]
-  | inr later ↦ inr (or_right (eqb u w) (list_any (eqb u) (assigned_units meanings)) later)
-]
-by_a_line (unchosen w s ∷ meanings) held u some = by_a_line meanings held u some
-by_a_line (notice kind ∷ meanings) held u some = by_a_line meanings held u some
-by_a_line (silent ∷ meanings) held u some = by_a_line meanings held u some
-by_a_line (assigns w x ∷ meanings) held u some = elim (by_a_line meanings (slice_set held w (Some (over x (user_of held w)))) u some) [
-  | inl before ↦ elim (cases_eq u w) [
-    | inl same ↦ inr (or_left (eqb u w) (list_any (eqb u) (assigned_units meanings)) (eq-eqb u w same))
-    | inr other ↦ inl (ap is_some (sym (get_or-set_other held w u (Some (over x (user_of held w))) None other)) ∙ before)
-  ]
-  | inr later ↦ inr (or_right (eqb u w) (list_any (eqb u) (assigned_units meanings)) later)
-]
+by_a_line (assigns_escaped w text ∷ meanings) held u some = at_unit w (TextUser text) held u meanings (by_a_line meanings (slice_set held w (Some (TextUser text))) u some)
+by_a_line (assigns w x ∷ meanings) held u some =
+    at_unit w (over x (user_of held w)) held u meanings (by_a_line meanings (slice_set held w (Some (over x (user_of held w)))) u some)
+by_a_line (_ ∷ meanings) held u some = by_a_line meanings held u some
 
 -- the values of a function on the numbers that pass a test, where it gives each another one
 apart : (p : ℕ → Bool) (f : ℕ → ℕ) (a n x : ℕ) → x < a → p x ≡ true → ((s t : ℕ) → p s ≡ true → p t ≡ true → f s ≡ f t → s ≡ t)

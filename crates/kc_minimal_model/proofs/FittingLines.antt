@@ -1,13 +1,13 @@
 -- A written line is UTF-8 and short, if its value is.
 use Rattle.std.proofs.Common.{◌≡◌, ℕ, ◌+◌, ◌≤◌, Bool, true, false, ◌&&◌, cond, List, ◌∷◌, ◌++◌, length, IsUtf8, refl, arith, length-append}
-use Rattle.std.specs.Prelude.{codes, nat_lt, nat_le}
+use Rattle.std.specs.Prelude.{codes, nat_le}
 use Rattle.std.specs.List.{list_all}
 use Rattle.std.proofs.lemmas.Bool.{and_parts, false≢true, leb-true}
 use Rattle.std.proofs.lemmas.Str.{IsUtf8-append}
 use Rattle.kc_value.specs.declared.tri.Tri.{Tri}
 use Rattle.kc_value.specs.declared.tri.Tri.TheVariants.{N, M, Y}
 use Rattle.kc_value.specs.declared.value.Kind.{Kind}
-use Rattle.kc_value.specs.declared.value.Kind.TheVariants.{Bool as Boolean, Tristate, Text, Int, Hex}
+use Rattle.kc_value.specs.declared.value.Kind.TheVariants.{Text, Int, Hex}
 use Rattle.kc_expr.specs.Expr.{letter}
 use Rattle.kc_tree_model.specs.TreeLookup.{is_name_byte}
 use Rattle.kc_rules_model.specs.Kinds.{is_n}
@@ -72,15 +72,12 @@ module _ (format : FileFormat) (valid : is_name_prefix format.prefix ≡ true) (
 
   -- the line of a bool's or tristate's value is UTF-8 and short enough
   pub tri_fits_line : (kind : Kind) (t : Tri) → is_tri_kind kind ≡ true → IsFitLine (line_with format name (tri_symbol_value kind t))
-  tri_fits_line Boolean t small =
-      let p = (prefix_fits format.prefix valid).0 in let l = letter_fits t in let one = l.0 in
-      either_fits (is_n t) (letter t) (omega (arith, p, one, short)) l.1
-  tri_fits_line Tristate t small =
-      let p = (prefix_fits format.prefix valid).0 in let l = letter_fits t in let one = l.0 in
-      either_fits (is_n t) (letter t) (omega (arith, p, one, short)) l.1
   tri_fits_line Text t small = absurd (false≢true small)
   tri_fits_line Int t small = absurd (false≢true small)
   tri_fits_line Hex t small = absurd (false≢true small)
+  tri_fits_line _ t small =
+      let p = (prefix_fits format.prefix valid).0 in let l = letter_fits t in let one = l.0 in
+      either_fits (is_n t) (letter t) (omega (arith, p, one, short)) l.1
 
   -- the line of a value without a tristate is UTF-8 and short enough, if the spelling of its text is UTF-8 and the
   -- line's parts together are within the limit

@@ -14,6 +14,9 @@ use Rattle.kc_tree_model.specs.declared.ids.Unit.TheVariants.{Symbol as of_symbo
 use Rattle.kc_value.specs.Lines.{has_newline}
 use Rattle.kc_tree_model.specs.TreeLookup.{unit_of, index_of_unit, title_of_entry}
 use Rattle.std.specs.Str.{is_utf8}
+use Rattle.std.proofs.lemmas.Bool.{false_from_ne_true}
+use Rattle.std.proofs.lemmas.Bool.{or_right}
+use Rattle.std.proofs.Math.Bool.{or-false, or_assoc, and-false}
 use Rattle.kc_solver.specs.Solutions.{user_of, Solves, FitsUsers}
 use Rattle.kc_solver.proofs.Lists.{get-some}
 use Rattle.kc_solver.proofs.OneSolution as solving
@@ -28,7 +31,7 @@ use Rattle.kc_rules_model.specs.RuleLaws.{moves_user_values}
 use Rattle.kc_rules_model.specs.checker.RestoreLaw.{older, newer, none_listed, selected_is_seen, default_is_seen}
 use Rattle.kc_rules_model.specs.Kinds.{is_n}
 use Rattle.kc_rules_model.specs.SymbolValues.{condition, value_of_symbol, value_in_unit, member_of, tri_if_selected}
-use Rattle.kc_rules_model.specs.Rule.{rule, rule_of_unit, rule_of_symbol, rule_of_choice, choice_rule, default_member, assigned_lines, as_user, member_user, is_visible, is_visible_member, is_shown}
+use Rattle.kc_rules_model.specs.Rule.{rule, rule_of_unit, rule_of_choice, choice_rule, default_member, assigned_lines, as_user, member_user, is_visible, is_visible_member, is_shown}
 use Rattle.kc_rules_model.specs.Dependencies.{dependencies}
 use Rattle.kc_rules_model.specs.Shapes.{user_fits, unit_user_fits, symbol_user_fits, choice_user_fits, is_member, is_line}
 use Rattle.kc_rules_model.specs.Reports.{is_written, is_written_symbol, is_unselected, is_optional_choice, symbol_numbers}
@@ -47,16 +50,19 @@ use Rattle.kc_minimal_model.proofs.FullLines.{is_for, HasOwnLines, own_lines}
 use Rattle.kc_minimal_model.proofs.EntryTexts.{full_file_by_entry}
 use Rattle.kc_minimal_model.proofs.KeptLines.{user_meant}
 use Rattle.kc_minimal_model.proofs.KeptUnits.{kept_unit, kept_passes, others_fail}
-use Rattle.kc_minimal_model.proofs.LeastFile.{or_false, or_true, or_assoc, none_held, none_length, unit_there, speaks_at}
+use Rattle.kc_minimal_model.proofs.LeastFile.{unit_there, speaks_at}
 use Rattle.kc_minimal_model.proofs.NeededUnits.{any_found, needs_values}
 use Rattle.kc_minimal_model.proofs.OwnLines.{IsOwn, IsUnchosen}
 use Rattle.kc_minimal_model.proofs.MemberUsers.{gives, meant_gives}
 use Rattle.kc_minimal_model.proofs.OwnValues.{own_values, hidden_values}
 use Rattle.kc_rules_model.proofs.SolutionsFit.{solutions_fit}
+use Rattle.kc_dotconfig_model.proofs.FittingFiles.{none_held, none_length}
 
-and_nothing : (b : Bool) → (b && false) ≡ false
-and_nothing true = refl
-and_nothing false = refl
+some_one : {a b : UnitValue} → Some a ≡ Some b → a ≡ b
+some_one e = cc
+
+member_one : {a b : Option ℕ} → MemberValue a ≡ MemberValue b → a ≡ b
+member_one e = cc
 
 -- a value that assignments of members represent is that of a choice with a selected member, and they are its `y` alone
 lines_meant : (language : Language) (o : Option UnitValue) (lines : List MemberLine) → option_and_then (as_user language) o ≡ Some (LinesUser lines)
@@ -184,7 +190,7 @@ module _ (language : Language) (values : List UnitValue) (u : ℕ) where
 after_own : (language : Language) (values : List UnitValue) (u : ℕ) (meanings : List LineMeaning) (held : List (Option UserValue)) (before : Bool) → u < length held
     → AllByRecursion (IsOwn language values) meanings → IsGiven language values u before (user_of held u)
     → IsGiven language values u (before || list_any (is_for u) meanings) (user_of (assigned_over meanings held) u)
-after_own language values u [] held before h own e = subst (λ b. IsGiven language values u b (user_of held u)) (sym (or_false before)) e
+after_own language values u [] held before h own e = subst (λ b. IsGiven language values u b (user_of held u)) (sym (or-false before)) e
 after_own language values u (assigns_escaped w text ∷ meanings) held before h own e = absurd own.0
 after_own language values u (unchosen w s ∷ meanings) held before h own e = after_own language values u meanings held before h own.1 e
 after_own language values u (notice kind ∷ meanings) held before h own e = absurd own.0
@@ -201,7 +207,7 @@ after_own language values u (assigns w x ∷ meanings) held before h own e =
           ap (λ k. user_of (slice_set held k (Some (over x (user_of held k)))) u) is ∙ get_or-set_same held u (Some (over x (user_of held u))) None h in
           subst (IsGiven language values u (before || is_u)) (sym here) (by_own is same own.0)
       | inr other ↦
-          let unlike : (before || is_u) ≡ before = ap (λ b. before || (b && gives x)) other ∙ or_false before in
+          let unlike : (before || is_u) ≡ before = ap (λ b. before || (b && gives x)) other ∙ or-false before in
           subst (λ o. IsGiven language values u (before || is_u) o) (sym (get_or-set_other held w u (Some z) None (λ equal. eqb-false w u other (sym equal))))
           (subst (λ b. IsGiven language values u b (user_of held u)) (sym unlike) e)
     ])) where
@@ -210,11 +216,11 @@ after_own language values u (assigns w x ∷ meanings) held before h own e =
       by_own is same (inl own) =
           let meant : user_meant language values u ≡ Some x = ap (user_meant language values) (sym is) ∙ own in
           let counts : (before || (nat_eq w u && gives x)) ≡ true =
-          ap (λ b. before || b) (and_from (nat_eq w u) (gives x) same (meant_gives language (slice_get values u) x meant).0) ∙ or_true before in
+          ap (λ b. before || b) (and_from (nat_eq w u) (gives x) same (meant_gives language (slice_get values u) x meant).0) ∙ or_right before true refl in
           after_meant language values u x meant before (before || (nat_eq w u && gives x)) counts (user_of held u) e
       by_own is same (inr n) =
           let counts_not : (before || (nat_eq w u && gives x)) ≡ before =
-          ap (λ y. before || (nat_eq w u && gives y)) n.1 ∙ ap (λ b. before || b) (and_nothing (nat_eq w u)) ∙ or_false before in
+          ap (λ y. before || (nat_eq w u && gives y)) n.1 ∙ ap (λ b. before || b) (and-false (nat_eq w u)) ∙ or-false before in
           let differs : slice_get values u ≢ Some (MemberValue (Some n.0)) = λ e. n.2 (ap (slice_get values) is ∙ e) in
           subst (λ y. IsGiven language values u (before || (nat_eq w u && gives x)) (Some (over y (user_of held u)))) (sym n.1)
           (subst (λ b. IsGiven language values u b (Some (over (LinesUser (record { member = n.0; is_y = false } ∷ [])) (user_of held u)))) (sym counts_not)
@@ -230,14 +236,11 @@ defined (entry ∷ entries) (suc k) s at = or_right (defines s entry) (list_any 
 
 -- the member of a choice that isn't `n` is the choice's value
 chosen_is : (s : ℕ) (o : Option UnitValue) → not (is_n (tri_if_selected s (member_of o))) ≡ true → o ≡ Some (MemberValue (Some s))
-chosen_is s None e = absurd (false≢true e)
-chosen_is s (Some (TriValue t)) e = absurd (false≢true e)
-chosen_is s (Some (TextValue t)) e = absurd (false≢true e)
-chosen_is s (Some (MemberValue None)) e = absurd (false≢true e)
 chosen_is s (Some (MemberValue (Some m))) e = elim (cases_Bool (m == s)) [
   | inl same ↦ ap (λ k. Some (MemberValue (Some k))) (eqb-true m s same)
   | inr other ↦ absurd (false≢true (ap (λ b. not (is_n (cond b Y N))) (sym other) ∙ e))
 ]
+chosen_is s _ e = absurd (false≢true e)
 
 -- a member that isn't visible counts for nothing
 hidden_choice : (shown seen : Bool) (s : ℕ) (other : Option ℕ) → seen ≡ false
@@ -254,11 +257,8 @@ hidden_member tree values (Some choice) s before e =
 -- all members that a fitting user value of a choice lists are its members
 assigned_fit : (tree : Tree) (choice : Choice) (x : Option UserValue) → IfSome x (λ y. IsTrue (choice_user_fits tree.language (Some choice) y))
     → list_all (λ (l : MemberLine). list_any (λ m. m == l.member) choice.members) (assigned_lines x) ≡ true
-assigned_fit tree choice None fits = refl
-assigned_fit tree choice (Some (TriUser t)) fits = refl
-assigned_fit tree choice (Some (TextUser t)) fits = refl
-assigned_fit tree choice (Some (MemberUser m)) fits = refl
 assigned_fit tree choice (Some (LinesUser lines)) fits = (and_parts (is_linux_6_12 tree.language) (list_all (λ (l : MemberLine). list_any (λ m. m == l.member) choice.members) lines) fits).1
+assigned_fit tree choice _ fits = refl
 
 -- what is selected is visible
 selected_seen : (tree : Tree) (values : List UnitValue) (choice : Choice) (x : Option UserValue) (s : ℕ) → is_linux_6_12 tree.language ≡ true
@@ -327,7 +327,7 @@ module _ (profile : Profile) (tree : Tree) (settled : IsOrderedTree tree) (users
       elim (cases_Bool (is_visible_member tree values s)) [
         | inl seen ↦ seen_is_written s symbol at (sym (ap (λ o. unwrap_or (option_map (is_visible tree values) o) false) at) ∙ seen)
             (ap (is_unselected tree values) within ∙ ap (λ o. is_optional_choice tree c && is_none (member_of o))
-            (chosen_is s (slice_get values (index_of_unit tree (of_choice c))) chosen) ∙ and_nothing (is_optional_choice tree c))
+            (chosen_is s (slice_get values (index_of_unit tree (of_choice c))) chosen) ∙ and-false (is_optional_choice tree c))
         | inr hidden ↦ absurd (elim (cases_Bool (is_linux_6_12 tree.language)) [
           | inl since ↦
               let choice = settled.consistent.choice_units u c here in
@@ -349,21 +349,13 @@ module _ (profile : Profile) (tree : Tree) (settled : IsOrderedTree tree) (users
               ∙ sym (ap (λ o. rule_of_unit profile tree o None values) here) in
               not_kept u (inside tree.units u (of_choice c) here) same kept
         ])
-      ] where
-        some_one : {a b : UnitValue} → Some a ≡ Some b → a ≡ b
-        some_one e = cc
-
-        member_one : {a b : Option ℕ} → MemberValue a ≡ MemberValue b → a ≡ b
-        member_one e = cc
+      ]
 
   at_choice : (s : ℕ) (symbol : Symbol) → slice_get tree.symbols s ≡ Some symbol → (c : Option ℕ) → symbol.choice ≡ c → has_line profile tree values s ≡ true
       → is_kept profile tree values (unit_of tree s) ≡ true
       → is_line_of_its_unit c (value_in_unit tree values s symbol c) ≡ true → is_written tree values s ≡ true
   at_choice s symbol at None out has kept may = outside_written s symbol at out kept
   at_choice s symbol at (Some c) within has kept may = member_written s c symbol at within has kept may
-
-  abbrev WrittenSymbol : ℕ → Type 0
-  WrittenSymbol s = (symbol : Symbol) × (slice_get tree.symbols s ≡ Some symbol) × (is_written tree values s ≡ true)
 
   at_symbol : (s : ℕ) (o : Option Symbol) → slice_get tree.symbols s ≡ o → has_line profile tree values s ≡ true
       → is_kept profile tree values (unit_of tree s) ≡ true
@@ -382,13 +374,6 @@ module _ (profile : Profile) (tree : Tree) (settled : IsOrderedTree tree) (users
 module _ (profile : Profile) (tree : Tree) (settled : IsOrderedTree tree) (users : List (Option UserValue)) (values : List UnitValue)
     (fitting : FitsUsers (length tree.units) (λ u x. IsTrue (user_fits tree u x)) users)
     (solved : Solves (length tree.units) (rule profile tree) users values) where
-  unlike_true : (b : Bool) → (b ≡ true → ⊥) → b ≡ false
-  unlike_true true e = absurd (e refl)
-  unlike_true false e = refl
-
-  one_member : {a b : Option ℕ} → MemberValue a ≡ MemberValue b → a ≡ b
-  one_member e = cc
-
   meant_some : (u m : ℕ) → slice_get values u ≡ Some (MemberValue (Some m)) → user_meant tree.language values u ≢ None
   meant_some u m has e =
       let some : user_meant tree.language values u ≡ Some (member_user tree.language m) = ap (option_and_then (as_user tree.language)) has in
@@ -486,9 +471,6 @@ module _ (profile : Profile) (tree : Tree) (settled : IsOrderedTree tree) (users
           (subst (λ o. IfSome user (λ y. IsTrue (unit_user_fits tree o y))) at (fitting.1 u below)) in
           rule_is (Some (LinesUser lines)) ∙ by_value choice (sym found.1) since (selected_by_lines seen choice.members default (assigned_lines user)) refl held_is fits_user
           (λ not_for. sym (ap MemberValue (none_listed seen choice.members default)) ∙ sym (rule_is None) ∙ default_held not_for) where
-            some_one : {a b : UnitValue} → Some a ≡ Some b → a ≡ b
-            some_one e = cc
-
             by_value : (choice : Choice) → Some choice ≡ slice_get tree.choices c → is_linux_6_12 tree.language ≡ true → (o : Option ℕ)
                 → selected_by_lines (is_visible_member tree values) choice.members (default_member tree choice values) (assigned_lines (user_of users u)) ≡ o
                 → held ≡ MemberValue o → IfSome (user_of users u) (λ y. IsTrue (choice_user_fits tree.language (Some choice) y))
@@ -508,8 +490,8 @@ module _ (profile : Profile) (tree : Tree) (settled : IsOrderedTree tree) (users
                       ap (λ o. MemberValue (option_or o (selected_without_y (is_visible_member tree values) choice.members (default_member tree choice values) lines)))
                       (last_true (is_visible_member tree values) u m lines all held_m visible any) ∙ sym held_is
                   | inr none ↦
-                      let not_for : for_u ≡ false = unlike_true for_u (λ e. false≢true (sym none ∙ chosen e (meant_some u m held_m))) in
-                      let default : default_member tree choice values ≡ Some m = one_member (default_is not_for ∙ held_is) in
+                      let not_for : for_u ≡ false = false_from_ne_true for_u (λ e. false≢true (sym none ∙ chosen e (meant_some u m held_m))) in
+                      let default : default_member tree choice values ≡ Some m = member_one (default_is not_for ∙ held_is) in
                       ap MemberValue (ap (λ o. option_or o (selected_without_y (is_visible_member tree values) choice.members (default_member tree choice values) lines)) (no_last (is_visible_member tree values) lines none)
                       ∙ ap (λ d. selected_without_y (is_visible_member tree values) choice.members d lines) default
                       ∙ ap (λ b. cond b (option_or (find (λ s. is_visible_member tree values s && not (is_listed lines s)) choice.members) (first_listed (is_visible_member tree values) lines)) (Some m))
@@ -579,11 +561,9 @@ full_files_back format profile tree users values valid whole fitting gives unlif
       unlisted u below held has not_for = elim (decides (rule profile tree u None values) held) [
         | inl same ↦ same
         | inr differs ↦
-            let kept = kept_passes profile tree users values fitting solved u below (λ e. differs (some_same (sym e ∙ has))) in
+            let kept = kept_passes profile tree users values fitting solved u below (λ e. differs (some_one (sym e ∙ has))) in
             absurd (false≢true (sym not_for ∙ listed u below kept))
-      ] where
-        some_same : {a b : UnitValue} → Some a ≡ Some b → a ≡ b
-        some_same e = cc
+      ]
 
       same_value : (u : ℕ) → u < length tree.units → (held : UnitValue) → slice_get values u ≡ Some held
           → rule profile tree u (user_of (file_assignment tree full.meanings) u) values ≡ held

@@ -8,7 +8,7 @@ use Rattle.std.proofs.lemmas.Str.{IsUtf8-nil, IsUtf8-append, IsUtf8-from_is_utf8
 use Rattle.kc_value.proofs.UnquotedUtf8.{ascii_then, ascii_alone}
 use Rattle.kc_dotconfig_model.specs.Formats.{FileFormat}
 use Rattle.kc_dotconfig_model.proofs.TrimmedLines.{low_utf8}
-use Rattle.std.proofs.lemmas.Bool.{cases_Bool, false≢true, and_parts, and_from, or_left, or_right, or_parts, not-true, eq-eqb, eqb-true}
+use Rattle.std.proofs.lemmas.Bool.{cases_Bool, false≢true, and_parts, and_from, or_left, or_right, not-true, eq-eqb, eqb-true}
 use Rattle.kc_tree_model.specs.Trees.{Tree, Symbol, Entry, definition, choice_begins, menu_begins, menu_ends, comment}
 use Rattle.kc_tree_model.specs.TreeLookup.{unit_of, title_of_entry}
 use Rattle.kc_solver.specs.Solutions.{Solves, FitsUsers, FitsValues}
@@ -20,7 +20,7 @@ use Rattle.kc_rules_model.specs.Shapes.{user_fits, value_fits, is_line}
 use Rattle.kc_rules_model.specs.Reports.{is_written, is_written_symbol}
 use Rattle.kc_value.specs.Lines.{has_no_byte, has_newline}
 use Rattle.kc_dotconfig_model.specs.PrefixGrammar.{is_name_prefix}
-use Rattle.kc_dotconfig_model.specs.ConfigLines.{LineMeaning, assigns, assigns_escaped, unchosen, notice, silent, Means}
+use Rattle.kc_dotconfig_model.specs.ConfigLines.{LineMeaning, assigns, assigns_escaped, silent, Means}
 use Rattle.kc_tree_model.specs.LogicalLines.{without_white_end}
 use Rattle.kc_dotconfig_model.specs.ConfigFiles.{FileMeans, file_lines, has_utf8_lines}
 use Rattle.kc_minimal_model.specs.SymbolLine.{symbol_line, ended_line}
@@ -28,20 +28,19 @@ use Rattle.kc_minimal_model.specs.MinimalFile.{has_line}
 use Rattle.kc_minimal_model.specs.FullFile.{has_second_space, heading_title, heading, end_line, applies, defines}
 use Rattle.kc_minimal_model.specs.between.EntryTexts.{entry_texts}
 use Rattle.kc_rules_model.proofs.OrderedTrees.{IsOrderedTree}
-use Rattle.kc_minimal_model.proofs.Bytes.{first_line, all_of_both}
+use Rattle.kc_minimal_model.proofs.Bytes.{all_of_both}
 use Rattle.kc_minimal_model.proofs.HeadingLines.{blank_is_silent, hash_is_silent, heading_is_silent, end_is_silent}
 use Rattle.kc_minimal_model.proofs.KeptLines.{line_reads, read_as_assignment, meant, user_meant, meaning_of_user}
-use Rattle.kc_minimal_model.proofs.LineReads.{IsLine}
+use Rattle.kc_minimal_model.proofs.LineReads.{IsLine, text_lacks}
 use Rattle.kc_minimal_model.proofs.MemberUsers.{gives, meant_gives}
 use Rattle.kc_minimal_model.proofs.OwnLines.{IsOwn, own_line}
+use Rattle.kc_dotconfig_model.proofs.Cuts.{first_of_lines}
 
 -- whether a line of a configuration file gives the unit `u` a value; `n` of a member gives its choice none
 abbrev pub is_for : ℕ → LineMeaning → Bool
 is_for u (assigns w x) = nat_eq w u && gives x
 is_for u (assigns_escaped w text) = nat_eq w u
-is_for u (unchosen w s) = false
-is_for u (notice kind) = false
-is_for u silent = false
+is_for u _ = false
 
 -- each line of the file assigns a unit its own value or assigns nothing, and some line assigns to the unit of each covered symbol
 pub record HasOwnLines (format : FileFormat) (tree : Tree) (values : List UnitValue) (covered : ℕ → Type 0) (bytes : List ℕ) : Type 0 where
@@ -50,11 +49,6 @@ pub record HasOwnLines (format : FileFormat) (tree : Tree) (values : List UnitVa
   pub utf8 : has_utf8_lines bytes ≡ true
   pub own : AllByRecursion (IsOwn tree.language values) meanings
   pub covers : (s : ℕ) → covered s → list_any (is_for (unit_of tree s)) meanings ≡ true
-
-one_line : (title : List ℕ) → has_newline title ≡ false → has_no_byte 10 title ≡ true
-one_line [] e = refl
-one_line (b ∷ title) e =
-    let parts = or_parts (b == 10) (has_newline title) e in and_from (not (b == 10)) (has_no_byte 10 title) (ap not parts.0) (one_line title parts.1)
 
 -- each title is one line of UTF-8
 abbrev HasPlainTitles : List Entry → Type 0
@@ -68,7 +62,7 @@ record IsTitle (title : List ℕ) : Type 0 where
 plain_title : (title : List ℕ) → is_line title ≡ true → IsTitle title
 plain_title title e =
     let parts = and_parts (not (has_newline title)) (is_utf8 title) e in
-    record { one = one_line title (not-true (has_newline title) parts.0); utf8 = IsUtf8-from_is_utf8 title parts.1 }
+    record { one = text_lacks title (not-true (has_newline title) parts.0); utf8 = IsUtf8-from_is_utf8 title parts.1 }
 
 module _ (format : FileFormat) (valid : is_name_prefix format.prefix ≡ true) (tree : Tree) (values : List UnitValue) where
   -- one more line
@@ -78,8 +72,8 @@ module _ (format : FileFormat) (valid : is_name_prefix format.prefix ≡ true) (
   own_lines_line C D line rest meaning one utf8 has_meaning own t covers = record {
     meanings = meaning ∷ t.meanings;
     has_meaning = subst (λ ls. AllZip (λ l x. Means format tree (without_white_end l) x) ls (meaning ∷ t.meanings))
-        (sym (first_line line rest one)) (has_meaning, t.has_meaning);
-    utf8 = ap (list_all is_utf8) (first_line line rest one) ∙ and_from (is_utf8 line) (list_all is_utf8 (file_lines rest)) (is_utf8-from_IsUtf8 line utf8)
+        (sym (first_of_lines line rest one)) (has_meaning, t.has_meaning);
+    utf8 = ap (list_all is_utf8) (first_of_lines line rest one) ∙ and_from (is_utf8 line) (list_all is_utf8 (file_lines rest)) (is_utf8-from_IsUtf8 line utf8)
         t.utf8;
     own = (own, t.own);
     covers = λ s d. elim (covers s d) [

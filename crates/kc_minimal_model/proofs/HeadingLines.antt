@@ -1,5 +1,5 @@
 -- No line of a heading and no end line is an assignment or malformed, for every prefix.
-use Rattle.std.proofs.Common.{◌≡◌, Some, inl, inr, ℕ, zero, suc, ◌-◌, ◌<◌, Bool, true, false, not, ◌==◌, cond, List, [], ◌∷◌, ◌++◌, length, get_or, take, drop, refl, sym, ap, ◌∙◌, arith, append_assoc}
+use Rattle.std.proofs.Common.{◌≡◌, inl, inr, ℕ, zero, suc, ◌-◌, ◌<◌, Bool, true, false, not, ◌==◌, cond, List, [], ◌∷◌, ◌++◌, length, get_or, take, drop, refl, sym, ap, ◌∙◌, arith, append_assoc}
 use Rattle.std.specs.Prelude.{codes, nat_eq}
 use Rattle.std.specs.List.{find, list_all, starts_with, suffix_len}
 use Rattle.std.proofs.lemmas.Bool.{and_parts, and_from, cases_lt, false≢true, eq-eqb}
@@ -10,16 +10,13 @@ use Rattle.kc_tree_model.specs.TreeLookup.{is_name_byte}
 use Rattle.kc_dotconfig_model.specs.Formats.{FileFormat}
 use Rattle.kc_value.specs.Lines.{has_no_byte}
 use Rattle.kc_dotconfig_model.specs.PrefixGrammar.{is_name_prefix}
-use Rattle.kc_dotconfig_model.proofs.LineLaws.{line_read}
 use Rattle.kc_dotconfig_model.proofs.UnsetTexts.{unset_texts_are_read}
-use Rattle.kc_dotconfig_model.specs.ConfigLines.{LineMeaning, silent, Means, empty, comment, IsUnsetLine, is_unset_text}
+use Rattle.kc_dotconfig_model.specs.ConfigLines.{silent, Means, empty, comment, IsUnsetLine, is_unset_text}
 use Rattle.kc_tree_model.specs.LogicalLines.{without_white_end}
 use Rattle.kc_minimal_model.specs.FullFile.{heading_title}
 use Rattle.kc_minimal_model.proofs.Bytes.{name_lacks, all_of_both}
 use Rattle.kc_dotconfig_model.proofs.TrimmedLines.{white_suffix_begins}
-
-prefix_bytes : (prefix : List ℕ) → is_name_prefix prefix ≡ true → list_all is_name_byte prefix ≡ true
-prefix_bytes prefix e = (and_parts _ (list_all is_name_byte prefix) e).1
+use Rattle.kc_minimal_model.proofs.LineReads.{prefix_bytes}
 
 -- a line that begins with `#` still does without the white bytes at its end
 hash_stays : (line : List ℕ) → (rest : List ℕ) × (without_white_end (35 ∷ line) ≡ 35 ∷ rest)
@@ -147,13 +144,3 @@ end_is_silent format tree title valid = comment_is_silent format tree (32 ∷ 10
           rest_after_space (101 ∷ 110 ∷ 100 ∷ []) (format.prefix ++ name) (111 ∷ 102 ∷ 32 ∷ title) (set ++ rest) refl
           (all_of_both (λ c. not (c == 32)) format.prefix name (name_lacks 32 refl format.prefix (prefix_bytes format.prefix valid)) one) (tail ∙ split) in
           o_is_i (102 ∷ 32 ∷ title) (115 ∷ 32 ∷ 110 ∷ 111 ∷ 116 ∷ 32 ∷ 115 ∷ 101 ∷ 116 ∷ rest) after
-
-some_same : (a b : LineMeaning) → Some a ≡ Some b → a ≡ b
-some_same a b e = cc
-
--- a line of a configuration file that assigns nothing and gives no notice has no other meaning
-pub means_nothing_else : (format : FileFormat) (tree : Tree) (line : List ℕ) (meaning : LineMeaning) → is_name_prefix format.prefix ≡ true
-    → Means format tree line silent
-    → Means format tree line meaning → meaning ≡ silent
-means_nothing_else format tree line meaning valid first second =
-    some_same meaning silent (sym ((line_read format tree line meaning valid).1 second) ∙ (line_read format tree line silent valid).1 first)

@@ -6,7 +6,7 @@ use Rattle.std.proofs.lemmas.Bool.{cases_Bool, false≢true, and_parts, eqb-true
 use Rattle.kc_value.specs.declared.tri.Tri.{Tri}
 use Rattle.kc_value.specs.declared.tri.Tri.TheVariants.{N, Y}
 use Rattle.kc_value.specs.declared.value.Kind.{Kind}
-use Rattle.kc_value.specs.declared.value.Kind.TheVariants.{Bool as Boolean, Tristate, Text, Int, Hex}
+use Rattle.kc_value.specs.declared.value.Kind.TheVariants.{Bool as Boolean, Tristate}
 use Rattle.kc_expr.specs.Expr.{SymbolValue}
 use Rattle.kc_tree_model.specs.Trees.{Tree, Symbol}
 use Rattle.kc_tree_model.specs.declared.ids.Unit.TheVariants.{Symbol as of_symbol, Choice as of_choice}
@@ -68,16 +68,12 @@ value_of_text language (MemberValue (Some a)) t e = go (is_linux_6_12 language) 
 pub tri_kind : (kind : Kind) (t : Tri) → tri_fits kind t ≡ true → is_tri_kind kind ≡ true
 tri_kind Boolean t e = refl
 tri_kind Tristate t e = refl
-tri_kind Text t e = absurd (false≢true e)
-tri_kind Int t e = absurd (false≢true e)
-tri_kind Hex t e = absurd (false≢true e)
+tri_kind _ t e = absurd (false≢true e)
 
 text_kind : (kind : Kind) (text : List ℕ) → user_text_fits kind text ≡ true → is_tri_kind kind ≡ false
 text_kind Boolean t e = absurd (false≢true e)
 text_kind Tristate t e = absurd (false≢true e)
-text_kind Text t e = refl
-text_kind Int t e = refl
-text_kind Hex t e = refl
+text_kind _ t e = refl
 
 module _ (format : FileFormat) (valid : is_name_prefix format.prefix ≡ true) (profile : Profile) (tree : Tree) (sound : IsConsistent tree)
     (users : List (Option UserValue)) (values : List UnitValue)
@@ -103,8 +99,7 @@ module _ (format : FileFormat) (valid : is_name_prefix format.prefix ≡ true) (
       ∙ ap (F (Some (TextValue text))) (text_kind symbol.kind text fits) in
       subst (λ e. IsLine format tree (line_with format symbol.name e) (assigns (unit_of tree s) (TextUser text))) (sym seen)
       (text_line format valid tree sound s symbol at symbol.kind text refl fits)
-  line_by_user s symbol at out held has (MemberUser m) assigned fits = absurd (false≢true fits)
-  line_by_user s symbol at out held has (LinesUser l) assigned fits = absurd (false≢true fits)
+  line_by_user s symbol at out held has _ assigned fits = absurd (false≢true fits)
 
   meaning : (u : ℕ) (k : KeptUnit tree values u) → assigns u k.again ≡ meant tree.language values u
   meaning u k = sym (ap (λ o. meaning_of_user u (option_and_then (as_user tree.language) o)) k.has ∙ ap (meaning_of_user u) k.assigned)

@@ -1,11 +1,13 @@
 -- The lines of a minimal file assign the least assignment of its values.
 use Rattle.std.proofs.Common.{◌≡◌, inl, inr, ℕ, zero, suc, ◌+◌, ◌<◌, ◌≤◌, Bool, true, false, not, ◌||◌, ◌==◌, cond, IsTrue, List, [], ◌∷◌, ◌++◌, Option, Some, None, length, get_or, map, filter, refl, sym, ◌∙◌, ap, subst, append_assoc, arith}
-use Rattle.std.specs.Prelude.{slice_get, slice_set, replicate}
+use Rattle.std.specs.Prelude.{slice_get, slice_set}
 use Rattle.std.specs.Option.{option_map, option_and_then}
 use Rattle.std.specs.List.{AllZip, list_any, list_all, flat_map, range_with_len}
 use Rattle.std.proofs.lemmas.Bool.{cases_Bool, cases_eq, false≢true, and_from, and_parts, or_left, or_right, eqb-true, eqb-false, eq-eqb}
-use Rattle.std.proofs.lemmas.List.{get_or-set_same, get_or-set_other, length-set}
+use Rattle.std.proofs.lemmas.List.{get_or-set_same, get_or-set_other}
 use Rattle.std.proofs.lemmas.Option.{slice_get-get_or}
+use Rattle.std.proofs.lemmas.Bool.{or_right}
+use Rattle.std.proofs.Math.Bool.{or-false, or_assoc}
 use Rattle.kc_value.specs.declared.tri.Tri.TheVariants.{N, Y}
 use Rattle.kc_tree_model.specs.Trees.{Tree, Symbol}
 use Rattle.kc_tree_model.specs.declared.ids.Unit.{Unit as TreeUnit}
@@ -16,7 +18,6 @@ use Rattle.kc_solver.specs.LeastAssignments.{IsLeastAssignment}
 use Rattle.kc_rules_model.specs.declared.profile.Profile.{Profile}
 use Rattle.kc_rules_model.specs.declared.values.UnitValue.{UnitValue}
 use Rattle.kc_rules_model.specs.declared.values.UserValue.{UserValue}
-use Rattle.kc_rules_model.specs.declared.values.UserValue.TheVariants.{Tri as TriUser, Text as TextUser, Member as MemberUser}
 use Rattle.kc_rules_model.specs.Kinds.{is_n}
 use Rattle.kc_rules_model.specs.SymbolValues.{value_in_unit, tri_if_selected, member_of}
 use Rattle.kc_rules_model.specs.Rule.{rule, as_user}
@@ -29,12 +30,14 @@ use Rattle.kc_tree_model.specs.LogicalLines.{without_white_end}
 use Rattle.kc_dotconfig_model.specs.ConfigFiles.{FileMeans, file_lines, over, assigned, assigned_over, file_assignment, empty_assignment}
 use Rattle.kc_minimal_model.specs.SymbolLine.{symbol_line, ended_line}
 use Rattle.kc_minimal_model.specs.MinimalFile.{is_kept, has_line, may_have_line, is_line_of_its_unit, minimal_symbols, minimal_file}
-use Rattle.kc_minimal_model.proofs.Bytes.{first_line}
+use Rattle.kc_dotconfig_model.proofs.Cuts.{first_of_lines}
 use Rattle.kc_tree_model.proofs.Lookups.{inside, place_is, unit_is}
 use Rattle.kc_minimal_model.proofs.KeptUnits.{KeptUnit, kept_unit, kept_passes, others_fail}
 use Rattle.kc_minimal_model.proofs.KeptLines.{line_reads, meant, user_meant, meaning_of_user}
 use Rattle.kc_minimal_model.proofs.MemberUsers.{chosen_member, meant_gives}
 use Rattle.kc_dotconfig_model.proofs.Overlays.{over_none}
+use Rattle.kc_dotconfig_model.proofs.FittingFiles.{none_held, none_length}
+use Rattle.kc_dotconfig_model.proofs.Overlays.{assigned_length, file_length}
 
 -- each line of the minimal file has a meaning, and what the lines assign is the least assignment of the values
 pub record IsReadAsLeast (format : FileFormat) (profile : Profile) (tree : Tree) (values : List UnitValue) : Type 0 where
@@ -70,30 +73,9 @@ one_of_filter p q (suc n) a s low high kept passes = elim (cases_eq s a) [
   onto true has = or_right (p a) (list_any p (filter q (range_with_len (a + 1) n))) has
   onto false has = has
 
-pub none_held : (n u : ℕ) → get_or {A = Option UserValue} (replicate n None) u None ≡ None
-none_held zero u = refl
-none_held (suc n) zero = refl
-none_held (suc n) (suc u) = none_held n u
-
-pub none_length : (n : ℕ) → length {A = Option UserValue} (replicate n None) ≡ n
-none_length zero = refl
-none_length (suc n) = let rest = none_length n in omega arith
-
-pub or_false : (b : Bool) → (b || false) ≡ b
-or_false true = refl
-or_false false = refl
-
-pub or_true : (b : Bool) → (b || true) ≡ true
-or_true true = refl
-or_true false = refl
-
 either_none : {X : Type 0} (t : Bool) (o : Option X) → o ≡ None → cond t o None ≡ None
 either_none true o e = e
 either_none false o e = refl
-
-pub or_assoc : (a b c : Bool) → ((a || b) || c) ≡ (a || (b || c))
-or_assoc true b c = refl
-or_assoc false b c = refl
 
 -- after one line, a unit has its user value where the line or one before it is of the unit
 after_line : (X : Option UserValue) → ((x : UserValue) → X ≡ Some x → over x (Some x) ≡ x) → (w u : ℕ) (o : Option UserValue) (users : List (Option UserValue))
@@ -102,7 +84,7 @@ after_line : (X : Option UserValue) → ((x : UserValue) → X ≡ Some x → ov
     → user_of (assigned (meaning_of_user w o) users) u ≡ cond (before || (w == u)) X None
 after_line X again w u None users before same h e = elim (cases_Bool (w == u)) [
   | inl here ↦ e ∙ either_none before X (sym (same (eqb-true w u here))) ∙ sym (either_none (before || (w == u)) X (sym (same (eqb-true w u here))))
-  | inr other ↦ e ∙ sym (ap (λ b. cond (before || b) X None) other ∙ ap (λ b. cond b X None) (or_false before))
+  | inr other ↦ e ∙ sym (ap (λ b. cond (before || b) X None) other ∙ ap (λ b. cond b X None) (or-false before))
 ]
 after_line X again w u (Some x) users before same h e = elim (cases_Bool (w == u)) [
   | inl here ↦
@@ -111,40 +93,27 @@ after_line X again w u (Some x) users before same h e = elim (cases_Bool (w == u
       let own : z ≡ x = ap (λ k. over x (user_of users k)) equal ∙ ap (over x) (e ∙ ap (λ y. cond before y None) (sym (same equal)))
       ∙ stays before x (again x (sym (same equal))) in
       subst (λ k. get_or (slice_set users k (Some z)) u None ≡ Some z) (sym equal) (get_or-set_same users u (Some z) None h)
-      ∙ ap Some own ∙ same equal ∙ sym (ap (λ b. cond (before || b) X None) here ∙ ap (λ b. cond b X None) (or_true before))
+      ∙ ap Some own ∙ same equal ∙ sym (ap (λ b. cond (before || b) X None) here ∙ ap (λ b. cond b X None) (or_right before true refl))
   | inr other ↦
       get_or-set_other users w u (Some (over x (user_of users w))) None (λ equal. eqb-false w u other (sym equal)) ∙ e
-      ∙ sym (ap (λ b. cond (before || b) X None) other ∙ ap (λ b. cond b X None) (or_false before))
+      ∙ sym (ap (λ b. cond (before || b) X None) other ∙ ap (λ b. cond b X None) (or-false before))
 ] where
   stays : (b : Bool) (y : UserValue) → over y (Some y) ≡ y → over y (cond b (Some y) None) ≡ y
   stays true y again = again
   stays false y again = over_none y
 
-same_length : (w : ℕ) (o : Option UserValue) (users : List (Option UserValue)) → length (assigned (meaning_of_user w o) users) ≡ length users
-same_length w None users = refl
-same_length w (Some x) users = length-set users w (Some (over x (user_of users w)))
-
 module _ (tree : Tree) (values : List UnitValue) where
-  -- the meanings of the lines of some symbols, each of which assigns the symbol's unit its own value
-  abbrev pub meanings_of : List ℕ → List LineMeaning
-  meanings_of xs = map (λ s. meant tree.language values (unit_of tree s)) xs
-
   pub after_lines : (u : ℕ) (xs : List ℕ) (users : List (Option UserValue)) (before : Bool) → u < length users
       → user_of users u ≡ cond before (user_meant tree.language values u) None
       → user_of (assigned_over (map (λ s. meant tree.language values (unit_of tree s)) xs) users) u ≡ cond (before || list_any (λ s. unit_of tree s == u) xs)
       (user_meant tree.language values u) None
-  after_lines u [] users before h e = e ∙ sym (ap (λ b. cond b (user_meant tree.language values u) None) (or_false before))
+  after_lines u [] users before h e = e ∙ sym (ap (λ b. cond b (user_meant tree.language values u) None) (or-false before))
   after_lines u (s ∷ xs) users before h e =
       let w = unit_of tree s in
       let now = after_line (user_meant tree.language values u) (λ x is. (meant_gives tree.language (slice_get values u) x is).1) w u (user_meant tree.language values w) users before (λ same. ap (user_meant tree.language values) same) h e in
-      let len = same_length w (user_meant tree.language values w) users in
+      let len = assigned_length (meant tree.language values w) users in
       after_lines u xs (assigned (meant tree.language values w) users) (before || (w == u)) (omega (arith, len)) now
       ∙ ap (λ b. cond b (user_meant tree.language values u) None) (or_assoc before (w == u) (list_any (λ t. unit_of tree t == u) xs))
-
-  pub length_after : (xs : List ℕ) (users : List (Option UserValue)) → length (assigned_over (map (λ s. meant tree.language values (unit_of tree s)) xs) users) ≡ length users
-  length_after [] users = refl
-  length_after (s ∷ xs) users =
-      length_after xs (assigned (meant tree.language values (unit_of tree s)) users) ∙ same_length (unit_of tree s) (user_meant tree.language values (unit_of tree s)) users
 
 module _ (format : FileFormat) (valid : is_name_prefix format.prefix ≡ true) (profile : Profile) (tree : Tree) (sound : IsConsistent tree)
     (users : List (Option UserValue)) (values : List UnitValue)
@@ -160,7 +129,7 @@ module _ (format : FileFormat) (valid : is_name_prefix format.prefix ≡ true) (
       let parts = and_parts (has_line profile tree values s) (list_all (has_line profile tree values) xs) all in
       let line = line_reads format valid profile tree sound users values fitting solved s parts.0 in
       let cut : file_lines (ended_line format tree values s ++ rest) ≡ symbol_line format tree values s ∷ file_lines rest =
-      ap file_lines (append_assoc (symbol_line format tree values s) (10 ∷ []) rest) ∙ first_line (symbol_line format tree values s) rest line.one in
+      ap file_lines (append_assoc (symbol_line format tree values s) (10 ∷ []) rest) ∙ first_of_lines (symbol_line format tree values s) rest line.one in
       subst (λ lines. AllZip (λ l meaning. Means format tree (without_white_end l) meaning) lines
       (meant tree.language values (unit_of tree s) ∷ map (λ t. meant tree.language values (unit_of tree t)) xs)) (sym cut)
       (subst (λ l. Means format tree l (meant tree.language values (unit_of tree s))) (sym line.whole) line.has_meaning, lines_mean xs parts.1)
@@ -213,7 +182,7 @@ module _ (format : FileFormat) (valid : is_name_prefix format.prefix ≡ true) (
   pub least_of_lines : IsLeastAssignment (length tree.units) (rule profile tree) (as_user tree.language) values
       (file_assignment tree (map (λ s. meant tree.language values (unit_of tree s)) (minimal_symbols profile tree values)))
   least_of_lines = record {
-    one_each = length_after tree values (minimal_symbols profile tree values) (empty_assignment tree) ∙ none_length (length tree.units);
+    one_each = file_length (map (λ s. meant tree.language values (unit_of tree s)) (minimal_symbols profile tree values)) (empty_assignment tree) ∙ none_length (length tree.units);
     kept = λ u value h has kept.
         let test = kept_passes profile tree users values fitting solved u h kept in
         let unit = unit_there u h in

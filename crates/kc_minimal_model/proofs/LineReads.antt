@@ -7,7 +7,7 @@ use Rattle.kc_value.specs.declared.tri.Tri.{Tri}
 use Rattle.kc_value.specs.declared.tri.Tri.TheVariants.{N, M, Y}
 use Rattle.kc_value.specs.declared.value.Kind.{Kind}
 use Rattle.kc_value.specs.declared.value.Kind.TheVariants.{Bool as Boolean, Tristate, Text, Int, Hex}
-use Rattle.kc_value.specs.QuotedTexts.{quoted, escaped_byte, IsBody, none, plain, pair, IsQuoted}
+use Rattle.kc_value.specs.QuotedTexts.{escaped_byte}
 use Rattle.kc_expr.specs.Expr.{SymbolValue, letter}
 use Rattle.kc_tree_model.specs.Trees.{Tree, Symbol}
 use Rattle.kc_tree_model.specs.TreeLookup.{IsConsistent, is_name_byte, unit_of}
@@ -26,7 +26,7 @@ use Rattle.kc_tree_model.specs.LogicalLines.{without_white_end}
 use Rattle.kc_dotconfig_model.specs.ConfigFiles.{file_lines}
 use Rattle.kc_minimal_model.specs.MinimalFileLaws.{StringsAreReadBack}
 use Rattle.kc_minimal_model.specs.SymbolLine.{line_with, value_line, unset_line}
-use Rattle.kc_minimal_model.proofs.Bytes.{name_lacks, all_of_both, keeps_text, ends_in_ink, first_line}
+use Rattle.kc_minimal_model.proofs.Bytes.{name_lacks, all_of_both, keeps_text, ends_in_ink}
 use Rattle.std.specs.Str.{IsUtf8, is_utf8}
 use Rattle.std.proofs.lemmas.Str.{IsUtf8-append, IsUtf8-from_is_utf8}
 use Rattle.kc_value.proofs.UnquotedUtf8.{ascii_then, ascii_alone}
@@ -37,19 +37,8 @@ use Rattle.kc_dotconfig_model.proofs.TrimmedLines.{low_utf8, name_utf8}
 use Rattle.kc_rules_model.proofs.Ink.{is_ink, all_weaker}
 use Rattle.kc_rules_model.proofs.Numbers.{IsInk, number_ink}
 use Rattle.kc_tree_model.proofs.Lookups.{found_by_name}
-
--- the escaped text is the part between the quotes of a text
-body_of : (text : List ℕ) → IsBody 34 (flat_map escaped_byte text) text
-body_of [] = none
-body_of (c ∷ text) = go (c == 34 || (c == 92)) refl (body_of text) where
-  go : (t : Bool) → (c == 34 || (c == 92)) ≡ t → IsBody 34 (flat_map escaped_byte text) text
-      → IsBody 34 (cond t (92 ∷ c ∷ []) (c ∷ []) ++ flat_map escaped_byte text) (c ∷ text)
-  go true e rest = pair rest
-  go false e rest = let both = or_parts (c == 34) (c == 92) e in plain both.0 both.1 rest
-
--- the quoted spelling of a text, with its escapes, represents the text
-pub quoted_means : (text : List ℕ) → IsQuoted (quoted text) text
-quoted_means text = (flat_map escaped_byte text, refl, body_of text)
+use Rattle.kc_dotconfig_model.proofs.Cuts.{first_of_lines}
+use Rattle.kc_value.proofs.QuotedLaws.{spelled}
 
 escaped_lacks : (text : List ℕ) → has_newline text ≡ false → has_no_byte 10 (flat_map escaped_byte text) ≡ true
 escaped_lacks [] e = refl
@@ -62,7 +51,7 @@ escaped_lacks (c ∷ text) e =
 
 -- in each form a string's spelling represents its text, on one line if the text is, and as UTF-8 if the text is
 spelling_is : (strings : Strings) (text : List ℕ) → IsStringSpelling strings (string_spelling strings text) text
-spelling_is Escaped text = quoted_means text
+spelling_is Escaped text = spelled text
 spelling_is Raw text = refl
 
 abbrev inside_quotes : Strings → List ℕ → List ℕ
@@ -73,7 +62,7 @@ spelling_quoted : (strings : Strings) (text : List ℕ) → string_spelling stri
 spelling_quoted Escaped text = refl
 spelling_quoted Raw text = refl
 
-text_lacks : (text : List ℕ) → has_newline text ≡ false → has_no_byte 10 text ≡ true
+pub text_lacks : (text : List ℕ) → has_newline text ≡ false → has_no_byte 10 text ≡ true
 text_lacks [] e = refl
 text_lacks (c ∷ text) e =
     let parts = or_parts (c == 10) (has_newline text) e in and_from (not (c == 10)) (has_no_byte 10 text) (ap not parts.0) (text_lacks text parts.1)
@@ -93,7 +82,7 @@ pub record IsLine (format : FileFormat) (tree : Tree) (line : List ℕ) (meaning
   pub one : has_no_byte 10 line ≡ true
   pub utf8 : IsUtf8 line
 
-prefix_bytes : (prefix : List ℕ) → is_name_prefix prefix ≡ true → list_all is_name_byte prefix ≡ true
+pub prefix_bytes : (prefix : List ℕ) → is_name_prefix prefix ≡ true → list_all is_name_byte prefix ≡ true
 prefix_bytes prefix e = (and_parts _ (list_all is_name_byte prefix) e).1
 
 module _ (format : FileFormat) (valid : is_name_prefix format.prefix ≡ true) (tree : Tree) (sound : IsConsistent tree) (s : ℕ) (symbol : Symbol)
@@ -211,22 +200,17 @@ module _ (format : FileFormat) (valid : is_name_prefix format.prefix ≡ true) (
   tri_line Boolean N is out fits =
       subst (IsLine format tree (unset_line format.prefix symbol.name)) (ap (unset_meaning tree s symbol) out
       ∙ ap (λ k. cond (is_tri_kind k) (assigns (unit_of tree s) (TriUser N)) silent) is) not_set_line
-  tri_line Boolean M is out fits = absurd (false≢true fits)
   tri_line Boolean Y is out fits = letter_line Y out (ap (λ k. tri_of_text k (letter Y)) is) (record { some = omega arith; ink = refl; low = refl })
   tri_line Tristate N is out fits =
       subst (IsLine format tree (unset_line format.prefix symbol.name)) (ap (unset_meaning tree s symbol) out
       ∙ ap (λ k. cond (is_tri_kind k) (assigns (unit_of tree s) (TriUser N)) silent) is) not_set_line
   tri_line Tristate M is out fits = letter_line M out (ap (λ k. tri_of_text k (letter M)) is) (record { some = omega arith; ink = refl; low = refl })
   tri_line Tristate Y is out fits = letter_line Y out (ap (λ k. tri_of_text k (letter Y)) is) (record { some = omega arith; ink = refl; low = refl })
-  tri_line Text t is out fits = absurd (false≢true fits)
-  tri_line Int t is out fits = absurd (false≢true fits)
-  tri_line Hex t is out fits = absurd (false≢true fits)
+  tri_line _ _ is out fits = absurd (false≢true fits)
 
   -- the line of a string, int or hex is read as the assignment of its value
   pub text_line : (kind : Kind) (text : List ℕ) → symbol.kind ≡ kind → user_text_fits kind text ≡ true
       → IsLine format tree (line_with format symbol.name (of_text kind text)) (assigns (unit_of tree s) (TextUser text))
-  text_line Boolean text is fits = absurd (false≢true fits)
-  text_line Tristate text is fits = absurd (false≢true fits)
   text_line Text text is fits =
       let parts = and_parts (not (has_newline text)) (is_utf8 text) fits in
       string_line text is (not-true (has_newline text) parts.0) (IsUtf8-from_is_utf8 text parts.1)
@@ -234,6 +218,7 @@ module _ (format : FileFormat) (valid : is_name_prefix format.prefix ≡ true) (
       ink_line text (assigns (unit_of tree s) (TextUser text)) (number_ink Int text fits) (number text (ap (λ k. is_some (number_of_text k text)) is ∙ fits))
   text_line Hex text is fits =
       ink_line text (assigns (unit_of tree s) (TextUser text)) (number_ink Hex text fits) (number text (ap (λ k. is_some (number_of_text k text)) is ∙ fits))
+  text_line _ text is fits = absurd (false≢true fits)
 
   -- the line of a choice's selected member is read as the assignment that selects this member
   pub member_line : (c : ℕ) → symbol.choice ≡ Some c → symbol.kind ≡ Boolean
@@ -246,7 +231,7 @@ pub strings_read_back : StringsAreReadBack
 strings_read_back format tree s symbol text valid sound at is one =
     let line = value_line format.prefix symbol.name (string_spelling format.strings text) in
     let meaning = assigns (unit_of tree s) (TextUser text) in
-    let lines : file_lines (line ++ 10 ∷ []) ≡ line ∷ [] = first_line line [] (string_one format valid tree sound s symbol at text one) in
+    let lines : file_lines (line ++ 10 ∷ []) ≡ line ∷ [] = first_of_lines line [] (string_one format valid tree sound s symbol at text one) in
     let has_meaning = string_line_means format valid tree sound s symbol at text is in
     subst (λ ls. AllZip (λ l x. Means format tree (without_white_end l) x) ls (meaning ∷ [])) (sym lines)
     (subst (λ l. Means format tree l meaning) (sym (string_trimmed format valid tree sound s symbol at text)) has_meaning, tt)

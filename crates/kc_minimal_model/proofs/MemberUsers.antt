@@ -1,5 +1,5 @@
 -- The user values of choices that represent their values.
-use Rattle.std.proofs.Common.{◌≡◌, ◌≢◌, ℕ, Bool, true, false, not, ◌&&◌, ◌||◌, ◌==◌, cond, List, [], ◌∷◌, ◌++◌, Option, Some, None, refl, sym, ◌∙◌, ap}
+use Rattle.std.proofs.Common.{◌≡◌, ◌≢◌, ℕ, Bool, true, false, not, ◌&&◌, ◌||◌, cond, [], ◌∷◌, ◌++◌, Option, Some, None, refl, sym, ◌∙◌, ap}
 use Rattle.std.specs.Option.{option_and_then}
 use Rattle.std.specs.List.{list_any}
 use Rattle.std.proofs.lemmas.Bool.{false≢true, and_parts, eq-eqb}
@@ -11,14 +11,9 @@ use Rattle.kc_rules_model.specs.declared.values.UnitValue.TheVariants.{Tri as Tr
 use Rattle.kc_rules_model.specs.declared.values.UserValue.{UserValue}
 use Rattle.kc_rules_model.specs.declared.values.UserValue.TheVariants.{Tri as TriUser, Text as TextUser, Member as MemberUser, Lines as LinesUser}
 use Rattle.kc_rules_model.specs.declared.values.MemberLine.{MemberLine}
-use Rattle.kc_rules_model.specs.MemberLines.{laid_over}
 use Rattle.kc_rules_model.specs.Rule.{as_user, member_user}
 use Rattle.kc_rules_model.specs.Shapes.{choice_user_fits, is_member}
 use Rattle.kc_dotconfig_model.specs.ConfigFiles.{over}
-
--- the one assignment that gives a member `y` or `n`
-abbrev pub line_of : ℕ → Bool → MemberLine
-line_of s is_y = record { member = s; is_y = is_y }
 
 -- a choice's user value that selects a member alone fits only if that is a member of the choice
 member_fits_choice : (language : Language) (choice : Option Choice) (m : ℕ) → choice_user_fits language choice (member_user language m) ≡ true → is_member choice m ≡ true
@@ -43,9 +38,7 @@ chosen_member language choice (MemberValue (Some m)) again e fits =
 -- whether a line with this user value gives its unit the value that the user value represents: of assignments of members if one is `y`
 abbrev pub gives : UserValue → Bool
 gives (LinesUser lines) = list_any (λ (l : MemberLine). l.is_y) lines
-gives (TriUser t) = true
-gives (TextUser text) = true
-gives (MemberUser s) = true
+gives _ = true
 
 -- a user value that represents a value gives it, and laid over itself it stays
 pub meant_gives : (language : Language) (o : Option UnitValue) (x : UserValue) → option_and_then (as_user language) o ≡ Some x

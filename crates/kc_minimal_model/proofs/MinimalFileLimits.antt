@@ -5,9 +5,10 @@ use Rattle.std.specs.Option.{option_map}
 use Rattle.std.specs.List.{list_all}
 use Rattle.std.proofs.lemmas.Bool.{and_parts, and_from, cases_Bool, false≢true, le-leb, leb-true}
 use Rattle.std.proofs.lemmas.List.FromFn.{length-range_with_len}
+use Rattle.std.proofs.Math.Bool.{and-false}
 use Rattle.kc_value.specs.declared.tri.Tri.TheVariants.{N}
 use Rattle.kc_value.specs.declared.value.Kind.{Kind}
-use Rattle.kc_value.specs.declared.value.Kind.TheVariants.{Bool as Boolean, Tristate, Text, Int, Hex}
+use Rattle.kc_value.specs.declared.value.Kind.TheVariants.{Bool as Boolean, Text, Int, Hex}
 use Rattle.kc_value.specs.Number.{number_of_text, int_text, hex_text}
 use Rattle.kc_value.specs.Kinds.{is_number}
 use Rattle.kc_tokens.specs.Languages.{is_linux_6_12}
@@ -22,7 +23,7 @@ use Rattle.kc_rules_model.specs.declared.profile.Profile.{Profile}
 use Rattle.kc_rules_model.specs.declared.values.UnitValue.{UnitValue}
 use Rattle.kc_rules_model.specs.declared.values.UnitValue.TheVariants.{Text as TextValue}
 use Rattle.kc_rules_model.specs.declared.values.UserValue.{UserValue}
-use Rattle.kc_rules_model.specs.declared.values.UserValue.TheVariants.{Tri as TriUser, Text as TextUser, Member as MemberUser, Lines as LinesUser}
+use Rattle.kc_rules_model.specs.declared.values.UserValue.TheVariants.{Tri as TriUser, Text as TextUser}
 use Rattle.kc_value.specs.Kinds.{is_tri_kind}
 use Rattle.kc_rules_model.specs.SymbolValues.{value_of_symbol, value_in_unit, tri_symbol_value, tri_of, text_of, member_of, tri_if_selected}
 use Rattle.kc_rules_model.specs.Rule.{as_user}
@@ -36,7 +37,7 @@ use Rattle.kc_dotconfig_model.specs.Formats.{FileFormat, string_spelling, IsStri
 use Rattle.kc_dotconfig_model.specs.PrefixGrammar.{is_name_prefix}
 use Rattle.kc_tree_model.specs.LogicalLines.{without_white_end}
 use Rattle.kc_dotconfig_model.specs.ConfigFiles.{file_lines, file_assignment, empty_assignment}
-use Rattle.kc_value.specs.declared.limits.TheConstants.{MAX_CONFIG_LINES, MAX_LINE_BYTES, MAX_NAME_BYTES, MAX_NUMBER_BYTES, MAX_PREFIX_BYTES}
+use Rattle.kc_value.specs.declared.limits.TheConstants.{MAX_CONFIG_LINES, MAX_LINE_BYTES, MAX_NUMBER_BYTES}
 use Rattle.kc_dotconfig_model.specs.LoadFaults.{IsAccepted}
 use Rattle.kc_dotconfig_model.proofs.FittingFiles.{file_fits}
 use Rattle.kc_minimal_model.specs.SymbolLine.{spelled, symbol_line, line_of_value, line_with}
@@ -51,10 +52,11 @@ use Rattle.kc_dotconfig_model.proofs.AssigningLines.{HasAssigningLine, assigning
 use Rattle.kc_minimal_model.proofs.FittingLines.{IsFitLine, prefix_fits, tri_fits_line, text_fits_line}
 use Rattle.kc_minimal_model.proofs.KeptLines.{value_of_text, tri_kind}
 use Rattle.kc_minimal_model.proofs.KeptUnits.{kept_unit}
-use Rattle.kc_minimal_model.proofs.LeastFile.{none_held, none_length, passes_filter}
+use Rattle.kc_minimal_model.proofs.LeastFile.{passes_filter}
 use Rattle.kc_minimal_model.proofs.NeededUnits.{needs_values}
 use Rattle.kc_dotconfig_model.proofs.TrimmedLines.{low_utf8, name_utf8, trimmed_utf8, trimmed_no_longer}
 use Rattle.kc_value.proofs.UnquotedUtf8.{ascii_alone, utf8_after, unquoted_utf8, quoted_no_longer}
+use Rattle.kc_dotconfig_model.proofs.FittingFiles.{none_held, none_length}
 
 abbrev TextStands : Strings → Symbol → List ℕ → List ℕ → Type 0
 TextStands strings symbol text means = (IsStringSpelling strings text means × (symbol.kind ≡ Text))
@@ -65,11 +67,8 @@ not_bool strings symbol text means (inl q) e = let is = q.1 in cc
 not_bool strings symbol text means (inr n) e = false≢true (sym (ap (λ k. is_some (number_of_text k text)) e) ∙ n.1)
 
 number_spelled : (strings : Strings) (kind : Kind) (text : List ℕ) → is_some (number_of_text kind text) ≡ true → spelled strings kind text ≡ text
-number_spelled strings Boolean text e = refl
-number_spelled strings Tristate text e = refl
 number_spelled strings Text text e = absurd (false≢true e)
-number_spelled strings Int text e = refl
-number_spelled strings Hex text e = refl
+number_spelled strings _ text e = refl
 
 string_no_longer : (strings : Strings) (text means : List ℕ) → IsStringSpelling strings text means → IsUtf8 text
     → (length (string_spelling strings means) ≤ length text) × IsUtf8 (string_spelling strings means)
@@ -86,10 +85,6 @@ spelled_no_longer strings kind symbol text means is (inr n) u =
     let same : spelled strings kind means ≡ text = ap (spelled strings kind) (sym n.0) ∙ number_spelled strings kind text
     (ap (λ k. is_some (number_of_text k text)) (sym is) ∙ n.1) in
     subst (λ l. (length l ≤ length text) × IsUtf8 l) (sym same) (omega arith, u)
-
-and_nothing : (b : Bool) → (b && false) ≡ false
-and_nothing true = refl
-and_nothing false = refl
 
 if_short : (n : ℕ) (o : Option ℤ) → is_some (cond (nat_le n MAX_NUMBER_BYTES) o None) ≡ true → n ≤ MAX_NUMBER_BYTES
 if_short n o some = go (nat_le n MAX_NUMBER_BYTES) refl some where
@@ -109,15 +104,11 @@ text_held : (tree : Tree) (symbol : Symbol) (held : UnitValue) (again : UserValu
     → symbol_user_fits (Some symbol) again ≡ true → (text : List ℕ) × (held ≡ TextValue text)
 text_held tree symbol held (TriUser t) large e fits = absurd (false≢true (sym large ∙ tri_kind symbol.kind t fits))
 text_held tree symbol held (TextUser text) large e fits = (text, value_of_text tree.language held text e)
-text_held tree symbol held (MemberUser m) large e fits = absurd (false≢true fits)
-text_held tree symbol held (LinesUser l) large e fits = absurd (false≢true fits)
+text_held tree symbol held _ large e fits = absurd (false≢true fits)
 
 module _ (format : FileFormat) (profile : Profile) (tree : Tree) (bytes : List ℕ) (values : List UnitValue) (valid : is_name_prefix format.prefix ≡ true)
     (settled : IsOrderedTree tree)
     (accepted : IsAccepted format tree bytes) (reads : ReadsTo format profile tree bytes values) where
-  abbrev held_users : List (Option UserValue)
-  held_users = file_assignment tree reads.meanings
-
   fitting : FitsUsers (length tree.units) (λ u x. IsTrue (user_fits tree u x)) (file_assignment tree reads.meanings)
   fitting = file_fits format tree bytes reads.meanings settled.consistent reads.utf8 reads.has_meaning
 
@@ -199,16 +190,15 @@ module _ (format : FileFormat) (profile : Profile) (tree : Tree) (bytes : List �
     by_kind : (kind : Kind) → symbol.kind ≡ kind → user_text_fits kind text ≡ true
         → (length format.prefix + length symbol.name + 1 + length (spelled format.strings symbol.kind text) ≤ MAX_LINE_BYTES)
         × IsUtf8 (spelled format.strings symbol.kind text)
-    by_kind Boolean is fits = absurd (false≢true fits)
-    by_kind Tristate is fits = absurd (false≢true fits)
     by_kind Int is fits = a_number Int is fits (int_short text fits) refl
     by_kind Hex is fits = a_number Hex is fits (hex_short text fits) refl
     by_kind Text is fits =
         let stays : moves_user_values tree (slice_get tree.units (unit_of tree s)) ≡ false =
         ap (moves_user_values tree) here ∙ ap (λ o. is_linux_6_12 tree.language && unwrap_or (option_map (λ (x : Symbol). is_number x.kind) o) false) at
-        ∙ ap (λ k. is_linux_6_12 tree.language && is_number k) is ∙ and_nothing (is_linux_6_12 tree.language) in
+        ∙ ap (λ k. is_linux_6_12 tree.language && is_number k) is ∙ and-false (is_linux_6_12 tree.language) in
         text_is_short s symbol text at out below
         ((needs_values profile tree (file_assignment tree reads.meanings) values settled fitting reads.gives.solves s (TextValue text) has holds refl).0 stays)
+    by_kind _ is fits = absurd (false≢true fits)
 
   outside_line : (s : ℕ) (symbol : Symbol) → slice_get tree.symbols s ≡ Some symbol → symbol.choice ≡ None → has_line profile tree values s ≡ true
       → is_kept profile tree values (unit_of tree s) ≡ true

@@ -19,7 +19,7 @@ use Rattle.kc_dotconfig_model.specs.ConfigFiles.{file_lines, has_utf8_lines}
 use Rattle.kc_minimal_model.specs.SymbolLine.{symbol_line, ended_line}
 use Rattle.kc_minimal_model.specs.MinimalFile.{has_line, minimal_symbols, minimal_file}
 use Rattle.kc_minimal_model.specs.FileLimits.{MinimalFileLines}
-use Rattle.kc_minimal_model.proofs.Bytes.{first_line}
+use Rattle.kc_dotconfig_model.proofs.Cuts.{first_of_lines}
 use Rattle.kc_minimal_model.proofs.KeptLines.{line_reads}
 use Rattle.kc_minimal_model.proofs.LeastFile.{passes_filter}
 
@@ -35,7 +35,7 @@ module _ (format : FileFormat) (valid : is_name_prefix format.prefix ≡ true) (
       let rest = flat_map (ended_line format tree values) xs in
       let parts = and_parts (has_line profile tree values s) (list_all (has_line profile tree values) xs) all in
       let line = line_reads format valid profile tree sound users values fitting solved s parts.0 in
-      ap file_lines (append_assoc (symbol_line format tree values s) (10 ∷ []) rest) ∙ first_line (symbol_line format tree values s) rest line.one
+      ap file_lines (append_assoc (symbol_line format tree values s) (10 ∷ []) rest) ∙ first_of_lines (symbol_line format tree values s) rest line.one
       ∙ ap (λ ls. symbol_line format tree values s ∷ ls) (lines_of_symbols xs parts.1)
 
   -- and are UTF-8

@@ -8,7 +8,7 @@ use Rattle.std.proofs.lemmas.Bool.{cases_Bool, false≢true, and_parts, or_cases
 use Rattle.kc_value.specs.declared.tri.Tri.{Tri}
 use Rattle.kc_value.specs.declared.tri.Tri.TheVariants.{N, Y}
 use Rattle.kc_value.specs.declared.value.Kind.{Kind}
-use Rattle.kc_value.specs.declared.value.Kind.TheVariants.{Bool as Boolean, Tristate, Text, Int, Hex}
+use Rattle.kc_value.specs.declared.value.Kind.TheVariants.{Bool as Boolean, Text, Int, Hex}
 use Rattle.kc_value.specs.Number.{number_of_text}
 use Rattle.kc_expr.specs.Expr.{SymbolValue}
 use Rattle.kc_tree_model.specs.Trees.{Tree, Symbol}
@@ -26,10 +26,10 @@ use Rattle.kc_value.specs.Kinds.{is_tri_kind}
 use Rattle.kc_rules_model.specs.SymbolValues.{value_in_unit, tri_symbol_value, tri_of, text_of, member_of, tri_if_selected}
 use Rattle.kc_rules_model.specs.Rule.{as_user, member_user}
 use Rattle.kc_rules_model.specs.Shapes.{value_fits, unit_value_fits, symbol_value_fits, text_fits, user_text_fits}
-use Rattle.kc_tree_model.proofs.Lookups.{inside, found_by_name, place_is, unit_is}
+use Rattle.kc_tree_model.proofs.Lookups.{inside, place_is, unit_is}
 use Rattle.kc_dotconfig_model.specs.Formats.{FileFormat}
 use Rattle.kc_dotconfig_model.specs.PrefixGrammar.{is_name_prefix}
-use Rattle.kc_dotconfig_model.specs.ConfigLines.{LineMeaning, assigns, assigns_escaped, unchosen, notice, silent, value, unchosen_meaning, unset_meaning, ValueMeans, no_int, no_hex}
+use Rattle.kc_dotconfig_model.specs.ConfigLines.{LineMeaning, assigns, unchosen, silent, unchosen_meaning, unset_meaning, ValueMeans, no_int, no_hex}
 use Rattle.kc_tree_model.specs.LogicalLines.{without_white_end}
 use Rattle.kc_minimal_model.specs.SymbolLine.{symbol_line, line_of_value, line_with, value_line, unset_line}
 use Rattle.kc_minimal_model.proofs.Bytes.{name_lacks, all_of_both, ends_in_ink}
@@ -44,10 +44,9 @@ IsUnchosen values u x = (s : ℕ) × (x ≡ LinesUser (record { member = s; is_y
 -- a line of this meaning assigns a unit its own value, or `n` to a member that isn't selected, or assigns nothing without a notice
 abbrev pub IsOwn : Language → List UnitValue → LineMeaning → Type 0
 IsOwn language values (assigns u x) = (user_meant language values u ≡ Some x) ⊎ IsUnchosen values u x
-IsOwn language values (assigns_escaped u text) = ⊥
 IsOwn language values (unchosen u s) = Unit {0}
-IsOwn language values (notice kind) = ⊥
 IsOwn language values silent = Unit {0}
+IsOwn language values _ = ⊥
 
 -- the line is read, and assigns a unit its own value or assigns nothing
 pub record IsOwnLine (format : FileFormat) (tree : Tree) (values : List UnitValue) (line : List ℕ) : Type 0 where
@@ -115,11 +114,10 @@ module _ (format : FileFormat) (valid : is_name_prefix format.prefix ≡ true) (
       → user_meant tree.language values (unit_of tree s) ≡ Some (TextUser text)
       → (kind : Kind) → symbol.kind ≡ kind → text_fits kind text ≡ true
       → IsOwnLine format tree values (line_with format symbol.name (of_text symbol.kind text))
-  text_of_kind s symbol at text held Boolean is good = absurd (false≢true good)
-  text_of_kind s symbol at text held Tristate is good = absurd (false≢true good)
   text_of_kind s symbol at text held Text is good = text_is_own_line s symbol at text held (ap (λ k. user_text_fits k text) is ∙ good)
   text_of_kind s symbol at text held Int is good = number_is_own_line s symbol at text held Int is good (λ e. e) refl (no_int is)
   text_of_kind s symbol at text held Hex is good = number_is_own_line s symbol at text held Hex is good (λ e. e) refl (no_hex is)
+  text_of_kind s symbol at text held _ is good = absurd (false≢true good)
 
   by_held : (s : ℕ) (symbol : Symbol) → slice_get tree.symbols s ≡ Some symbol → symbol.choice ≡ None → (held : UnitValue)
       → slice_get values (unit_of tree s) ≡ Some held → symbol_value_fits (Some symbol) held ≡ true
@@ -184,10 +182,6 @@ module _ (format : FileFormat) (valid : is_name_prefix format.prefix ≡ true) (
   member_by_held : (s c : ℕ) (symbol : Symbol) → slice_get tree.symbols s ≡ Some symbol → symbol.choice ≡ Some c → (o : Option UnitValue)
       → slice_get values (unit_of tree s) ≡ o
       → IsOwnLine format tree values (line_with format symbol.name (tri_symbol_value symbol.kind (tri_if_selected s (member_of o))))
-  member_by_held s c symbol at within None has = n_line s c symbol at within (λ e. cc (has, e)) N refl
-  member_by_held s c symbol at within (Some (TriValue t)) has = n_line s c symbol at within (λ e. cc (has, e)) N refl
-  member_by_held s c symbol at within (Some (TextValue t)) has = n_line s c symbol at within (λ e. cc (has, e)) N refl
-  member_by_held s c symbol at within (Some (MemberValue None)) has = n_line s c symbol at within (λ e. cc (has, e)) N refl
   member_by_held s c symbol at within (Some (MemberValue (Some m))) has = elim (cases_Bool (m == s)) [
     | inl same ↦
         let kind = sound.bool_members s c symbol at within in
@@ -203,6 +197,7 @@ module _ (format : FileFormat) (valid : is_name_prefix format.prefix ≡ true) (
         }
     | inr other ↦ n_line s c symbol at within (λ e. eqb-false m s other (let one : m ≡ s = cc (has, e) in one)) (cond (m == s) Y N) (ap (λ b. cond b Y N) other)
   ]
+  member_by_held s c symbol at within _ has = n_line s c symbol at within (λ e. cc (has, e)) N refl
 
   within_choice : (s c : ℕ) (symbol : Symbol) → slice_get tree.symbols s ≡ Some symbol → symbol.choice ≡ Some c
       → IsOwnLine format tree values (line_with format symbol.name (value_in_unit tree values s symbol (Some c)))

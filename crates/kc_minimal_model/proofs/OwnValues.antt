@@ -1,10 +1,10 @@
 -- A value that isn't lifted, as its own user value, gives itself again: the values' half of the way back of full files.
-use Rattle.std.proofs.Common.{◌≡◌, ◌⊎◌, inl, inr, ℕ, ◌<◌, Bool, true, false, not, ◌&&◌, ◌||◌, cond, IsTrue, List, [], ◌∷◌, Option, Some, None, length, slice_get, refl, sym, ◌∙◌, ap, subst, unwrap_or, pos}
+use Rattle.std.proofs.Common.{◌≡◌, inl, inr, ℕ, ◌<◌, Bool, true, false, not, ◌&&◌, ◌||◌, cond, IsTrue, List, [], ◌∷◌, Option, Some, None, length, slice_get, refl, sym, ◌∙◌, ap, subst, unwrap_or, pos}
 use Rattle.std.specs.Prelude.{is_some, is_none}
 use Rattle.std.specs.Option.{option_and_then, option_or}
 use Rattle.std.proofs.lemmas.Bool.{cases_Bool, false≢true}
 use Rattle.kc_value.specs.declared.tri.Tri.{Tri}
-use Rattle.kc_value.specs.declared.tri.Tri.TheVariants.{N, M, Y}
+use Rattle.kc_value.specs.declared.tri.Tri.TheVariants.{N}
 use Rattle.kc_value.specs.declared.value.Kind.{Kind}
 use Rattle.kc_value.specs.declared.value.Kind.TheVariants.{Bool as Boolean, Tristate, Text, Int, Hex}
 use Rattle.kc_value.specs.Tri.{tri_and, tri_or}
@@ -29,72 +29,23 @@ use Rattle.kc_rules_model.specs.Rule.{rule, rule_of_unit, rule_of_symbol, rule_o
 use Rattle.kc_rules_model.specs.Reports.{IsLifted}
 use Rattle.kc_rules_model.specs.checker.RestoreLaw.{rules_restore, promoted_if, clamped_again, no_number, none_listed, one_listed, default_is_seen, older, newer}
 use Rattle.kc_rules_model.specs.checker.PrintableBounds.{zero_printable}
-use Rattle.kc_rules_model.specs.Shapes.{user_fits, unit_user_fits, symbol_user_fits, user_text_fits}
+use Rattle.kc_rules_model.specs.Shapes.{user_fits}
 use Rattle.kc_minimal_model.proofs.Canonical.{decides}
+use Rattle.kc_rules_model.specs.Equality.{same_tri}
+use Rattle.kc_dotconfig_model.proofs.Tables.{at3, same_from}
 
 -- a bool: l and p as in `tri_rule`, t what is promoted to the visibility
 bool_table : (l : Bool) (t un s : Tri)
     → promoted_if l (y_for_m (tri_or (cond (not (is_n (y_for_m t))) (tri_and (promoted_if l (y_for_m (tri_or un s))) (y_for_m t)) un) s))
     ≡ promoted_if l (y_for_m (tri_or un s))
-bool_table true N N N = refl
-bool_table true N N M = refl
-bool_table true N N Y = refl
-bool_table true N M N = refl
-bool_table true N M M = refl
-bool_table true N M Y = refl
-bool_table true N Y N = refl
-bool_table true N Y M = refl
-bool_table true N Y Y = refl
-bool_table true M N N = refl
-bool_table true M N M = refl
-bool_table true M N Y = refl
-bool_table true M M N = refl
-bool_table true M M M = refl
-bool_table true M M Y = refl
-bool_table true M Y N = refl
-bool_table true M Y M = refl
-bool_table true M Y Y = refl
-bool_table true Y N N = refl
-bool_table true Y N M = refl
-bool_table true Y N Y = refl
-bool_table true Y M N = refl
-bool_table true Y M M = refl
-bool_table true Y M Y = refl
-bool_table true Y Y N = refl
-bool_table true Y Y M = refl
-bool_table true Y Y Y = refl
-bool_table false N N N = refl
-bool_table false N N M = refl
-bool_table false N N Y = refl
-bool_table false N M N = refl
-bool_table false N M M = refl
-bool_table false N M Y = refl
-bool_table false N Y N = refl
-bool_table false N Y M = refl
-bool_table false N Y Y = refl
-bool_table false M N N = refl
-bool_table false M N M = refl
-bool_table false M N Y = refl
-bool_table false M M N = refl
-bool_table false M M M = refl
-bool_table false M M Y = refl
-bool_table false M Y N = refl
-bool_table false M Y M = refl
-bool_table false M Y Y = refl
-bool_table false Y N N = refl
-bool_table false Y N M = refl
-bool_table false Y N Y = refl
-bool_table false Y M N = refl
-bool_table false Y M M = refl
-bool_table false Y M Y = refl
-bool_table false Y Y N = refl
-bool_table false Y Y M = refl
-bool_table false Y Y Y = refl
+bool_table true t un s = same_from _ _ (at3 (λ t un s. same_tri (promoted_if true (y_for_m (tri_or (cond (not (is_n (y_for_m t)))
+    (tri_and (promoted_if true (y_for_m (tri_or un s))) (y_for_m t)) un) s))) (promoted_if true (y_for_m (tri_or un s)))) refl t un s)
+bool_table false t un s = same_from _ _ (at3 (λ t un s. same_tri (promoted_if false (y_for_m (tri_or (cond (not (is_n (y_for_m t)))
+    (tri_and (promoted_if false (y_for_m (tri_or un s))) (y_for_m t)) un) s))) (promoted_if false (y_for_m (tri_or un s)))) refl t un s)
 
 unseen : (top un a : Tri) → is_n top ≡ true → cond (not (is_n top)) (tri_and a top) un ≡ un
 unseen N un a h = refl
-unseen M un a h = absurd (false≢true h)
-unseen Y un a h = absurd (false≢true h)
+unseen _ un a h = absurd (false≢true h)
 
 text_own : (seen : Bool) (t d : List ℕ) → d ≡ t → unwrap_or (cond seen (Some t) None) d ≡ t
 text_own true t d e = refl
@@ -122,11 +73,9 @@ Own language f = (y : UserValue) → as_user language (f None) ≡ Some y → f 
 
 no_number_empty : (kind : Kind) → is_number kind ≡ true → unwrap_or (number_of_text kind []) (pos 0) ≡ pos 0
 unfolding int_text hex_text
-no_number_empty Boolean large = absurd (false≢true large)
-no_number_empty Tristate large = absurd (false≢true large)
-no_number_empty Text large = absurd (false≢true large)
 no_number_empty Int large = refl
 no_number_empty Hex large = refl
+no_number_empty _ large = absurd (false≢true large)
 
 module _ (profile : Profile) (tree : Tree) (values : List UnitValue) where
   own_bool : (symbol : Symbol) → symbol.kind ≡ Boolean → Own tree.language (λ x. TriValue (tri_rule profile tree symbol x values))
@@ -243,27 +192,23 @@ module _ (profile : Profile) (tree : Tree) (values : List UnitValue) where
   -- a tristate that isn't visible
   hidden_tri : (symbol : Symbol) → is_n (visibility tree values symbol) ≡ true → (x : Option UserValue)
       → TriValue (tri_rule profile tree symbol x values) ≡ TriValue (tri_rule profile tree symbol None values)
-  hidden_tri symbol e None = refl
-  hidden_tri symbol e (Some (TextUser t)) = refl
-  hidden_tri symbol e (Some (MemberUser m)) = refl
-  hidden_tri symbol e (Some (LinesUser l)) = refl
   hidden_tri symbol e (Some (TriUser a)) =
       let b = is_bool symbol.kind || (is_tristate symbol.kind && is_n (modules_value tree values)) in
       let l = leaves_no_m profile tree values symbol in
       ap (λ c. TriValue (promoted_if l (promoted_if b (tri_or c (selected tree values symbol)))))
       (unseen (visibility tree values symbol) (unassigned_value profile tree values symbol) a e)
+  hidden_tri symbol e _ = refl
 
   own_symbol : (symbol : Symbol) (kind : Kind) → symbol.kind ≡ kind
       → (kind ≡ Tristate → is_visible tree values symbol ≡ true → Own tree.language (λ x. symbol_rule kind profile tree symbol x values))
       → Own tree.language (λ x. symbol_rule kind profile tree symbol x values)
   own_symbol symbol Boolean e lifted = own_bool symbol e
   own_symbol symbol Text e lifted = own_string symbol
-  own_symbol symbol Int e lifted = own_number symbol (ap is_number e)
-  own_symbol symbol Hex e lifted = own_number symbol (ap is_number e)
   own_symbol symbol Tristate e lifted = elim (cases_Bool (is_n (visibility tree values symbol))) [
     | inl hidden ↦ λ y h. hidden_tri symbol hidden (Some y)
     | inr seen ↦ lifted refl (ap not seen)
   ]
+  own_symbol symbol _ e lifted = own_number symbol (ap is_number e)
 
   -- of a visible tristate alone it may be otherwise
   abbrev NotLifted : Option TreeUnit → Type 0
@@ -360,28 +305,3 @@ hidden_values profile tree values u s symbol x unit there hidden =
     ap (λ o. rule_of_unit profile tree o x values) unit ∙ ap (λ o. rule_of_symbol profile tree o x values) there
     ∙ hidden_symbol profile tree values symbol symbol.kind x hidden
     ∙ sym (ap (λ o. rule_of_unit profile tree o None values) unit ∙ ap (λ o. rule_of_symbol profile tree o None values) there)
-
--- In a solution, an int or hex whose value is empty has no value without a user value either.
-pub empty_numbers : (profile : Profile) (tree : Tree) (users : List (Option UserValue)) (values : List UnitValue)
-    → FitsUsers (length tree.units) (λ u x. IsTrue (user_fits tree u x)) users → Solves (length tree.units) (rule profile tree) users values
-    → (u s : ℕ) (symbol : Symbol) → u < length tree.units → slice_get tree.units u ≡ Some (of_symbol s) → slice_get tree.symbols s ≡ Some symbol
-    → (symbol.kind ≡ Int) ⊎ (symbol.kind ≡ Hex)
-    → slice_get values u ≡ Some (TextValue []) → rule profile tree u None values ≡ TextValue []
-unfolding user_fits int_text hex_text
-empty_numbers profile tree users values fitting solved u s symbol inside unit there number has =
-    let x = user_of users u in
-    let is : TextValue [] ≡ rule profile tree u x values = let e = solved.holds u inside in cc (e, has) in
-    elim (decides (rule profile tree u x values) (rule profile tree u None values)) [
-      | inl same ↦ sym (is ∙ same)
-      | inr differs ↦
-          let again = (rules_restore profile tree).restored u x values inside solved.one_each (fitting.1 u inside) differs in
-          let mine : TextUser [] ≡ again.0 = let e = ap (as_user tree.language) is ∙ again.1 in cc in
-          let fits : unit_user_fits tree (Some (of_symbol s)) (TextUser []) ≡ true = ap (λ o. unit_user_fits tree o (TextUser [])) (sym unit)
-          ∙ ap (λ y. user_fits tree u y) mine ∙ again.2 in
-          let wrong : user_text_fits symbol.kind [] ≡ true = ap (λ o. symbol_user_fits o (TextUser [])) (sym there) ∙ fits in
-          elim number [
-            | inl k ↦ absurd (false≢true (sym (ap (λ c. user_text_fits c []) k) ∙ wrong))
-            | inr k ↦ absurd
-                (false≢true (sym (ap (λ c. user_text_fits c []) k) ∙ wrong))
-          ]
-    ]

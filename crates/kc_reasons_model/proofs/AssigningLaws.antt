@@ -3,7 +3,7 @@ use Rattle.std.proofs.Common.{◌≡◌, ℕ, zero, suc, ◌+◌, ◌<◌, Bool,
 use Rattle.std.specs.Prelude.{⊤, ◌==◌}
 use Rattle.std.specs.List.{AllByRecursion}
 use Rattle.std.proofs.lemmas.Bool.{eqb-true, eqb-false, false≢true, true≢false, and_parts, not-true}
-use Rattle.std.proofs.lemmas.List.{length-set, get_or-set_same, get_or-set_other}
+use Rattle.std.proofs.lemmas.List.{get_or-set_same, get_or-set_other}
 use Rattle.std.proofs.lemmas.List.Elements.{filter-append, recursion_from_All}
 use Rattle.kc_solver.specs.Solutions.{user_of}
 use Rattle.kc_tokens.specs.declared.language.Language.{Language}
@@ -17,11 +17,12 @@ use Rattle.kc_rules_model.specs.declared.values.MemberLine.{MemberLine}
 use Rattle.kc_rules_model.specs.MemberLines.{is_listed, laid_over}
 use Rattle.kc_rules_model.specs.Shapes.{user_fits, unit_user_fits, symbol_user_fits, choice_user_fits}
 use Rattle.std.specs.Option.{option_or}
-use Rattle.kc_dotconfig_model.specs.ConfigLines.{LineMeaning, assigns, assigns_escaped, unchosen, notice, silent}
+use Rattle.kc_dotconfig_model.specs.ConfigLines.{LineMeaning, assigns, assigns_escaped}
 use Rattle.kc_dotconfig_model.proofs.Overlays.{file_over as lie_over}
 use Rattle.kc_dotconfig_model.specs.ConfigFiles.{over, assigned, assigned_over, overlaid_by}
 use Rattle.kc_reasons_model.specs.AssigningLines.{if_any, said_of, said_to, user_by_line, AssigningLine, line_giving, assigning_line, AssigningPlace, place_giving, assigning_place, all_over, FilesAreOverAssignments}
 use Rattle.kc_reasons_model.specs.Laws.{IsLastAssigning, FitUnit, LinesAssign, IsLastAssigningPlace, FilesAssign}
+use Rattle.kc_dotconfig_model.proofs.Overlays.{assigned_length, file_length}
 
 -- ---- the units that have assignments of members
 
@@ -40,15 +41,12 @@ IsSorted b (Some x) = is_lines x ≡ b
 of_choice_lines : (language : Language) (o : Option Choice) (x : UserValue) → choice_user_fits language o x ≡ true → is_lines x ≡ is_linux_6_12 language
 of_choice_lines language o (LinesUser lines) fits = sym (and_parts (is_linux_6_12 language) _ fits).0
 of_choice_lines language o (MemberUser s) fits = sym (not-true (is_linux_6_12 language) (and_parts (not (is_linux_6_12 language)) _ fits).0)
-of_choice_lines language o (TriUser t) fits = absurd (false≢true fits)
-of_choice_lines language o (TextUser text) fits = absurd (false≢true fits)
+of_choice_lines language o _ fits = absurd (false≢true fits)
 
 of_symbol_lines : (o : Option Symbol) (x : UserValue) → symbol_user_fits o x ≡ true → is_lines x ≡ false
-of_symbol_lines o (TriUser t) fits = refl
-of_symbol_lines o (TextUser text) fits = refl
-of_symbol_lines o (MemberUser s) fits = refl
 of_symbol_lines None (LinesUser lines) fits = absurd (false≢true fits)
 of_symbol_lines (Some symbol) (LinesUser lines) fits = absurd (false≢true fits)
+of_symbol_lines o _ fits = refl
 
 of_unit_lines : (tree : Tree) (o : Option TreeUnit) (x : UserValue) → unit_user_fits tree o x ≡ true → is_lines x ≡ has_lines tree o
 of_unit_lines tree None x fits = absurd (false≢true fits)
@@ -116,35 +114,41 @@ module _ (s : ℕ) (later : List MemberLine) where
         ∙ ap (λ xs. option_or (if_any xs) (if_any (filter of_s earlier))) (sym (not_listed later e))
 
 over_said : (b : Bool) (s : ℕ) (x : UserValue) (o : Option UserValue) → is_lines x ≡ b → IsSorted b o → said_of s (over x o) ≡ option_or (said_of s x) (said_to s o)
-over_said b s (TriUser t) o e f = refl
-over_said b s (TextUser text) o e f = refl
-over_said b s (MemberUser m) o e f = refl
 over_said b s (LinesUser later) None e f = or_none (said_of s (LinesUser later))
 over_said b s (LinesUser later) (Some (LinesUser earlier)) e f = lines_said s later earlier
 over_said b s (LinesUser later) (Some (TriUser t)) e f = absurd (false≢true (f ∙ sym e))
 over_said b s (LinesUser later) (Some (TextUser text)) e f = absurd (false≢true (f ∙ sym e))
 over_said b s (LinesUser later) (Some (MemberUser m)) e f = absurd (false≢true (f ∙ sym e))
+over_said b s _ o e f = refl
 
 over_sorted : (b : Bool) (x : UserValue) (o : Option UserValue) → is_lines x ≡ b → IsSorted b o → is_lines (over x o) ≡ b
-over_sorted b (TriUser t) o e f = e
-over_sorted b (TextUser text) o e f = e
-over_sorted b (MemberUser m) o e f = e
 over_sorted b (LinesUser later) None e f = e
 over_sorted b (LinesUser later) (Some (LinesUser earlier)) e f = e
 over_sorted b (LinesUser later) (Some (TriUser t)) e f = f
 over_sorted b (LinesUser later) (Some (TextUser text)) e f = f
 over_sorted b (LinesUser later) (Some (MemberUser m)) e f = f
+over_sorted b _ o e f = e
 
-pub same_length : (meaning : LineMeaning) (users : List (Option UserValue)) → length (assigned meaning users) ≡ length users
-same_length (assigns w x) users = length-set users w (Some (over x (user_of users w)))
-same_length (assigns_escaped w text) users = length-set users w (Some (TextUser text))
-same_length (unchosen w m) users = refl
-same_length (notice kind) users = refl
-same_length silent users = refl
+-- what a line gives a unit, laid over what it has
+abbrev pub laid : Option UserValue → Option UserValue → Option UserValue
+laid None o = o
+laid (Some x) o = Some (over x o)
 
-file_length : (meanings : List LineMeaning) (users : List (Option UserValue)) → length (assigned_over meanings users) ≡ length users
-file_length [] users = refl
-file_length (meaning ∷ meanings) users = file_length meanings (assigned meaning users) ∙ same_length meaning users
+set_user : (u w : ℕ) (x : UserValue) (users : List (Option UserValue)) → u < length users
+    → user_of (slice_set users w (Some (over x (user_of users w)))) u ≡ laid (cond (eqb w u) (Some x) None) (user_of users u)
+set_user u w x users inside = go (eqb w u) refl where
+  go : (c : Bool) → eqb w u ≡ c → user_of (slice_set users w (Some (over x (user_of users w)))) u ≡ laid (cond c (Some x) None) (user_of users u)
+  go true g =
+      ap (λ k. user_of (slice_set users k (Some (over x (user_of users k)))) u) (eqb-true w u g)
+      ∙ get_or-set_same users u (Some (over x (user_of users u))) None inside
+  go false g = get_or-set_other users w u (Some (over x (user_of users w))) None (λ same. eqb-false w u g (sym same))
+
+-- the user value of a unit after a line
+pub user_after : (u : ℕ) (meaning : LineMeaning) (users : List (Option UserValue)) → u < length users
+    → user_of (assigned meaning users) u ≡ laid (user_by_line u meaning) (user_of users u)
+user_after u (assigns w x) users inside = set_user u w x users inside
+user_after u (assigns_escaped w text) users inside = set_user u w (TextUser text) users inside
+user_after u _ users inside = refl
 
 -- ---- lines
 
@@ -159,28 +163,13 @@ module _ (b : Bool) (u s : ℕ) where
   held users = said_to s (user_of users u)
 
   -- a line that assigns gives a unit what it asks, and else leaves it
-  after_assigned : (w : ℕ) (x : UserValue) (users : List (Option UserValue)) → u < length users → IsSorted b (user_by_line u (assigns w x)) → IsSorted b (user_of users u)
-      → (held (assigned (assigns w x) users) ≡ option_or (says (assigns w x)) (held users)) × IsSorted b (user_of (assigned (assigns w x) users) u)
-  after_assigned w x users inside e f = go (eqb w u) refl e where
-    go : (c : Bool) → eqb w u ≡ c → IsSorted b (cond c (Some x) None)
-        → (said_to s (user_of (slice_set users w (Some (over x (user_of users w)))) u) ≡ option_or (said_to s (cond c (Some x) None)) (held users))
-        × IsSorted b (user_of (slice_set users w (Some (over x (user_of users w)))) u)
-    go true g e =
-        let is : user_of (slice_set users w (Some (over x (user_of users w)))) u ≡ Some (over x (user_of users u)) =
-        ap (λ k. user_of (slice_set users k (Some (over x (user_of users k)))) u) (eqb-true w u g) ∙ get_or-set_same users u (Some (over x (user_of users u))) None inside in
-        (ap (said_to s) is ∙ over_said b s x (user_of users u) e f, subst (IsSorted b) (sym is) (over_sorted b x (user_of users u) e f))
-    go false g e =
-        let is : user_of (slice_set users w (Some (over x (user_of users w)))) u ≡ user_of users u =
-        get_or-set_other users w u (Some (over x (user_of users w))) None (λ same. eqb-false w u g (sym same)) in
-        (ap (said_to s) is, subst (IsSorted b) (sym is) f)
-
   after_line : (meaning : LineMeaning) (users : List (Option UserValue)) → u < length users → IsSorted b (user_by_line u meaning) → IsSorted b (user_of users u)
       → (held (assigned meaning users) ≡ option_or (says meaning) (held users)) × IsSorted b (user_of (assigned meaning users) u)
-  after_line (assigns w x) users inside e f = after_assigned w x users inside e f
-  after_line (assigns_escaped w text) users inside e f = after_assigned w (TextUser text) users inside e f
-  after_line (unchosen w m) users inside e f = (refl, f)
-  after_line (notice kind) users inside e f = (refl, f)
-  after_line silent users inside e f = (refl, f)
+  after_line meaning users inside e f =
+      subst (λ o. (said_to s o ≡ option_or (says meaning) (held users)) × IsSorted b o) (sym (user_after u meaning users inside)) (go (user_by_line u meaning) e) where
+        go : (o : Option UserValue) → IsSorted b o → (said_to s (laid o (user_of users u)) ≡ option_or (said_to s o) (held users)) × IsSorted b (laid o (user_of users u))
+        go None e = (refl, f)
+        go (Some x) e = (over_said b s x (user_of users u) e f, over_sorted b x (user_of users u) e f)
 
   -- no line of these asks
   abbrev NoneAsks : List LineMeaning → Type 0
@@ -235,7 +224,7 @@ module _ (b : Bool) (u s : ℕ) where
   find first [] users inside all f = record { none = λ e. (refl, λ j later f. absurd (cc)); some = λ line e. absurd (cc); keeps = f }
   find first (meaning ∷ meanings) users inside all f =
       let one = after_line meaning users inside all.0 f in
-      one_more first meaning meanings users one.0 (assigning_line u s (first + 1) meanings) (find (first + 1) meanings (assigned meaning users) (rw (same_length meaning users) inside) all.1 one.1)
+      one_more first meaning meanings users one.0 (assigning_line u s (first + 1) meanings) (find (first + 1) meanings (assigned meaning users) (rw (assigned_length meaning users) inside) all.1 one.1)
 
   -- ---- files
 

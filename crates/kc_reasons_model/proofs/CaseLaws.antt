@@ -4,9 +4,9 @@ use Rattle.std.proofs.lemmas.Bool.{false≢true}
 use Rattle.std.specs.Prelude.{is_some, is_none, int_lt, option_map}
 use Rattle.std.specs.Option.{option_and_then, option_or}
 use Rattle.kc_value.specs.declared.tri.Tri.{Tri}
-use Rattle.kc_value.specs.declared.tri.Tri.TheVariants.{N, M, Y}
+use Rattle.kc_value.specs.declared.tri.Tri.TheVariants.{N}
 use Rattle.kc_value.specs.declared.value.Kind.{Kind}
-use Rattle.kc_value.specs.declared.value.Kind.TheVariants.{Bool as Boolean, Tristate, Text as String, Int, Hex}
+use Rattle.kc_value.specs.declared.value.Kind.TheVariants.{Bool as Boolean, Text as String, Int, Hex}
 use Rattle.kc_value.specs.Number.{number_of_text, number_spelling, int_text, hex_text}
 use Rattle.kc_value.specs.Tri.{tri_and, tri_or, y_for_m}
 use Rattle.kc_tree_model.specs.Trees.{Tree, Symbol, Choice, Default, Range}
@@ -24,7 +24,7 @@ use Rattle.kc_rules_model.specs.Equality.{same_tri}
 use Rattle.kc_rules_model.specs.Kinds.{is_n, is_m}
 use Rattle.kc_rules_model.specs.Rule.{rule, rule_of_symbol, rule_of_choice, rule_of_unit, symbol_rule, tri_rule, number_rule, number_default, choice_rule, base, unassigned_value, visibility, is_visible, selected, active_default, default_tri, default_text, assigned_tri, assigned_text, assigned_member, assigned_lines, leaves_no_m, active_range, clamped, is_within, is_upside_down, user_number, text_without_number, bound, bound_text, is_shown, is_visible_member, default_member, shown_choice_rule, expression_text}
 use Rattle.kc_reasons_model.specs.declared.cases.TriCase.{TriCase}
-use Rattle.kc_reasons_model.specs.declared.cases.TriCase.TheVariants.{User as UserTri, Visibility as VisibilityTri, Default as DefaultTri, Environment as EnvironmentTri, Imply as ImplyTri, Dependency as DependencyTri, Select as SelectTri, Nothing as NoTri}
+use Rattle.kc_reasons_model.specs.declared.cases.TriCase.TheVariants.{User as UserTri, Visibility as VisibilityTri, Select as SelectTri}
 use Rattle.kc_reasons_model.specs.declared.cases.Lift.TheVariants.{AsGiven, WithoutM, ImpliedY}
 use Rattle.kc_reasons_model.specs.declared.cases.TextCase.{TextCase}
 use Rattle.kc_reasons_model.specs.declared.cases.TextCase.TheVariants.{User as UserText, UserLowBound, UserHighBound, Default as DefaultText, Environment as EnvironmentText, NoNumber, LowBound, HighBound, Zero, Nothing as NoText}
@@ -33,7 +33,7 @@ use Rattle.kc_reasons_model.specs.declared.cases.ChoiceCase.TheVariants.{User as
 use Rattle.kc_reasons_model.specs.Conjuncts.{below}
 use Rattle.kc_reasons_model.specs.Cases.{default_value, unasked_tri, unasked_case, base_case, tri_case, given_by, given_tri, is_without_m, lift_of, lifted, is_environment, default_case, default_number, bound_case, number_default_case, user_text_number, number_case, given_text, counted_lines, counted_member, member_by_default, first_member, first_unlisted, is_listed_default, default_choice_case, choice_case, given_member, symbol_case, case_of_symbol, case_of_choice, case_of_unit, case_of, given_to_symbol, given_to_choice, given_to_unit, given}
 use Rattle.kc_reasons_model.specs.Laws.{CasesGiveValues}
-use Rattle.kc_reasons_model.proofs.Tables.{at2, at3, same_from, through}
+use Rattle.kc_dotconfig_model.proofs.Tables.{at2, at3, same_from, through}
 
 -- the value without a user value that counts
 abbrev unasked_value : Profile → (d i r : Tri) → Tri
@@ -54,12 +54,8 @@ speaks _ = true
 unmoved : (c : TriCase) (a v s d i r : Tri) → speaks c ≡ true → given_by c a v d i r s ≡ given_by c N N d i r N
 unmoved UserTri a v s d i r e = absurd (false≢true e)
 unmoved VisibilityTri a v s d i r e = absurd (false≢true e)
-unmoved DefaultTri a v s d i r e = refl
-unmoved EnvironmentTri a v s d i r e = refl
-unmoved ImplyTri a v s d i r e = refl
-unmoved DependencyTri a v s d i r e = refl
 unmoved SelectTri a v s d i r e = absurd (false≢true e)
-unmoved NoTri a v s d i r e = refl
+unmoved _ a v s d i r e = refl
 
 unasked_ok : (profile : Profile) (has env : Bool) (d i r : Tri) → agrees profile has env d i r ≡ true → speaks (unasked_tri profile has env d i r) ≡ true
     → (a v s : Tri) → given_by (unasked_tri profile has env d i r) a v d i r s ≡ unasked_value profile d i r
@@ -73,8 +69,7 @@ unasked_table Classic true true d i r none = unasked_ok Classic true true d i r 
 unasked_table Classic true false d i r none = unasked_ok Classic true false d i r (at3 (agrees Classic true false) refl d i r) (at3 (λ d i r. speaks (unasked_tri Classic true false d i r)) refl d i r)
 unasked_table Present false env N i r none = unasked_ok Present false env N i r (at2 (agrees Present false env N) refl i r) (at2 (λ i r. speaks (unasked_tri Present false env N i r)) refl i r)
 unasked_table Classic false env N i r none = unasked_ok Classic false env N i r (at2 (agrees Classic false env N) refl i r) (at2 (λ i r. speaks (unasked_tri Classic false env N i r)) refl i r)
-unasked_table profile false env M i r none = absurd (cc (none refl))
-unasked_table profile false env Y i r none = absurd (cc (none refl))
+unasked_table profile false env _ i r none = absurd (cc (none refl))
 
 or_below : (b s : Tri) → cond (below b s) s b ≡ tri_or b s
 or_below b s = same_from _ _ (at2 (λ b s. same_tri (cond (below b s) s b) (tri_or b s)) refl b s)
@@ -84,17 +79,13 @@ and_below v a = same_from _ _ (at2 (λ v a. same_tri (cond (below v a) v a) (tri
 
 lift_table : (p l : Bool) (t : Tri) → lifted (cond (is_m t && p) WithoutM (cond (is_m t && l) ImpliedY AsGiven)) t ≡ cond l (y_for_m (cond p (y_for_m t) t)) (cond p (y_for_m t) t)
 lift_table true true N = refl
-lift_table true true M = refl
-lift_table true true Y = refl
+lift_table true true _ = refl
 lift_table true false N = refl
-lift_table true false M = refl
-lift_table true false Y = refl
+lift_table true false _ = refl
 lift_table false true N = refl
-lift_table false true M = refl
-lift_table false true Y = refl
+lift_table false true _ = refl
 lift_table false false N = refl
-lift_table false false M = refl
-lift_table false false Y = refl
+lift_table false false _ = refl
 
 bounds_ok : (tree : Tree) (values : List UnitValue) (kind : Kind) (range : Option Range) (n : ℤ) (text : List ℕ) (low high other : TextCase) (g : TextCase → List ℕ)
     → g low ≡ unwrap_or (option_map (λ (r : Range). bound_text tree values kind r.low) range) []
@@ -117,10 +108,7 @@ within_stays tree values kind (Some r) n text e =
 no_number : (kind : Kind) → number_of_text kind [] ≡ None
 unfolding int_text hex_text
 no_number Boolean = refl
-no_number Tristate = refl
-no_number String = refl
-no_number Int = refl
-no_number Hex = refl
+no_number _ = refl
 
 module _ (tree : Tree) (values : List UnitValue) where
   pub no_default : (symbol : Symbol) (o : Option Default) → active_default tree values symbol ≡ o → is_some o ≡ false → default_value tree values symbol ≡ N
@@ -324,11 +312,10 @@ module _ (tree : Tree) (values : List UnitValue) where
           ∙ ap (option_or (option_and_then (λ s. cond (seen s) (Some s) None) (assigned_member user))) (without_lines D))
 
   symbol_gives : (profile : Profile) (symbol : Symbol) (kind : Kind) (user : Option UserValue) → given_to_symbol (symbol_case kind profile tree symbol user values) tree (Some symbol) user values ≡ symbol_rule kind profile tree symbol user values
-  symbol_gives profile symbol Boolean user = ap (λ t. TriValue t) (tri_gives profile symbol user)
-  symbol_gives profile symbol Tristate user = ap (λ t. TriValue t) (tri_gives profile symbol user)
   symbol_gives profile symbol String user = ap (λ t. TextValue t) (string_gives symbol user (is_visible tree values symbol) refl (assigned_text user) refl)
   symbol_gives profile symbol Int user = ap (λ t. TextValue t) (number_gives symbol user)
   symbol_gives profile symbol Hex user = ap (λ t. TextValue t) (number_gives symbol user)
+  symbol_gives profile symbol _ user = ap (λ t. TriValue t) (tri_gives profile symbol user)
 
   symbol_at_gives : (profile : Profile) (o : Option Symbol) (user : Option UserValue) → given_to_symbol (case_of_symbol profile tree o user values) tree o user values ≡ rule_of_symbol profile tree o user values
   symbol_at_gives profile None user = refl

@@ -3,11 +3,12 @@ use Rattle.std.proofs.Common.{◌≡◌, ℕ, Bool, true, false, not, ◌&&◌, 
 use Rattle.std.proofs.lemmas.Bool.{false≢true, true≢false, and_from}
 use Rattle.std.specs.Prelude.{is_some, is_none, int_lt, option_map}
 use Rattle.std.specs.Option.{option_and_then}
+use Rattle.std.proofs.lemmas.Bool.{or_right}
 use Rattle.kc_tokens.specs.Languages.{is_linux_6_12}
 use Rattle.kc_value.specs.declared.tri.Tri.{Tri}
-use Rattle.kc_value.specs.declared.tri.Tri.TheVariants.{N, M, Y}
+use Rattle.kc_value.specs.declared.tri.Tri.TheVariants.{N}
 use Rattle.kc_value.specs.declared.value.Kind.{Kind}
-use Rattle.kc_value.specs.declared.value.Kind.TheVariants.{Bool as Boolean, Tristate, Text as String, Int, Hex}
+use Rattle.kc_value.specs.declared.value.Kind.TheVariants.{Text as String, Int, Hex}
 use Rattle.kc_value.specs.Number.{number_of_text}
 use Rattle.kc_value.specs.Kinds.{is_text_kind}
 use Rattle.kc_tree_model.specs.Trees.{Tree, Symbol, Choice, Default, Range}
@@ -20,7 +21,7 @@ use Rattle.kc_rules_model.specs.declared.values.UserValue.{UserValue}
 use Rattle.kc_rules_model.specs.Kinds.{is_n, is_m}
 use Rattle.kc_rules_model.specs.Rule.{visibility, is_visible, implied, direct_dependency, selected, active_default, default_text, assigned_tri, assigned_text, visible_text, base, leaves_no_m, active_range, is_within, is_upside_down, user_number, clamped, bound, default_member}
 use Rattle.kc_reasons_model.specs.declared.cases.TriCase.{TriCase}
-use Rattle.kc_reasons_model.specs.declared.cases.TriCase.TheVariants.{User as UserTri, Visibility as VisibilityTri, Default as DefaultTri, Environment as EnvironmentTri, Imply as ImplyTri, Dependency as DependencyTri, Select as SelectTri, Nothing as NoTri}
+use Rattle.kc_reasons_model.specs.declared.cases.TriCase.TheVariants.{User as UserTri, Visibility as VisibilityTri, Select as SelectTri}
 use Rattle.kc_reasons_model.specs.declared.cases.Lift.{Lift}
 use Rattle.kc_reasons_model.specs.declared.cases.Lift.TheVariants.{AsGiven, WithoutM, ImpliedY}
 use Rattle.kc_reasons_model.specs.declared.cases.TextCase.{TextCase}
@@ -31,12 +32,8 @@ use Rattle.kc_reasons_model.specs.Conjuncts.{below}
 use Rattle.kc_reasons_model.specs.Cases.{default_value, unasked_tri, unasked_case, asked_tri, base_case, tri_case, given_tri, is_without_m, is_environment, default_case, string_case, default_number, bound_case, number_default_case, user_text_number, counted_text, text_that_counts, number_case, counts, counted_lines, counted_member, is_listed_default, member_by_default, first_member, first_unlisted, choice_case, symbol_case, case_of_symbol, case_of_choice, case_of_unit, case_of}
 use Rattle.kc_reasons_model.specs.Claims.{tri_claim, claims_of_tri, claims_of_lift, claims_of_text, claims_of_choice, claims_of_symbol, claims_of_choice_at, claims_of_unit, claims_hold}
 use Rattle.kc_reasons_model.specs.Laws.{ClaimsHold}
-use Rattle.kc_reasons_model.proofs.Tables.{at, at2, at3, after}
+use Rattle.kc_dotconfig_model.proofs.Tables.{at, at2, at3, after}
 use Rattle.kc_reasons_model.proofs.CaseLaws.{speaks, no_default, base_gives}
-
-either_true : (a b : Bool) → b ≡ true → (a || b) ≡ true
-either_true true b e = refl
-either_true false b e = e
 
 -- one of two
 either_says : {X : Type 0} (b : Bool) (g : X → Bool) (x y : X) → (b ≡ true → g x ≡ true) → (b ≡ false → g y ≡ true) → g (cond b x y) ≡ true
@@ -47,12 +44,8 @@ either_says false g x y e f = f refl
 unmoved : (c : TriCase) (has env : Bool) (a v d i r s : Tri) → speaks c ≡ true → tri_claim c false has env a v d i r s ≡ tri_claim c false has env N N d i r N
 unmoved UserTri has env a v d i r s e = absurd (false≢true e)
 unmoved VisibilityTri has env a v d i r s e = absurd (false≢true e)
-unmoved DefaultTri has env a v d i r s e = refl
-unmoved EnvironmentTri has env a v d i r s e = refl
-unmoved ImplyTri has env a v d i r s e = refl
-unmoved DependencyTri has env a v d i r s e = refl
 unmoved SelectTri has env a v d i r s e = absurd (false≢true e)
-unmoved NoTri has env a v d i r s e = refl
+unmoved _ has env a v d i r s e = refl
 
 abbrev claim_holds : Profile → (has env : Bool) → (d i r : Tri) → Bool
 claim_holds profile has env d i r = tri_claim (unasked_tri profile has env d i r) false has env N N d i r N
@@ -68,8 +61,7 @@ unasked_claim Classic true true d i r none = unasked_ok Classic true true d i r 
 unasked_claim Classic true false d i r none = unasked_ok Classic true false d i r (at3 (claim_holds Classic true false) refl d i r) (at3 (λ d i r. speaks (unasked_tri Classic true false d i r)) refl d i r)
 unasked_claim Present false env N i r none = unasked_ok Present false env N i r (at2 (claim_holds Present false env N) refl i r) (at2 (λ i r. speaks (unasked_tri Present false env N i r)) refl i r)
 unasked_claim Classic false env N i r none = unasked_ok Classic false env N i r (at2 (claim_holds Classic false env N) refl i r) (at2 (λ i r. speaks (unasked_tri Classic false env N i r)) refl i r)
-unasked_claim profile false env M i r none = absurd (cc (none refl))
-unasked_claim profile false env Y i r none = absurd (cc (none refl))
+unasked_claim profile false env _ i r none = absurd (cc (none refl))
 
 some_above : (b s : Tri) → below b s ≡ true → not (is_n s) ≡ true
 some_above b s e = after _ _ (at2 (λ b s. not (below b s) || not (is_n s)) refl b s) (ap not e)
@@ -163,7 +155,7 @@ module _ (tree : Tree) (values : List UnitValue) where
 
     user_true : is_some (text_that_counts tree symbol user values) ≡ true → is_some (counted_text tree symbol user values) ≡ true → (o : Option Range) → active_range tree values symbol ≡ o
         → claims_of_text (bound_case tree values symbol.kind o (user_text_number symbol user) UserLowBound UserHighBound UserText) tree symbol user values ≡ true
-    user_true n some None e = and_from _ _ n (either_true (is_text_kind symbol.kind) _ (ap counts_within e))
+    user_true n some None e = and_from _ _ n (or_right (is_text_kind symbol.kind) _ (ap counts_within e))
     user_true n some (Some r) e =
         either_says (int_lt (user_text_number symbol user) (bound tree values symbol.kind r.low)) (λ c. claims_of_text c tree symbol user values) UserLowBound _
         (λ f. and_from _ _ n (and_from _ _ (outside some (ap counts_within e ∙ ap (λ b. not b && not (int_lt (bound tree values symbol.kind r.high) (user_text_number symbol user))) f))
@@ -171,7 +163,7 @@ module _ (tree : Tree) (values : List UnitValue) where
         (λ f. either_says (int_lt (bound tree values symbol.kind r.high) (user_text_number symbol user)) (λ c. claims_of_text c tree symbol user values) UserHighBound UserText
         (λ g. and_from _ _ n (and_from _ _ (outside some (ap counts_within e ∙ above (int_lt (user_text_number symbol user) (bound tree values symbol.kind r.low)) (int_lt (bound tree values symbol.kind r.high) (user_text_number symbol user)) g))
         (ap (λ p. unwrap_or (option_map (λ (q : Range). int_lt (bound tree values symbol.kind q.high) (user_text_number symbol user)) p) false) e ∙ g)))
-        (λ g. and_from _ _ n (either_true (is_text_kind symbol.kind) _ (ap counts_within e ∙ and_from _ _ (ap not f) (ap not g))))) where
+        (λ g. and_from _ _ n (or_right (is_text_kind symbol.kind) _ (ap counts_within e ∙ and_from _ _ (ap not f) (ap not g))))) where
           above : (a b : Bool) → b ≡ true → (not a && not b) ≡ false
           above true b e = refl
           above false true e = refl
@@ -200,11 +192,10 @@ module _ (tree : Tree) (values : List UnitValue) where
       (number_default_case (is_linux_6_12 tree.language) (is_some (number_of_text symbol.kind (default_text tree values symbol))) (active_default tree values symbol)) (number_default_true symbol user n (active_default tree values symbol) refl))
 
   symbol_true : (profile : Profile) (symbol : Symbol) (kind : Kind) → symbol.kind ≡ kind → (user : Option UserValue) → claims_of_symbol (symbol_case kind profile tree symbol user values) profile tree (Some symbol) user values ≡ true
-  symbol_true profile symbol Boolean k user = and_from _ _ (tri_true profile symbol user) (lift_true (is_without_m tree values symbol.kind) (leaves_no_m profile tree values symbol) (given_tri (tri_case profile tree symbol user values) tree symbol user values) (λ l. claims_of_lift l profile tree symbol (given_tri (tri_case profile tree symbol user values) tree symbol user values) values) refl refl refl)
-  symbol_true profile symbol Tristate k user = and_from _ _ (tri_true profile symbol user) (lift_true (is_without_m tree values symbol.kind) (leaves_no_m profile tree values symbol) (given_tri (tri_case profile tree symbol user values) tree symbol user values) (λ l. claims_of_lift l profile tree symbol (given_tri (tri_case profile tree symbol user values) tree symbol user values) values) refl refl refl)
   symbol_true profile symbol String k user = string_true symbol user k
   symbol_true profile symbol Int k user = number_true symbol user Int k refl
   symbol_true profile symbol Hex k user = number_true symbol user Hex k refl
+  symbol_true profile symbol _ k user = and_from _ _ (tri_true profile symbol user) (lift_true (is_without_m tree values symbol.kind) (leaves_no_m profile tree values symbol) (given_tri (tri_case profile tree symbol user values) tree symbol user values) (λ l. claims_of_lift l profile tree symbol (given_tri (tri_case profile tree symbol user values) tree symbol user values) values) refl refl refl)
 
   choice_true : (choice : Choice) (user : Option UserValue) → claims_of_choice (choice_case tree choice user values) tree choice user values ≡ true
   choice_true choice user =

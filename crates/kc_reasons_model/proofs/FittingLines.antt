@@ -1,5 +1,5 @@
 -- What lines of a file assign fits.
-use Rattle.std.proofs.Common.{◌≡◌, ℕ, Bool, true, false, cond, eqb, List, [], ◌∷◌, Option, Some, None, IsTrue, IfSome, refl, sym, ◌∙◌, ap, subst}
+use Rattle.std.proofs.Common.{◌≡◌, ℕ, Bool, true, false, cond, eqb, List, [], ◌∷◌, Some, None, IsTrue, IfSome, refl, sym, ◌∙◌, ap}
 use Rattle.std.specs.List.{AllByRecursion}
 use Rattle.std.proofs.lemmas.Bool.{eqb-true}
 use Rattle.std.proofs.lemmas.List.Elements.{All-nil, All-cons}
@@ -7,7 +7,7 @@ use Rattle.kc_tree_model.specs.Trees.{Tree}
 use Rattle.kc_rules_model.specs.declared.values.UserValue.{UserValue}
 use Rattle.kc_rules_model.specs.declared.values.UserValue.TheVariants.{Text as TextUser}
 use Rattle.kc_rules_model.specs.Shapes.{user_fits}
-use Rattle.kc_dotconfig_model.specs.ConfigLines.{LineMeaning, assigns, assigns_escaped, unchosen, notice, silent}
+use Rattle.kc_dotconfig_model.specs.ConfigLines.{LineMeaning, assigns, assigns_escaped}
 use Rattle.kc_dotconfig_model.specs.ConfigFiles.{file_lines}
 use Rattle.kc_dotconfig_model.proofs.FittingFiles.{SayingFits, lines_lack, sayings_fit}
 use Rattle.kc_reasons_model.specs.AssigningLines.{user_by_line}
@@ -21,9 +21,7 @@ module _ (tree : Tree) (u : ℕ) where
   said_fits : (meaning : LineMeaning) → SayingFits tree meaning → IfSome (user_by_line u meaning) (λ x. IsTrue (user_fits tree u x))
   said_fits (assigns w x) fits = to_unit w x (eqb w u) refl fits
   said_fits (assigns_escaped w text) fits = to_unit w (TextUser text) (eqb w u) refl fits
-  said_fits (unchosen w s) fits = tt
-  said_fits (notice kind) fits = tt
-  said_fits silent fits = tt
+  said_fits _ fits = tt
 
   all_fit : (meanings : List LineMeaning) → AllByRecursion (SayingFits tree) meanings → FitUnit tree u meanings
   all_fit [] all = All-nil (λ meaning. IfSome (user_by_line u meaning) (λ x. IsTrue (user_fits tree u x)))

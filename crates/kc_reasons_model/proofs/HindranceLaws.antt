@@ -9,7 +9,7 @@ use Rattle.std.proofs.lemmas.Slice.Eq.{bytes_eq-Decides}
 use Rattle.kc_value.specs.Number.{number_of_text}
 use Rattle.kc_value.specs.declared.tri.Tri.{Tri}
 use Rattle.kc_value.specs.declared.value.Kind.{Kind}
-use Rattle.kc_value.specs.declared.value.Kind.TheVariants.{Bool as Boolean, Tristate, Text as String, Int, Hex}
+use Rattle.kc_value.specs.declared.value.Kind.TheVariants.{Bool as Boolean, Tristate, Text as String}
 use Rattle.kc_value.specs.Tri.{tri_and, tri_or, y_for_m}
 use Rattle.kc_tokens.specs.Languages.{is_linux_6_12}
 use Rattle.kc_tree_model.specs.Trees.{Tree, Symbol, Choice, Range}
@@ -34,12 +34,12 @@ use Rattle.kc_dotconfig_model.specs.MissedAssignments.{is_missed_as, is_given_n,
 use Rattle.kc_reasons_model.specs.declared.cases.Hindrance.{Hindrance}
 use Rattle.kc_reasons_model.specs.declared.cases.Hindrance.TheVariants.{BelowSelected, FromEnvironment, Hidden, AboveVisibility, Promoted, ImpliedY, UpsideDown, OutOfRange, ChoiceNotShown, MemberHidden, LaterY, FirstOfAll}
 use Rattle.kc_reasons_model.specs.declared.cases.ChoiceCase.{ChoiceCase}
-use Rattle.kc_reasons_model.specs.declared.cases.ChoiceCase.TheVariants.{User as UserMember, Default as DefaultMember, First, FirstUnlisted, FirstListed, Optional, NoMember, NotShown}
+use Rattle.kc_reasons_model.specs.declared.cases.ChoiceCase.TheVariants.{User as UserMember, FirstUnlisted, FirstListed, NotShown}
 use Rattle.kc_reasons_model.specs.Conjuncts.{below}
 use Rattle.kc_reasons_model.specs.Cases.{is_without_m, is_listed_default, member_by_default, first_member, first_unlisted, default_choice_case, choice_case, given_member}
 use Rattle.kc_reasons_model.specs.Hindrances.{hindrance_to, hindrances, suffices, hinders, is_about, is_given_y, is_asked_n, is_given_both, is_this, is_another, is_first_listed, is_as_asked, hinders_unit, hinders_symbol, hinders_choice, hinders_listed, hinders_member, hinders_tri, holds_of_text, holds_of_member, holds_of_tri}
 use Rattle.kc_reasons_model.specs.Laws.{HasAsked, HindrancesAreMissed, HindrancesHold, HindrancesSuffice, MissedAreHindered}
-use Rattle.kc_reasons_model.proofs.Tables.{at4, after}
+use Rattle.kc_dotconfig_model.proofs.Tables.{at4, after}
 use Rattle.kc_reasons_model.proofs.CaseLaws.{within_stays, choice_gives}
 use Rattle.kc_reasons_model.proofs.MemberLaws.{passes, selected_seen, default_seen}
 
@@ -198,13 +198,10 @@ module _ (tree : Tree) (values : List UnitValue) where
   symbol_hindered profile symbol Boolean e s (TriUser a) fits differs = tri_hindered profile symbol a differs
   symbol_hindered profile symbol Tristate e s (TriUser a) fits differs = tri_hindered profile symbol a differs
   symbol_hindered profile symbol String e s (TextUser text) fits differs = string_truth (is_from_environment symbol) (is_visible tree values symbol) _ _ text (default_text tree values symbol) differs
-  symbol_hindered profile symbol Int e s (TextUser text) fits differs = number_truth tree values symbol.kind (active_range tree values symbol) (is_from_environment symbol) (is_linux_6_12 tree.language) (is_visible tree values symbol) (λ (x : List ℕ). unwrap_or (number_of_text symbol.kind x) (pos 0)) text (number_default tree values symbol) differs
-  symbol_hindered profile symbol Hex e s (TextUser text) fits differs = number_truth tree values symbol.kind (active_range tree values symbol) (is_from_environment symbol) (is_linux_6_12 tree.language) (is_visible tree values symbol) (λ (x : List ℕ). unwrap_or (number_of_text symbol.kind x) (pos 0)) text (number_default tree values symbol) differs
-  symbol_hindered profile symbol String e s (TriUser a) fits differs = absurd (false≢true (ap (λ k. tri_fits k a) (sym e) ∙ fits))
-  symbol_hindered profile symbol Int e s (TriUser a) fits differs = absurd (false≢true (ap (λ k. tri_fits k a) (sym e) ∙ fits))
-  symbol_hindered profile symbol Hex e s (TriUser a) fits differs = absurd (false≢true (ap (λ k. tri_fits k a) (sym e) ∙ fits))
+  symbol_hindered profile symbol _ e s (TriUser a) fits differs = absurd (false≢true (ap (λ k. tri_fits k a) (sym e) ∙ fits))
   symbol_hindered profile symbol Boolean e s (TextUser text) fits differs = absurd (false≢true (ap (λ k. user_text_fits k text) (sym e) ∙ fits))
   symbol_hindered profile symbol Tristate e s (TextUser text) fits differs = absurd (false≢true (ap (λ k. user_text_fits k text) (sym e) ∙ fits))
+  symbol_hindered profile symbol _ e s (TextUser text) fits differs = number_truth tree values symbol.kind (active_range tree values symbol) (is_from_environment symbol) (is_linux_6_12 tree.language) (is_visible tree values symbol) (λ (x : List ℕ). unwrap_or (number_of_text symbol.kind x) (pos 0)) text (number_default tree values symbol) differs
   symbol_hindered profile symbol kind e s (MemberUser m) fits differs = absurd (false≢true fits)
   symbol_hindered profile symbol kind e s (LinesUser lines) fits differs = absurd (false≢true fits)
 
@@ -296,8 +293,7 @@ module _ (tree : Tree) (values : List UnitValue) where
   choice_at_hindered None s (LinesUser (l ∷ lines)) fits differs = absurd (false≢true (and_parts (is_linux_6_12 tree.language) false fits).1)
   choice_at_hindered (Some choice) s (MemberUser m) fits differs = member_hindered choice m (not-true (is_linux_6_12 tree.language) (and_parts (not (is_linux_6_12 tree.language)) _ fits).0) differs
   choice_at_hindered (Some choice) s (LinesUser lines) fits differs = listed_hindered choice s lines (and_parts (is_linux_6_12 tree.language) _ fits).0 differs
-  choice_at_hindered o s (TriUser a) fits differs = absurd (false≢true fits)
-  choice_at_hindered o s (TextUser text) fits differs = absurd (false≢true fits)
+  choice_at_hindered o s _ fits differs = absurd (false≢true fits)
 
   unit_hindered : (profile : Profile) (o : Option TreeUnit) (s : ℕ) (x : UserValue) → unit_user_fits tree o x ≡ true → is_as_asked s x (rule_of_unit profile tree o (Some x) values) ≡ false
       → hinders_unit (hindrance_at tree o s x values) profile tree o s x values ≡ true
@@ -377,12 +373,10 @@ module _ (profile : Profile) (tree : Tree) (u s : ℕ) (values : List UnitValue)
   missed_as None (Some (TextUser text)) fits one alone = hindered_unless (TextUser text) fits _ refl
   missed_as None (Some (MemberUser m)) fits one alone = hindered_unless (MemberUser m) fits _ refl
   missed_as None (Some (LinesUser lines)) fits one alone = absurd (alone refl lines fits)
-  missed_as (Some c) None fits one alone = refl
-  missed_as (Some c) (Some (TriUser t)) fits one alone = refl
-  missed_as (Some c) (Some (TextUser text)) fits one alone = refl
   missed_as (Some c) (Some (MemberUser m)) fits one alone = ap (λ b. (m == s) && b) (hindered_unless (MemberUser m) fits _ refl)
   missed_as (Some c) (Some (LinesUser lines)) fits one alone =
       lines_missed lines (rule profile tree u (Some (LinesUser lines)) values) one ∙ ap (λ b. (is_given_n lines s || is_last_y lines s) && b) (hindered_unless (LinesUser lines) fits _ refl)
+  missed_as (Some c) _ fits one alone = refl
 
 none_there : (o : Option Hindrance) → o ≡ None → is_there o ≡ false
 none_there None e = refl
@@ -455,30 +449,20 @@ tri_suffices ImpliedY x true true a v s un e holds = by_table ImpliedY x true tr
 tri_suffices ImpliedY x true false a v s un e holds = by_table ImpliedY x true false a v s un (at4 (table ImpliedY x true false) refl a v s un) holds
 tri_suffices ImpliedY x false true a v s un e holds = by_table ImpliedY x false true a v s un (at4 (table ImpliedY x false true) refl a v s un) holds
 tri_suffices ImpliedY x false false a v s un e holds = by_table ImpliedY x false false a v s un (at4 (table ImpliedY x false false) refl a v s un) holds
-tri_suffices FromEnvironment x r l a v s un e holds = absurd (false≢true e)
-tri_suffices Hidden x r l a v s un e holds = absurd (false≢true e)
-tri_suffices AboveVisibility x r l a v s un e holds = absurd (false≢true e)
-tri_suffices UpsideDown x r l a v s un e holds = absurd (false≢true e)
-tri_suffices OutOfRange x r l a v s un e holds = absurd (false≢true e)
 tri_suffices ChoiceNotShown x r l a v s un e holds = absurd (false≢true holds)
 tri_suffices MemberHidden x r l a v s un e holds = absurd (false≢true holds)
 tri_suffices LaterY x r l a v s un e holds = absurd (false≢true holds)
 tri_suffices FirstOfAll x r l a v s un e holds = absurd (false≢true holds)
+tri_suffices _ x r l a v s un e holds = absurd (false≢true e)
 
 -- no text is hindered by them
 no_text : (h : Hindrance) (env seen upside within : Bool) → suffices h ≡ true → holds_of_text h env seen upside within ≡ true → ⊥
-no_text BelowSelected env seen upside within e holds = false≢true holds
-no_text Promoted env seen upside within e holds = false≢true holds
-no_text ImpliedY env seen upside within e holds = false≢true holds
-no_text ChoiceNotShown env seen upside within e holds = false≢true holds
-no_text MemberHidden env seen upside within e holds = false≢true holds
-no_text LaterY env seen upside within e holds = false≢true holds
-no_text FirstOfAll env seen upside within e holds = false≢true holds
 no_text FromEnvironment env seen upside within e holds = false≢true e
 no_text Hidden env seen upside within e holds = false≢true e
 no_text AboveVisibility env seen upside within e holds = false≢true e
 no_text UpsideDown env seen upside within e holds = false≢true e
 no_text OutOfRange env seen upside within e holds = false≢true e
+no_text _ env seen upside within e holds = false≢true holds
 
 module _ (tree : Tree) (values : List UnitValue) where
   another : (o : Option ℕ) (s : ℕ) → ((m : ℕ) → o ≡ Some m → is_visible_member tree values m ≡ true) → is_visible_member tree values s ≡ false → same_value (MemberValue o) (MemberValue (Some s)) ≡ false
@@ -493,17 +477,7 @@ module _ (tree : Tree) (values : List UnitValue) where
   member_suffices h s false seen f otherwise all holds = refl
   member_suffices MemberHidden s true false f otherwise all holds = another otherwise s all f
   member_suffices MemberHidden s true true f otherwise all holds = absurd (false≢true holds)
-  member_suffices BelowSelected s true seen f otherwise all holds = absurd (false≢true holds)
-  member_suffices FromEnvironment s true seen f otherwise all holds = absurd (false≢true holds)
-  member_suffices Hidden s true seen f otherwise all holds = absurd (false≢true holds)
-  member_suffices AboveVisibility s true seen f otherwise all holds = absurd (false≢true holds)
-  member_suffices Promoted s true seen f otherwise all holds = absurd (false≢true holds)
-  member_suffices ImpliedY s true seen f otherwise all holds = absurd (false≢true holds)
-  member_suffices UpsideDown s true seen f otherwise all holds = absurd (false≢true holds)
-  member_suffices OutOfRange s true seen f otherwise all holds = absurd (false≢true holds)
-  member_suffices ChoiceNotShown s true seen f otherwise all holds = absurd (false≢true holds)
-  member_suffices LaterY s true seen f otherwise all holds = absurd (false≢true holds)
-  member_suffices FirstOfAll s true seen f otherwise all holds = absurd (false≢true holds)
+  member_suffices _ s true seen f otherwise all holds = absurd (false≢true holds)
 
   -- assignments of members
   module _ (choice : Choice) (s : ℕ) (lines : List MemberLine) (linux : is_linux_6_12 tree.language ≡ true) where
@@ -534,13 +508,7 @@ module _ (tree : Tree) (values : List UnitValue) where
         let gives = choice_gives tree values choice (Some (LinesUser lines)) in
         ap (is_this s) (sym (newer tree values choice (Some (LinesUser lines)) linux) ∙ sym gives ∙ ap (λ c. given_member c tree choice (Some (LinesUser lines)) values) e
         ∙ ap (λ b. first_listed (is_visible_member tree values) (cond b lines [])) linux) ∙ first
-    first_misses UserMember e is first = absurd (false≢true is)
-    first_misses DefaultMember e is first = absurd (false≢true is)
-    first_misses First e is first = absurd (false≢true is)
-    first_misses FirstUnlisted e is first = absurd (false≢true is)
-    first_misses Optional e is first = absurd (false≢true is)
-    first_misses NoMember e is first = absurd (false≢true is)
-    first_misses NotShown e is first = absurd (false≢true is)
+    first_misses _ e is first = absurd (false≢true is)
 
     lines_suffice : (h : Hindrance) → hinders_listed h tree choice s lines values ≡ true → as_asked (is_this s chosen_by) ≡ false
     lines_suffice MemberHidden holds = let both = and_parts (is_given_y lines s) _ holds in y_misses both.0 (hidden_misses (not-true (is_visible_member tree values s) both.1))
@@ -549,15 +517,7 @@ module _ (tree : Tree) (values : List UnitValue) where
         let both = and_parts (is_asked_n lines s) _ holds in
         let rest = and_parts (is_first_listed (choice_case tree choice (Some (LinesUser lines)) values)) _ both.1 in
         ap as_asked (first_misses (choice_case tree choice (Some (LinesUser lines)) values) refl rest.0 rest.1) ∙ ap not both.0
-    lines_suffice BelowSelected holds = absurd (false≢true holds)
-    lines_suffice FromEnvironment holds = absurd (false≢true holds)
-    lines_suffice Hidden holds = absurd (false≢true holds)
-    lines_suffice AboveVisibility holds = absurd (false≢true holds)
-    lines_suffice Promoted holds = absurd (false≢true holds)
-    lines_suffice ImpliedY holds = absurd (false≢true holds)
-    lines_suffice UpsideDown holds = absurd (false≢true holds)
-    lines_suffice OutOfRange holds = absurd (false≢true holds)
-    lines_suffice ChoiceNotShown holds = absurd (false≢true holds)
+    lines_suffice _ holds = absurd (false≢true holds)
 
     listed_suffice : (h : Hindrance) → hinders_listed h tree choice s lines values ≡ true → is_as_asked s (LinesUser lines) (MemberValue (choice_rule tree choice (Some (LinesUser lines)) values)) ≡ false
     listed_suffice h holds =
@@ -568,9 +528,7 @@ module _ (tree : Tree) (values : List UnitValue) where
   symbol_suffices h profile symbol Boolean e s (TriUser a) fits alone holds = tri_suffices h _ _ _ a (visibility tree values symbol) (selected tree values symbol) (unassigned_value profile tree values symbol) alone holds
   symbol_suffices h profile symbol Tristate e s (TriUser a) fits alone holds = tri_suffices h _ _ _ a (visibility tree values symbol) (selected tree values symbol) (unassigned_value profile tree values symbol) alone holds
   symbol_suffices h profile symbol kind e s (TextUser text) fits alone holds = absurd (no_text h _ _ _ _ alone holds)
-  symbol_suffices h profile symbol String e s (TriUser a) fits alone holds = absurd (false≢true (ap (λ k. tri_fits k a) (sym e) ∙ fits))
-  symbol_suffices h profile symbol Int e s (TriUser a) fits alone holds = absurd (false≢true (ap (λ k. tri_fits k a) (sym e) ∙ fits))
-  symbol_suffices h profile symbol Hex e s (TriUser a) fits alone holds = absurd (false≢true (ap (λ k. tri_fits k a) (sym e) ∙ fits))
+  symbol_suffices h profile symbol _ e s (TriUser a) fits alone holds = absurd (false≢true (ap (λ k. tri_fits k a) (sym e) ∙ fits))
   symbol_suffices h profile symbol kind e s (MemberUser m) fits alone holds = absurd (false≢true fits)
   symbol_suffices h profile symbol kind e s (LinesUser lines) fits alone holds = absurd (false≢true fits)
 
@@ -581,14 +539,13 @@ module _ (tree : Tree) (values : List UnitValue) where
 
   choice_at_suffices : (h : Hindrance) (o : Option Choice) (s : ℕ) (x : UserValue) → choice_user_fits tree.language o x ≡ true
       → hinders_choice h tree o s x values ≡ true → is_as_asked s x (rule_of_choice tree o (Some x) values) ≡ false
-  choice_at_suffices h None s (MemberUser m) fits holds = absurd (false≢true holds)
-  choice_at_suffices h None s (LinesUser lines) fits holds = absurd (false≢true holds)
   choice_at_suffices h (Some choice) s (MemberUser m) fits holds =
       ap (λ o. same_value (MemberValue o) (MemberValue (Some m))) (older tree values choice (Some (MemberUser m)) (not-true (is_linux_6_12 tree.language) (and_parts (not (is_linux_6_12 tree.language)) _ fits).0))
       ∙ member_suffices h m (is_shown tree values choice) (is_visible_member tree values m) refl (default_member tree choice values) (default_seen tree choice values) holds
   choice_at_suffices h (Some choice) s (LinesUser lines) fits holds = listed_suffice choice s lines (and_parts (is_linux_6_12 tree.language) _ fits).0 h holds
   choice_at_suffices h o s (TriUser a) fits holds = absurd (false≢true fits)
   choice_at_suffices h o s (TextUser text) fits holds = absurd (false≢true fits)
+  choice_at_suffices h None s _ fits holds = absurd (false≢true holds)
 
   unit_suffices : (h : Hindrance) (profile : Profile) (o : Option TreeUnit) (s : ℕ) (x : UserValue) → unit_user_fits tree o x ≡ true → suffices h ≡ true
       → hinders_unit h profile tree o s x values ≡ true → is_as_asked s x (rule_of_unit profile tree o (Some x) values) ≡ false

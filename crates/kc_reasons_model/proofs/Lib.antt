@@ -1,4 +1,3 @@
-pub mod Tables
 pub mod CaseLaws
 pub mod ConjunctLaws
 pub mod BlameLaws

@@ -1,11 +1,11 @@
 -- No member is given both `y` and `n`, and a choice can be set to a member that is visible.
-use Rattle.std.proofs.Common.{◌≡◌, ℕ, ◌<◌, Bool, true, false, not, ◌&&◌, ◌||◌, cond, eqb, List, [], ◌∷◌, ◌++◌, filter, Option, Some, None, length, slice_set, refl, sym, ◌∙◌, ap, ◌↔◌}
+use Rattle.std.proofs.Common.{◌≡◌, ℕ, ◌<◌, Bool, true, false, not, ◌&&◌, ◌||◌, cond, List, [], ◌∷◌, ◌++◌, filter, Option, Some, None, length, refl, sym, ◌∙◌, ap, ◌↔◌}
 use Rattle.std.specs.Prelude.{◌==◌, find}
 use Rattle.std.specs.Option.{option_or}
 use Rattle.std.specs.List.{list_any, list_all, AllByRecursion}
-use Rattle.std.proofs.lemmas.Bool.{eqb-true, eqb-false, false≢true, true≢false, and_parts}
-use Rattle.std.proofs.lemmas.List.{get_or-set_same, get_or-set_other}
+use Rattle.std.proofs.lemmas.Bool.{eqb-true, false≢true, true≢false, and_parts}
 use Rattle.std.proofs.lemmas.List.Elements.{recursion_from_All}
+use Rattle.std.proofs.Math.Bool.{or-false}
 use Rattle.kc_solver.specs.Solutions.{user_of}
 use Rattle.kc_value.specs.declared.tri.Tri.TheVariants.{N}
 use Rattle.kc_tokens.specs.declared.language.Language.{Language}
@@ -24,11 +24,12 @@ use Rattle.kc_rules_model.specs.Rule.{member_user, assigned_lines, is_shown, is_
 use Rattle.kc_rules_model.specs.checker.RestoreLaw.{last_passes, first_passes, default_is_seen, one_listed}
 use Rattle.kc_dotconfig_model.specs.declared.format.Strings.{Strings}
 use Rattle.kc_dotconfig_model.specs.Formats.{FileFormat}
-use Rattle.kc_dotconfig_model.specs.ConfigLines.{LineMeaning, assigns, assigns_escaped, unchosen, notice, silent, unchosen_meaning, text_meaning, has_escape_notice, unset_meaning, ValueMeans, Means, tri, chosen, not_chosen, quoted, number, no_int, no_hex, no_tri, no_text, no_number, value, unset, unknown_value, unknown_unset, empty, comment}
+use Rattle.kc_dotconfig_model.specs.ConfigLines.{LineMeaning, assigns, assigns_escaped, unchosen, silent, unchosen_meaning, text_meaning, has_escape_notice, unset_meaning, ValueMeans, Means, tri, chosen, not_chosen, quoted, number, no_tri, no_text, value, unset, empty}
 use Rattle.kc_dotconfig_model.specs.ConfigFiles.{over, assigned, assigned_over}
 use Rattle.kc_reasons_model.specs.AssigningLines.{user_by_line}
 use Rattle.kc_reasons_model.specs.Hindrances.{is_given_both}
-use Rattle.kc_reasons_model.proofs.AssigningLaws.{same_length}
+use Rattle.kc_reasons_model.proofs.AssigningLaws.{laid, user_after}
+use Rattle.kc_dotconfig_model.proofs.Overlays.{assigned_length}
 use Rattle.kc_reasons_model.specs.Laws.{MembersHaveOneLine, LinesGiveOne, SelectableAreTaken}
 
 -- whether a member is listed with this value
@@ -75,13 +76,9 @@ module _ (s : ℕ) (k : MemberLine → Bool) where
 
     given_over : (earlier : List MemberLine) → given s k (laid_over later earlier) ≡ cond (is_listed later s) (given s k later) (given s k earlier)
     given_over earlier = given_joined (filter is_kept earlier) later ∙ go (is_listed later s) refl where
-      or_false : (b : Bool) → (b || false) ≡ b
-      or_false true = refl
-      or_false false = refl
-
       go : (b : Bool) → is_listed later s ≡ b → (given s k (filter is_kept earlier) || given s k later) ≡ cond b (given s k later) (given s k earlier)
       go true e = ap (λ d. d || given s k later) (given_dropped e earlier)
-      go false e = ap (λ d. given s k (filter is_kept earlier) || d) (given_unlisted later e) ∙ or_false (given s k (filter is_kept earlier)) ∙ given_kept e earlier
+      go false e = ap (λ d. given s k (filter is_kept earlier) || d) (given_unlisted later e) ∙ or-false (given s k (filter is_kept earlier)) ∙ given_kept e earlier
 
 over_one : (s : ℕ) (x : UserValue) (o : Option UserValue) → is_given_both s (Some x) ≡ false → is_given_both s o ≡ false → is_given_both s (Some (over x o)) ≡ false
 over_one s (TriUser t) o e f = refl
@@ -101,28 +98,18 @@ over_one s (LinesUser later) (Some (LinesUser earlier)) e f =
       go false = f
 
 module _ (u s : ℕ) where
-  one_after_assigned : (w : ℕ) (x : UserValue) (users : List (Option UserValue)) → u < length users → is_given_both s (user_by_line u (assigns w x)) ≡ false
-      → is_given_both s (user_of users u) ≡ false → is_given_both s (user_of (assigned (assigns w x) users) u) ≡ false
-  one_after_assigned w x users inside e f = go (eqb w u) refl e where
-    go : (c : Bool) → eqb w u ≡ c → is_given_both s (cond c (Some x) None) ≡ false → is_given_both s (user_of (slice_set users w (Some (over x (user_of users w)))) u) ≡ false
-    go true g e =
-        ap (is_given_both s) (ap (λ k. user_of (slice_set users k (Some (over x (user_of users k)))) u) (eqb-true w u g) ∙ get_or-set_same users u (Some (over x (user_of users u))) None inside)
-        ∙ over_one s x (user_of users u) e f
-    go false g e = ap (is_given_both s) (get_or-set_other users w u (Some (over x (user_of users w))) None (λ same. eqb-false w u g (sym same))) ∙ f
-
   one_after : (meaning : LineMeaning) (users : List (Option UserValue)) → u < length users → is_given_both s (user_by_line u meaning) ≡ false → is_given_both s (user_of users u) ≡ false
       → is_given_both s (user_of (assigned meaning users) u) ≡ false
-  one_after (assigns w x) users inside e f = one_after_assigned w x users inside e f
-  one_after (assigns_escaped w text) users inside e f = one_after_assigned w (TextUser text) users inside e f
-  one_after (unchosen w m) users inside e f = f
-  one_after (notice kind) users inside e f = f
-  one_after silent users inside e f = f
+  one_after meaning users inside e f = ap (is_given_both s) (user_after u meaning users inside) ∙ go (user_by_line u meaning) e where
+    go : (o : Option UserValue) → is_given_both s o ≡ false → is_given_both s (laid o (user_of users u)) ≡ false
+    go None e = f
+    go (Some x) e = over_one s x (user_of users u) e f
 
   one_after_all : (meanings : List LineMeaning) (users : List (Option UserValue)) → u < length users → AllByRecursion (λ meaning. is_given_both s (user_by_line u meaning) ≡ false) meanings
       → is_given_both s (user_of users u) ≡ false → is_given_both s (user_of (assigned_over meanings users) u) ≡ false
   one_after_all [] users inside all f = f
   one_after_all (meaning ∷ meanings) users inside all f =
-      one_after_all meanings (assigned meaning users) (rw (same_length meaning users) inside) all.1 (one_after meaning users inside all.0 f)
+      one_after_all meanings (assigned meaning users) (rw (assigned_length meaning users) inside) all.1 (one_after meaning users inside all.0 f)
 
 pub have_one_line : MembersHaveOneLine
 have_one_line u s meanings users inside all held = one_after_all u s meanings users inside (recursion_from_All _ _ all) held
@@ -179,19 +166,15 @@ module _ (u s : ℕ) where
   one_value format tree m symbol text _ (not_chosen k _ t c e f) = one_unchosen tree.language (unit_of tree m) m
   one_value format tree m symbol text _ (quoted _ means k e) = one_text tree.language format.strings (unit_of tree m) text means
   one_value format tree m symbol text _ (number _ e) = one_assigned (unit_of tree m) (TextUser text) refl
-  one_value format tree m symbol _ _ (no_int e) = refl
-  one_value format tree m symbol _ _ (no_hex e) = refl
   one_value format tree m symbol text _ (no_tri _ e f) = refl
   one_value format tree m symbol text _ (no_text _ e f) = refl
-  one_value format tree m symbol _ _ (no_number b text e f g) = refl
+  one_value format tree m symbol _ _ _ = refl
 
   one_line : (format : FileFormat) (tree : Tree) (line : List ℕ) (meaning : LineMeaning) → Means format tree line meaning → is_given_both s (user_by_line u meaning) ≡ false
   one_line format tree line meaning (value _ name text m symbol _ e f g h) = one_value format tree m symbol text meaning h
   one_line format tree line _ (unset _ name m symbol e f g) = one_unset tree m symbol symbol.choice
-  one_line format tree line _ (unknown_value _ name text e f) = refl
-  one_line format tree line _ (unknown_unset _ name e f) = refl
   one_line format tree _ _ empty = refl
-  one_line format tree line _ (comment _ e f) = refl
+  one_line format tree line _ _ = refl
 
 pub give_one : LinesGiveOne
 give_one format tree u s line meaning means = one_line u s format tree line meaning means
@@ -247,8 +230,7 @@ module _ (tree : Tree) (choice : Choice) (values : List UnitValue) where
 
     shown_rule : (shown sees : Bool) → seen ≡ sees → (shown && sees) ≡ true → cond shown (option_or (cond sees (Some s) None) (default_member tree choice values)) None ≡ Some s
     shown_rule true true e f = refl
-    shown_rule true false e f = absurd (false≢true f)
-    shown_rule false sees e f = absurd (false≢true f)
+    shown_rule _ _ e f = absurd (false≢true f)
 
     rule_shown : (shown sees : Bool) → seen ≡ sees → cond shown (option_or (cond sees (Some s) None) (default_member tree choice values)) None ≡ Some s → (shown && sees) ≡ true
     rule_shown true true e f = refl

@@ -3,20 +3,17 @@ use Rattle.std.proofs.Common.{◌≡◌, ℕ, Bool, true, false, cond, List, [],
 use Rattle.std.specs.List.{cons_option}
 use Rattle.std.specs.Prelude.{filter_map, flat_map, option_map, option_to_list}
 use Rattle.std.proofs.lemmas.List.Elements.{filter-append}
+use Rattle.std.proofs.lemmas.Grind.{flat_map-append}
 use Rattle.kc_value.specs.declared.tri.Tri.{Tri}
-use Rattle.kc_value.specs.declared.tri.Tri.TheVariants.{N, M, Y}
+use Rattle.kc_value.specs.declared.tri.Tri.TheVariants.{N, M}
 use Rattle.kc_expr.specs.Expr.{Expr, Environment, alone, constant, both, shown}
 use Rattle.kc_rules_model.specs.Kinds.{is_n}
-use Rattle.kc_tree_model.specs.Statements.{Head, config, choice, menu, condition, comment, source, ends, mainmenu, Attribute, depends_of, visible_of, prompt_of}
+use Rattle.kc_tree_model.specs.Statements.{Head, config, choice, menu, condition, Attribute, depends_of, visible_of, prompt_of}
 use Rattle.kc_tree_model.specs.Blocks.{Group, GroupHead, of_head, file_end, Line}
 use Rattle.kc_tree_model.specs.Conditions.{Context, context, inside_menu, inner_context_of_group_head, inner_context_of_head, attribute_values, conjunction_from, conjunction_of, dependencies_of, attribute_condition, prompt_condition, visible_conjunct}
 use Rattle.kc_reasons_model.specs.Laws.{PromptPartsAreLocated, ConditionPartsAreLocated, DependencyPartsAreLocated}
 use Rattle.kc_reasons_model.specs.Conjuncts.{Part, conjuncts, lacks, lacking}
 use Rattle.kc_reasons_model.specs.Places.{LocatedExpr, located_at, located_attributes, LocatedContext, located_dependencies, located_condition, located_prompt, as_choice_parts, located_inside_menu, located_inside_head, located_inside, located_context, wanted_of, lacking_located}
-
-flat_append : {X Z : Type 0} (f : X → List Z) (xs ys : List X) → flat_map f (xs ++ ys) ≡ flat_map f xs ++ flat_map f ys
-flat_append f [] ys = refl
-flat_append f (x ∷ xs) ys = ap (λ zs. f x ++ zs) (flat_append f xs ys) ∙ sym (append_assoc (f x) (flat_map f xs) (flat_map f ys))
 
 module _ (names : Environment) where
   -- what lacks of a conjunction is what lacks of each
@@ -28,8 +25,7 @@ module _ (names : Environment) where
 
   lacking_all : (t : Tri) (es : List Expr) → lacking names t (conjunction_of es) ≡ flat_map (lacking names t) es
   lacking_all N [] = refl
-  lacking_all M [] = refl
-  lacking_all Y [] = refl
+  lacking_all _ [] = refl
   lacking_all t (e ∷ es) = lacking_from t e es
 
   conjunct_all : (t : Tri) (es : List Expr) → flat_map (lacking names t) (visible_conjunct es) ≡ flat_map (lacking names t) es
@@ -53,10 +49,10 @@ module _ (names : Environment) where
 
   own_same : (t : Tri) (enclosing : Context) (stood : LocatedContext) (g : Group) → Same t enclosing stood → flat_map (lacking names t) (dependencies_of enclosing g) ≡ lacking_located names t (located_dependencies stood g)
   own_same t enclosing stood g same =
-      flat_append (lacking names t) enclosing.dependencies (attribute_values depends_of g)
+      flat_map-append (lacking names t) enclosing.dependencies (attribute_values depends_of g)
       ∙ ap (λ xs. xs ++ flat_map (lacking names t) (attribute_values depends_of g)) same.dependencies
       ∙ ap (λ xs. lacking_located names t stood.dependencies ++ xs) (located_lack t g depends_of g.attributes)
-      ∙ sym (flat_append (λ (p : LocatedExpr). lacking names (wanted_of t p) p.expr) stood.dependencies (located_attributes depends_of g))
+      ∙ sym (flat_map-append (λ (p : LocatedExpr). lacking names (wanted_of t p) p.expr) stood.dependencies (located_attributes depends_of g))
 
   if_same : (t : Tri) (g : Group) (line : ℕ) (c : Option Expr) → flat_map (lacking names t) (option_to_list c) ≡ lacking_located names t (option_to_list (option_map (located_at g line) c))
   if_same t g line None = refl
@@ -66,10 +62,10 @@ module _ (names : Environment) where
       → lacking names t (attribute_condition enclosing g c) ≡ lacking_located names t (located_condition stood g line c)
   attribute_same t enclosing stood g line c same =
       lacking_all t (dependencies_of enclosing g ++ option_to_list c)
-      ∙ flat_append (lacking names t) (dependencies_of enclosing g) (option_to_list c)
+      ∙ flat_map-append (lacking names t) (dependencies_of enclosing g) (option_to_list c)
       ∙ ap (λ xs. xs ++ flat_map (lacking names t) (option_to_list c)) (own_same t enclosing stood g same)
       ∙ ap (λ xs. lacking_located names t (located_dependencies stood g) ++ xs) (if_same t g line c)
-      ∙ sym (flat_append (λ (p : LocatedExpr). lacking names (wanted_of t p) p.expr) (located_dependencies stood g) (option_to_list (option_map (located_at g line) c)))
+      ∙ sym (flat_map-append (λ (p : LocatedExpr). lacking names (wanted_of t p) p.expr) (located_dependencies stood g) (option_to_list (option_map (located_at g line) c)))
 
   prompt_same : (t : Tri) (enclosing : Context) (stood : LocatedContext) (g : Group) (line : ℕ) (c : Option Expr) → Same t enclosing stood
       → lacking names t (prompt_condition enclosing g c) ≡ lacking_located names t (located_prompt stood g line c)
@@ -77,15 +73,15 @@ module _ (names : Environment) where
       let L : List Expr → List Part = flat_map (lacking names t) in
       let S : List LocatedExpr → List Part = lacking_located names t in
       let inner : L (visible_conjunct enclosing.visibles ++ option_to_list c) ≡ S (stood.visibles ++ option_to_list (option_map (located_at g line) c)) =
-      flat_append (lacking names t) (visible_conjunct enclosing.visibles) (option_to_list c)
+      flat_map-append (lacking names t) (visible_conjunct enclosing.visibles) (option_to_list c)
       ∙ ap (λ xs. xs ++ L (option_to_list c)) (conjunct_all t enclosing.visibles ∙ same.visibles)
       ∙ ap (λ xs. S stood.visibles ++ xs) (if_same t g line c)
-      ∙ sym (flat_append (λ (p : LocatedExpr). lacking names (wanted_of t p) p.expr) stood.visibles (option_to_list (option_map (located_at g line) c))) in
+      ∙ sym (flat_map-append (λ (p : LocatedExpr). lacking names (wanted_of t p) p.expr) stood.visibles (option_to_list (option_map (located_at g line) c))) in
       lacking_all t (dependencies_of enclosing g ++ (visible_conjunct enclosing.visibles ++ option_to_list c))
-      ∙ flat_append (lacking names t) (dependencies_of enclosing g) (visible_conjunct enclosing.visibles ++ option_to_list c)
+      ∙ flat_map-append (lacking names t) (dependencies_of enclosing g) (visible_conjunct enclosing.visibles ++ option_to_list c)
       ∙ ap (λ xs. xs ++ L (visible_conjunct enclosing.visibles ++ option_to_list c)) (own_same t enclosing stood g same)
       ∙ ap (λ xs. S (located_dependencies stood g) ++ xs) inner
-      ∙ sym (flat_append (λ (p : LocatedExpr). lacking names (wanted_of t p) p.expr) (located_dependencies stood g) (stood.visibles ++ option_to_list (option_map (located_at g line) c)))
+      ∙ sym (flat_map-append (λ (p : LocatedExpr). lacking names (wanted_of t p) p.expr) (located_dependencies stood g) (stood.visibles ++ option_to_list (option_map (located_at g line) c)))
 
   -- inside "shown" any value but `n` is wanted
   shown_same : (t : Tri) → is_n t ≡ false → (e : Expr) → lacking names t (shown e) ≡ lacking names M e
@@ -115,10 +111,10 @@ module _ (names : Environment) where
   inside_menu_same : (t : Tri) (enclosing : Context) (stood : LocatedContext) (g : Group) → Same t enclosing stood → Same t (inside_menu enclosing g) (located_inside_menu stood g)
   inside_menu_same t enclosing stood g same = record {
     dependencies = own_same t enclosing stood g same;
-    visibles = flat_append (lacking names t) enclosing.visibles (attribute_values visible_of g)
+    visibles = flat_map-append (lacking names t) enclosing.visibles (attribute_values visible_of g)
         ∙ ap (λ xs. xs ++ flat_map (lacking names t) (attribute_values visible_of g)) same.visibles
         ∙ ap (λ xs. lacking_located names t stood.visibles ++ xs) (located_lack t g visible_of g.attributes)
-        ∙ sym (flat_append (λ (p : LocatedExpr). lacking names (wanted_of t p) p.expr) stood.visibles (located_attributes visible_of g));
+        ∙ sym (flat_map-append (λ (p : LocatedExpr). lacking names (wanted_of t p) p.expr) stood.visibles (located_attributes visible_of g));
   }
 
   inside_head_same : (t : Tri) → is_n t ≡ false → (through : Bool) (h : Head) (enclosing : Context) (stood : LocatedContext) (g : Group) → Same t enclosing stood → Same M enclosing stood → Same t (inner_context_of_head through h enclosing g) (located_inside_head through h stood g)
@@ -126,16 +122,13 @@ module _ (names : Environment) where
   inside_head_same t some false choice enclosing stood g same wide = record { dependencies = first_prompt t some enclosing stood g wide g.attributes; visibles = refl }
   inside_head_same t some through (menu title) enclosing stood g same wide = inside_menu_same t enclosing stood g same
   inside_head_same t some through (condition e) enclosing stood g same wide = record {
-    dependencies = flat_append (lacking names t) enclosing.dependencies (e ∷ [])
+    dependencies = flat_map-append (lacking names t) enclosing.dependencies (e ∷ [])
         ∙ ap (λ xs. xs ++ flat_map (lacking names t) (e ∷ [])) same.dependencies
-        ∙ sym (flat_append (λ (p : LocatedExpr). lacking names (wanted_of t p) p.expr) stood.dependencies (located_at g g.at.line e ∷ []));
+        ∙ sym (flat_map-append (λ (p : LocatedExpr). lacking names (wanted_of t p) p.expr) stood.dependencies (located_at g g.at.line e ∷ []));
     visibles = same.visibles;
   }
   inside_head_same t some through (config name) enclosing stood g same wide = same
-  inside_head_same t some through (comment title) enclosing stood g same wide = same
-  inside_head_same t some through (source path) enclosing stood g same wide = same
-  inside_head_same t some through (ends b) enclosing stood g same wide = same
-  inside_head_same t some through mainmenu enclosing stood g same wide = same
+  inside_head_same t some through _ enclosing stood g same wide = same
 
   inside_same : (t : Tri) → is_n t ≡ false → (through : Bool) (w : GroupHead) (enclosing : Context) (stood : LocatedContext) (g : Group) → Same t enclosing stood → Same M enclosing stood → Same t (inner_context_of_group_head through w enclosing g) (located_inside through w stood g)
   inside_same t some through (of_head h) enclosing stood g same wide = inside_head_same t some through h enclosing stood g same wide

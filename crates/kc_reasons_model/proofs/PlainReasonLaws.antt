@@ -2,12 +2,10 @@
 use Rattle.std.proofs.Common.{◌≡◌, ℕ, ◌<◌, All, Bool, true, false, not, ◌&&◌, ◌||◌, cond, List, [], ◌∷◌, ◌++◌, map, filter, length, Option, Some, None, refl, sym, ◌∙◌, ap, subst, arith}
 use Rattle.std.specs.Prelude.{◌==◌, slice_get, filter_map, option_map, option_and_then, find, unwrap_or, IfSome, IsTrue}
 use Rattle.std.specs.List.{list_any, zip}
-use Rattle.std.proofs.lemmas.Bool.{true≢false, false≢true, not-true}
+use Rattle.std.proofs.lemmas.Bool.{true≢false, false≢true}
 use Rattle.std.proofs.lemmas.List.{map-append, length-replicate, get_or-replicate}
 use Rattle.kc_value.specs.declared.tri.Tri.{Tri}
 use Rattle.kc_value.specs.declared.tri.Tri.TheVariants.{M}
-use Rattle.kc_value.specs.Tri.{tri_or}
-use Rattle.kc_expr.specs.Expr.{Environment}
 use Rattle.kc_tree_model.specs.Trees.{Tree, Symbol, ReverseDependency}
 use Rattle.kc_tree_model.specs.TreeLookup.{unit_of}
 use Rattle.kc_tree_model.specs.Blocks.{Position}
@@ -16,7 +14,7 @@ use Rattle.kc_rules_model.specs.declared.profile.Profile.{Profile}
 use Rattle.kc_rules_model.specs.declared.values.UnitValue.{UnitValue}
 use Rattle.kc_rules_model.specs.declared.values.UnitValue.TheVariants.{Member as MemberValue}
 use Rattle.kc_rules_model.specs.declared.values.UserValue.{UserValue}
-use Rattle.kc_rules_model.specs.declared.values.UserValue.TheVariants.{Tri as TriUser, Text as TextUser, Member as MemberUser, Lines as LinesUser}
+use Rattle.kc_rules_model.specs.declared.values.UserValue.TheVariants.{Lines as LinesUser}
 use Rattle.kc_rules_model.specs.declared.values.MemberLine.{MemberLine}
 use Rattle.kc_rules_model.specs.Equality.{same_value}
 use Rattle.kc_rules_model.specs.Kinds.{is_n}
@@ -26,21 +24,21 @@ use Rattle.kc_rules_model.specs.Shapes.{user_fits}
 use Rattle.kc_rules_model.specs.SymbolValues.{member_of}
 use Rattle.kc_dotconfig_model.specs.ConfigFiles.{empty_assignment}
 use Rattle.kc_dotconfig_model.specs.MissedAssignments.{is_given_n}
-use Rattle.kc_reasons_model.specs.declared.cases.Hindrance.{Hindrance}
 use Rattle.kc_reasons_model.specs.AssigningLines.{if_any, said_to, AssigningPlace}
-use Rattle.kc_reasons_model.specs.Conjuncts.{Part, below, lacking}
+use Rattle.kc_reasons_model.specs.Conjuncts.{Part, lacking}
 use Rattle.kc_reasons_model.specs.DecisiveLimits.{is_decisive, decisive_numbers}
 use Rattle.kc_reasons_model.specs.Hindrances.{is_given_y, hindrance_to, hinders, hindrances}
 use Rattle.kc_reasons_model.specs.Cases.{is_without_m, case_of}
 use Rattle.kc_reasons_model.specs.Places.{LocatedExpr, wanted_of, lacking_located}
 use Rattle.kc_reasons_model.specs.SymbolLines.{SymbolLines}
 use Rattle.kc_reasons_model.specs.Laws.{AreLinesOf, FitUnit}
-use Rattle.kc_reasons_model.specs.Reasons.{ExplainedRun, LowPart, AskedValue, ForcingSymbol, text_of_symbol, source_line, names_of, low_part, low_parts, is_empty, unless_one_lacks_nothing, name_of_symbol, user_for, place_for, asked_value_of, hindrance_in, is_by_select, is_by_imply, forcing_symbols, needs_of, unmet_parts, other_member, wanted_of_prompts, reasons_of}
-use Rattle.kc_reasons_model.specs.PlainReasons.{other_than, chosen_in, plain_reasons, prompts_lack, dependencies_lack}
-use Rattle.kc_reasons_model.specs.PlainReasonLaws.{without_line, spelled_part, name_and_value, forcing_name, AgreeOf, PlainReasonsAgree}
-use Rattle.kc_reasons_model.proofs.Tables.{at, at2}
+use Rattle.kc_reasons_model.specs.Reasons.{ExplainedRun, ForcingSymbol, text_of_symbol, source_line, names_of, low_part, low_parts, is_empty, unless_one_lacks_nothing, name_of_symbol, user_for, place_for, asked_value_of, hindrance_in, is_by_select, is_by_imply, forcing_symbols, needs_of, unmet_parts, wanted_of_prompts, reasons_of}
+use Rattle.kc_reasons_model.specs.PlainReasons.{other_than, chosen_in, prompts_lack, dependencies_lack}
+use Rattle.kc_reasons_model.specs.PlainReasonLaws.{without_line, spelled_part, name_and_value, forcing_name, PlainReasonsAgree}
+use Rattle.kc_dotconfig_model.proofs.Tables.{at}
 use Rattle.kc_reasons_model.proofs.AssigningLaws.{files_assign}
 use Rattle.kc_reasons_model.proofs.DecisiveLaws.{numbers_decisive}
+use Rattle.kc_reasons_model.proofs.PromptLaws.{wanted_some, above_some}
 
 -- ---- alternatives
 
@@ -91,11 +89,6 @@ module _ (run : ExplainedRun) (t : Tri) where
       ap (λ xs. xs ∷ map (map without_line) (map (low_parts run t) pss)) (same_parts ps)
       ∙ ap (λ xss. map (spelled_part run) (lacking_located (names_of run) t ps) ∷ xss) (same_alternatives pss)
 
--- more than `n` is wanted of a prompt
-wanted_is_more : (b : Bool) (a : Tri) → is_n (cond b M (tri_or M a)) ≡ false
-wanted_is_more true a = refl
-wanted_is_more false a = not-true _ (at (λ a. not (is_n (tri_or M a))) refl a)
-
 same_needs : (run : ExplainedRun) (lines : SymbolLines) (symbol : Symbol) (t : Tri) → AreLinesOf (names_of run) t symbol lines
     → map (map without_line) (needs_of run t symbol lines) ≡ map (map (spelled_part run)) (prompts_lack (names_of run) t symbol)
 same_needs run lines symbol t are =
@@ -103,14 +96,6 @@ same_needs run lines symbol t are =
     (unless_one_lacks_nothing (map (lacking (names_of run) t) symbol.prompts))
     (alike_unless without_line (spelled_part run) (map (low_parts run t) lines.prompts) (map (lacking (names_of run) t) symbol.prompts)
     (same_alternatives run t lines.prompts ∙ ap (map (map (spelled_part run))) (sym are.prompts)))
-
--- less than nothing is allowed, so more than `n` is selected where that is unmet
-unmet_is_more : (allowed t : Tri) → below allowed t ≡ true → is_n t ≡ false
-unmet_is_more a t e = of_two (is_n t) (below a t) (at2 (λ a t. not (is_n t && below a t)) refl a t) e where
-  of_two : (n b : Bool) → not (n && b) ≡ true → b ≡ true → n ≡ false
-  of_two false b f e = refl
-  of_two true true f e = absurd (false≢true f)
-  of_two true false f e = absurd (false≢true e)
 
 second_of : (a b : Bool) → (a && b) ≡ true → b ≡ true
 second_of true b e = e
@@ -126,7 +111,7 @@ same_unmet run lines symbol are = go (is_unmet_symbol run.tree run.values symbol
   go true e =
       same_alternatives run (selected run.tree run.values symbol) lines.direct
       ∙ ap (map (map (spelled_part run)))
-      (sym (are (selected run.tree run.values symbol) (unmet_is_more (allowed run.tree run.values symbol) (selected run.tree run.values symbol) (second_of _ _ e))).direct)
+      (sym (are (selected run.tree run.values symbol) (above_some (allowed run.tree run.values symbol) (selected run.tree run.values symbol) (second_of _ _ e))).direct)
 
 -- ---- the selected member
 
@@ -173,10 +158,8 @@ of_lines profile tree u s lines values e =
 -- where a user value says nothing of a symbol nothing hinders it
 nothing_hinders : (profile : Profile) (tree : Tree) (u s : ℕ) (user : Option UserValue) (values : List UnitValue) → said_to s user ≡ None → hindrance_to profile tree u s user values ≡ None
 nothing_hinders profile tree u s None values e = refl
-nothing_hinders profile tree u s (Some (TriUser t)) values e = absurd (cc)
-nothing_hinders profile tree u s (Some (TextUser text)) values e = absurd (cc)
-nothing_hinders profile tree u s (Some (MemberUser m)) values e = absurd (cc)
 nothing_hinders profile tree u s (Some (LinesUser lines)) values e = of_lines profile tree u s lines values e
+nothing_hinders profile tree u s _ values e = absurd (cc)
 
 nobody : (tree : Tree) (u : ℕ) → u < length tree.units → user_of (empty_assignment tree) u ≡ None
 nobody tree u inside = get_or-replicate (length tree.units) u None None inside
@@ -232,7 +215,7 @@ plain_agree run lines s symbol inside fits are =
       chosen = same_chosen run.tree s symbol.choice (slice_get run.values u);
       hindrance = hindrance;
       needs = same_needs run lines symbol (wanted_of_prompts run s symbol)
-          (are (wanted_of_prompts run s symbol) (wanted_is_more (is_without_m run.tree run.values symbol.kind) (unwrap_or (assigned_tri (user_for run s)) M)));
+          (are (wanted_of_prompts run s symbol) (wanted_some (is_without_m run.tree run.values symbol.kind) (unwrap_or (assigned_tri (user_for run s)) M)));
       unmet = same_unmet run lines symbol are;
       selected_by = given_alike run symbol.selectors lines.selectors _ _ (ap (λ h. is_by_select case h || is_unmet_symbol run.tree run.values symbol) hindrance) each.selectors;
       implied_by = given_alike run symbol.impliers lines.impliers (is_by_imply case) (is_by_imply case) refl each.impliers;

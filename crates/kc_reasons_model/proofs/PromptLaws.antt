@@ -18,7 +18,7 @@ use Rattle.kc_reasons_model.proofs.ConjunctLaws.{nothing_lacks}
 use Rattle.kc_reasons_model.specs.Cases.{is_without_m}
 use Rattle.kc_reasons_model.specs.Hindrances.{wanted_for}
 use Rattle.kc_reasons_model.specs.Laws.{PromptsLetInWhatIsWanted, HiddenPromptsLack, UnmetDependenciesLack}
-use Rattle.kc_reasons_model.proofs.Tables.{at, at2, at3, after, same_bool}
+use Rattle.kc_dotconfig_model.proofs.Tables.{at, at2, at3, after, same_bool}
 
 abbrev high : Tri → Tri → Bool
 high t x = not (below x t)
@@ -38,7 +38,7 @@ full_is : (without_m : Bool) (a x : Tri) → full without_m a x ≡ high (cond w
 full_is true a x = same_bool _ _ (at2 (λ a x. beq (full true a x) (high M x)) refl a x)
 full_is false a x = same_bool _ _ (at2 (λ a x. beq (full false a x) (high (tri_or M a) x)) refl a x)
 
-wanted_some : (without_m : Bool) (a : Tri) → is_n (cond without_m M (tri_or M a)) ≡ false
+pub wanted_some : (without_m : Bool) (a : Tri) → is_n (cond without_m M (tri_or M a)) ≡ false
 wanted_some true a = refl
 wanted_some false a = not-true _ (at (λ a. not (is_n (tri_or M a))) refl a)
 
@@ -60,7 +60,7 @@ pub hidden_lack : HiddenPromptsLack
 hidden_lack tree symbol a values low = All-from_recursion _ _ (each_lacks tree values (wanted_for tree symbol a values) (counted_prompts symbol) (sym (let_in tree symbol a values) ∙ low))
 
 -- what is below something isn't wanted to be `n`
-above_some : (x t : Tri) → below x t ≡ true → is_n t ≡ false
+pub above_some : (x t : Tri) → below x t ≡ true → is_n t ≡ false
 above_some x t e = not-true _ (after _ _ (at2 (λ x t. not (below x t) || not (is_n t)) refl x t) (ap not e))
 
 pub unmet_lack : UnmetDependenciesLack

@@ -27,7 +27,7 @@ use Rattle.kc_reasons_model.proofs.BlameLaws.{blame_keeps}
 use Rattle.kc_reasons_model.proofs.ConjunctLaws.{nothing_lacks}
 use Rattle.kc_reasons_model.proofs.PromptLaws.{let_in, hidden_lack, unmet_lack}
 use Rattle.kc_reasons_model.proofs.SymbolLineLaws.{length_mapped}
-use Rattle.kc_reasons_model.proofs.Tables.{at2, after}
+use Rattle.kc_dotconfig_model.proofs.Tables.{at2, after}
 
 not_empty : {X : Type 0} (xs : List X) → xs ≢ [] → is_empty xs ≡ false
 not_empty [] other = absurd (other refl)
@@ -59,8 +59,6 @@ module _ (run : ExplainedRun) (t : Tri) where
 
   all_given : (es : List Expr) (pss : List (List LocatedExpr)) → map (lacking names t) es ≡ map (lacking_located names t) pss → AllByRecursion Lacks es → AllByRecursion Gives pss × (length pss ≡ length es)
   all_given [] [] same all = (tt, refl)
-  all_given [] (ps ∷ pss) same all = absurd (cc)
-  all_given (e ∷ es) [] same all = absurd (cc)
   all_given (e ∷ es) (ps ∷ pss) same all =
       let first : lacking names t e ≡ lacking_located names t ps = cc in
       let others : map (lacking names t) es ≡ map (lacking_located names t) pss = cc in
@@ -68,6 +66,7 @@ module _ (run : ExplainedRun) (t : Tri) where
         (same_emptiness (lacking names t e) (low_parts run t ps) (ap (λ xs. length xs) first ∙ as_many_parts ps) all.0, rest.0),
         ap suc rest.1,
       )
+  all_given _ _ same all = absurd (cc)
 
   none_is_empty : (pss : List (List LocatedExpr)) → AllByRecursion Gives pss → list_any is_empty (map (low_parts run t) pss) ≡ false
   none_is_empty [] all = refl

@@ -37,27 +37,20 @@ in_both d ts e h = parentheses (token Open (codes "(")) (token Close (codes ")")
 negated_operand : (d : ℕ) (e : Expr) → ((k : ℕ) → depth factor e ≤ k → IsExpr factor k (spelling factor e) e) → depth_under_not e (depth factor e) ≤ d → IsExpr factor d (under_not e (spelling factor e)) e
 negated_operand zero (related op a b) read fits = absurd (omega arith)
 negated_operand (suc d) (related op a b) read fits = in_both d _ (related op a b) (one_and (one_factor (read d (omega arith))))
-negated_operand d (alone a) read fits = read d fits
-negated_operand d (negated e) read fits = read d fits
-negated_operand d (both a b) read fits = read d fits
-negated_operand d (either a b) read fits = read d fits
-negated_operand d (shown e) read fits = read d fits
+negated_operand d _ read fits = read d fits
 
 pub read : (l : Level) (d : ℕ) (e : Expr) → IsPlain e → depth l e ≤ d → IsExpr l d (spelling l e) e
 read l d (alone a) plain fits = at_level l d _ (alone a) (operand (operand_token a) plain refl)
 read l d (related op a b) plain fits = at_level l d _ (related op a b) (relation (operand_token a) (token (Relation op) (relation_text op)) (operand_token b) op plain.0 refl plain.1 refl)
-read l zero (negated e) plain fits = absurd (omega arith)
 read l (suc d) (negated e) plain fits = at_level l (suc d) _ (negated e) (negation (token Not (codes "!")) refl (negated_operand d e (λ k f. read factor k e plain f) (under _ d fits)) refl)
 read ors d (either a b) plain fits = more_ors (token Or (codes "||")) (read ors d a plain.0 (left_fits _ _ d fits)) refl (read ands d b plain.1 (right_fits _ _ d fits)) refl
 read ors d (both a b) plain fits = one_and (more_ands (token And (codes "&&")) (read ands d a plain.0 (left_fits _ _ d fits)) refl (read factor d b plain.1 (right_fits _ _ d fits)) refl)
 read ands d (both a b) plain fits = more_ands (token And (codes "&&")) (read ands d a plain.0 (left_fits _ _ d fits)) refl (read factor d b plain.1 (right_fits _ _ d fits)) refl
-read ands zero (either a b) plain fits = absurd (omega arith)
-read factor zero (either a b) plain fits = absurd (omega arith)
-read factor zero (both a b) plain fits = absurd (omega arith)
 read ands (suc d) (either a b) plain fits = one_factor (in_both d _ (either a b) (more_ors (token Or (codes "||")) (read ors d a plain.0 (left_fits _ _ d (under _ d fits))) refl (read ands d b plain.1 (right_fits _ _ d (under _ d fits))) refl))
 read factor (suc d) (either a b) plain fits = in_both d _ (either a b) (more_ors (token Or (codes "||")) (read ors d a plain.0 (left_fits _ _ d (under _ d fits))) refl (read ands d b plain.1 (right_fits _ _ d (under _ d fits))) refl)
 read factor (suc d) (both a b) plain fits = in_both d _ (both a b) (one_and (more_ands (token And (codes "&&")) (read ands d a plain.0 (left_fits _ _ d (under _ d fits))) refl (read factor d b plain.1 (right_fits _ _ d (under _ d fits))) refl))
 read l d (shown e) plain fits = absurd plain
+read _ zero _ plain fits = absurd (omega arith)
 
 pub read_back : SpelledIsReadBack
 read_back e plain = read ors (depth ors e) e plain (omega arith)

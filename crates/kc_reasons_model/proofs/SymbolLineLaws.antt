@@ -2,6 +2,7 @@
 use Rattle.std.proofs.Common.{◌≡◌, ℕ, Bool, true, false, cond, List, [], ◌∷◌, ◌++◌, map, filter, take, Option, Some, None, length, zero, suc, refl, sym, ◌∙◌, ap, length-append}
 use Rattle.std.specs.Prelude.{filter_map, flat_map, option_map, ◌+◌, bytes_eq}
 use Rattle.std.specs.List.{cons_option}
+use Rattle.std.proofs.lemmas.List.{map-append}
 use Rattle.kc_value.specs.declared.tri.Tri.{Tri}
 use Rattle.kc_expr.specs.Expr.{Expr, Environment}
 use Rattle.kc_tokens.specs.declared.language.Language.{Language}
@@ -18,10 +19,6 @@ use Rattle.kc_reasons_model.specs.Places.{LocatedContext, located_context, locat
 use Rattle.kc_reasons_model.specs.SymbolLines.{attribute_positions, position_of, target_named, target_positions}
 use Rattle.kc_reasons_model.specs.Laws.{LinesAreOfSymbol}
 use Rattle.kc_reasons_model.proofs.PlaceLaws.{prompts_located, dependencies_located}
-
-map_joined : {X Y : Type 0} (f : X → Y) (xs ys : List X) → map f (xs ++ ys) ≡ map f xs ++ map f ys
-map_joined f [] ys = refl
-map_joined f (x ∷ xs) ys = ap (λ zs. f x ∷ zs) (map_joined f xs ys)
 
 map_taken : {X Y : Type 0} (f : X → Y) (n : ℕ) (xs : List X) → map f (take n xs) ≡ take n (map f xs)
 map_taken f zero xs = refl
@@ -54,10 +51,10 @@ module _ (names : Environment) (t : Tri) (some : is_n t ≡ false) (language : L
       ≡ map (lacking_located names t) (flat_map (λ (p : GroupInContext). located_prompts (located_context_of language p) p.group) ps)
   prompts_of_groups [] = refl
   prompts_of_groups (p ∷ ps) =
-      map_joined (lacking names t) (prompts_of (context_of language p) p.group) (flat_map (λ (q : GroupInContext). prompts_of (context_of language q) q.group) ps)
+      map-append (lacking names t) (prompts_of (context_of language p) p.group) (flat_map (λ (q : GroupInContext). prompts_of (context_of language q) q.group) ps)
       ∙ ap (λ xs. xs ++ map (lacking names t) (flat_map (λ (q : GroupInContext). prompts_of (context_of language q) q.group) ps)) (prompts_of_lines p.opened p.group p.group.attributes)
       ∙ ap (λ xs. map (lacking_located names t) (located_prompts (located_context_of language p) p.group) ++ xs) (prompts_of_groups ps)
-      ∙ sym (map_joined (lacking_located names t) (located_prompts (located_context_of language p) p.group) (flat_map (λ (q : GroupInContext). located_prompts (located_context_of language q) q.group) ps))
+      ∙ sym (map-append (lacking_located names t) (located_prompts (located_context_of language p) p.group) (flat_map (λ (q : GroupInContext). located_prompts (located_context_of language q) q.group) ps))
 
   direct_of_groups : (ps : List GroupInContext)
       → map (lacking names t) (map (λ (p : GroupInContext). dependency_of (context_of language p) p.group) ps)

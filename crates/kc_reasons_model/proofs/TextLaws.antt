@@ -6,7 +6,7 @@ use Rattle.std.proofs.Math.ListN.{get_or}
 use Rattle.std.proofs.Math.Seq.{take-append_seam, drop-append_seam}
 use Rattle.std.proofs.lemmas.Bool.{and_parts, or_parts, cases_eq, ne_eqb, false≢true}
 use Rattle.std.proofs.lemmas.List.Sums.{take_while-cons}
-use Rattle.kc_value.specs.declared.tri.Tri.TheVariants.{N, M, Y}
+use Rattle.kc_value.specs.declared.tri.Tri.TheVariants.{N}
 use Rattle.kc_value.specs.QuotedTexts.{escaped_byte, quoted as quoted_spelling, IsBody, none, plain, pair}
 use Rattle.kc_tokens.specs.declared.language.Language.TheVariants.{Strict, Linux}
 use Rattle.kc_tokens.specs.declared.token.Relop.TheVariants.{Equal, NotEqual, Less, Greater, LessEqual, GreaterEqual}
@@ -172,11 +172,10 @@ abbrev EndsWord : List Lexeme → Type 0
 EndsWord us = is_word_byte (first (text_of_tokens us)) ≡ false
 
 operand_fits : (a : Operand) (us : List Lexeme) → IsLine a → EndsWord us → AreFit us → AreFit (operand_token a ∷ us)
-operand_fits (constant N) us is ends fit = ((omega arith, refl, ends), fit)
-operand_fits (constant M) us is ends fit = ((omega arith, refl, ends), fit)
-operand_fits (constant Y) us is ends fit = ((omega arith, refl, ends), fit)
 operand_fits (named x) us is ends fit = ((is.0, is.1, ends), fit)
 operand_fits (quoted x) us is ends fit = (quoted_token x is, fit)
+operand_fits (constant N) us is ends fit = ((omega arith, refl, ends), fit)
+operand_fits _ us is ends fit = ((omega arith, refl, ends), fit)
 
 -- an operand doesn't begin with `=`
 word_no_equal : (c : ℕ) → is_word_byte c ≡ true → (c == 61) ≡ false
@@ -186,20 +185,17 @@ word_no_equal c h = go (cases_eq c 61) where
   go (inr other) = ne_eqb c 61 other
 
 operand_begins : (a : Operand) (us : List Lexeme) → IsLine a → (first (text_of_tokens (operand_token a ∷ us)) == 61) ≡ false
-operand_begins (constant N) us is = refl
-operand_begins (constant M) us is = refl
-operand_begins (constant Y) us is = refl
 operand_begins (named []) us is = absurd (omega (arith, is.0))
 operand_begins (named (c ∷ cs)) us is = word_no_equal c (and_parts (is_word_byte c) (list_all is_word_byte cs) is.1).0
-operand_begins (quoted x) us is = refl
+operand_begins (constant N) us is = refl
+operand_begins _ us is = refl
 
 begins : (l : Level) (e : Expr) (us : List Lexeme) → HasLineOperands e → (first (text_of_tokens (spelling l e ++ us)) == 61) ≡ false
 begins l (alone a) us is = operand_begins a us is
 begins l (related op a b) us is = operand_begins a (token (Relation op) (relation_text op) ∷ (operand_token b ∷ us)) is.0
 begins l (negated e) us is = refl
 begins ors (either a b) us is = ap (λ ts. first (text_of_tokens ts) == 61) (append_assoc (spelling ors a) _ us) ∙ begins ors a _ is.0
-begins ands (either a b) us is = refl
-begins factor (either a b) us is = refl
+begins _ (either a b) us is = refl
 begins ors (both a b) us is = ap (λ ts. first (text_of_tokens ts) == 61) (append_assoc (spelling ands a) _ us) ∙ begins ands a _ is.0
 begins ands (both a b) us is = ap (λ ts. first (text_of_tokens ts) == 61) (append_assoc (spelling ands a) _ us) ∙ begins ands a _ is.0
 begins factor (both a b) us is = refl
@@ -215,20 +211,13 @@ joined_fit : (o : Lexeme) (ts us ws : List Lexeme) → IsFitToken o.kind o.text 
 joined_fit o ts us ws fits ends left right = subst AreFit (sym (append_assoc ts (o ∷ us) ws)) (left (o ∷ (us ++ ws)) ends (fits, right))
 
 under_not_begins : (e : Expr) (us : List Lexeme) → HasLineOperands e → (first (text_of_tokens (under_not e (spelling factor e) ++ us)) == 61) ≡ false
-under_not_begins (related op a b) us is = refl
 under_not_begins (alone a) us is = begins factor (alone a) us is
-under_not_begins (negated e) us is = refl
-under_not_begins (both a b) us is = refl
-under_not_begins (either a b) us is = refl
 under_not_begins (shown e) us is = begins factor e us is
+under_not_begins _ us is = refl
 
 under_not_fits : (e : Expr) (us : List Lexeme) → ((ws : List Lexeme) → EndsWord ws → AreFit ws → AreFit (spelling factor e ++ ws)) → EndsWord us → AreFit us → AreFit (under_not e (spelling factor e) ++ us)
 under_not_fits (related op a b) us inner ends fit = in_both_fit (spelling factor (related op a b)) us inner fit
-under_not_fits (alone a) us inner ends fit = inner us ends fit
-under_not_fits (negated e) us inner ends fit = inner us ends fit
-under_not_fits (both a b) us inner ends fit = inner us ends fit
-under_not_fits (either a b) us inner ends fit = inner us ends fit
-under_not_fits (shown e) us inner ends fit = inner us ends fit
+under_not_fits _ us inner ends fit = inner us ends fit
 
 fits : (l : Level) (e : Expr) → HasLineOperands e → (us : List Lexeme) → EndsWord us → AreFit us → AreFit (spelling l e ++ us)
 fits l (alone a) is us ends fit = operand_fits a us is ends fit
@@ -250,19 +239,14 @@ none_joined (t ∷ ts) us h k = (h.0, none_joined ts us h.1 k)
 
 operand_none : (a : Operand) → Placeless (operand_token a ∷ [])
 operand_none (constant t) = (refl, tt)
-operand_none (named x) = (refl, tt)
-operand_none (quoted x) = (refl, tt)
+operand_none _ = (refl, tt)
 
 both_none : (ts : List Lexeme) → Placeless ts → Placeless (in_parentheses ts)
 both_none ts h = (refl, none_joined ts (token Close (codes ")") ∷ []) h (refl, tt))
 
 under_none : (e : Expr) → Placeless (spelling factor e) → Placeless (under_not e (spelling factor e))
 under_none (related op a b) h = both_none (spelling factor (related op a b)) h
-under_none (alone a) h = h
-under_none (negated e) h = h
-under_none (both a b) h = h
-under_none (either a b) h = h
-under_none (shown e) h = h
+under_none _ h = h
 
 no_places : (l : Level) (e : Expr) → Placeless (spelling l e)
 no_places l (alone a) = operand_none a
