@@ -35,7 +35,7 @@ pub struct ExpandedTexts {
 
 /// The expansion of a tree below a folder, and the path of the file that couldn't be opened last, if that is known.
 #[derive(Drop)]
-struct ExpansionOutcome_spec {
+struct FolderExpansion {
     notices: Vec<MacroNotice>,
     tree: Result<ExpandedTree, MacroFault>,
     missing: Option<Vec<u8>>,
@@ -68,7 +68,7 @@ pub fn expanded_tree<F: Files, E: Messages>(
     ensures rising { F.failures files.old ≤ F.failures files.new }
 {
     let seed = files.seed();
-    let ExpansionOutcome_spec {
+    let FolderExpansion {
         notices,
         tree,
         missing,
@@ -109,7 +109,7 @@ fn expansion_below<F: Files>(
     first: &str,
     answers: &Answers,
     files: &mut F,
-) -> Result<ExpansionOutcome_spec, AllocError>
+) -> Result<FolderExpansion, AllocError>
     ensures same { (F.surroundings files.new).content ≡ (F.surroundings files.old).content }
     ensures expanded { IfOk result (λ e. IsCountedExpansion (contents_below (F.surroundings files.old) root.now) (F.failures files.old) (F.failures files.new) answers.now first.now (map notice_of e.notices.items) (tree_of e.tree)) }
     ensures rising { F.failures files.old ≤ F.failures files.new }
@@ -124,7 +124,7 @@ fn expansion_below<F: Files>(
         notices,
         tree: expanded,
     } = expand(alloc, &mut tree, first.as_bytes(), answers)?;
-    Ok(ExpansionOutcome_spec {
+    Ok(FolderExpansion {
         notices,
         tree: expanded,
         missing,

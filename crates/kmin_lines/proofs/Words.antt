@@ -51,10 +51,6 @@ lists_from lists used list there is =
     ∙ mapped_from (λ (list : Vec (Bor (List ℕ))). words_view list.items) lists used list there is
     ∙ ap (λ rest. words_view list.items ∷ rest) (sym (drop-map (λ (list : Vec (Bor (List ℕ))). words_view list.items) (used + 1) lists))
 
-module _ (word path : List ℕ) (lists : List (List (List ℕ))) (names : Some path ≡ file_of word) where
-
-module _ (word : List ℕ) (lists : List (List (List ℕ))) (plain : None ≡ file_of word) where
-
 -- words of a list are appended
 pub words_appended : (all old more list : List (Bor (List ℕ))) → all ≡ old ++ more → more ≡ list → words_view all ≡ words_view old ++ words_view list
 words_appended all old more list appended are =
