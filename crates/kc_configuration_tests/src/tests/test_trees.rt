@@ -54,14 +54,20 @@ fn insert(texts: &mut Texts, text: &[u8]) -> Result<(), AllocError> {
     Ok(())
 }
 
-/// Overrides a configuration with a configuration file. An `Err` means out of memory, or that the file isn't accepted.
-pub(crate) fn merged(
+/// Merges a configuration file into a configuration, or else replaces its assignment with it. An `Err` means out of memory, or that
+/// the file isn't accepted.
+pub(crate) fn changed_by(
     alloc: Global,
     config: &mut Config<'_>,
     file: &str,
+    is_merged: bool,
 ) -> Result<ChangedUnits, AllocError> {
     let fragment = fragment_of(alloc, config.settled(), file)?;
-    config.merge(&fragment)
+    if is_merged {
+        config.merge(&fragment)
+    } else {
+        config.replace(&fragment)
+    }
 }
 
 /// Overrides a configuration with a configuration file, at a second try if the first fails, which has to leave the configuration
@@ -89,7 +95,10 @@ pub(crate) fn fragment_twice(
 }
 
 /// Lays a fragment over a configuration. Where memory runs out at the first try, the configuration has to stay as it was.
-fn laid_over_itself(config: &mut Config<'_>, fragment: &Fragment) -> Result<ChangedUnits, AllocError>
+fn laid_over_itself(
+    config: &mut Config<'_>,
+    fragment: &Fragment,
+) -> Result<ChangedUnits, AllocError>
     requires { FitsTree (tree_in config.old) fragment.now.assigns.items }
 {
     and_drop!(before = twice!(config.copy()); laid_over(config, &before, fragment))
@@ -132,16 +141,6 @@ pub(crate) fn are_same(values: &[UnitValue], others: &[UnitValue]) -> bool {
             .iter()
             .zip(others)
             .all(|(value, other)| Settled::same(value, other))
-}
-
-/// Replaces a configuration with that of a configuration file. An `Err` means out of memory, or that the file isn't accepted.
-pub(crate) fn replaced(
-    alloc: Global,
-    config: &mut Config<'_>,
-    file: &str,
-) -> Result<ChangedUnits, AllocError> {
-    let fragment = fragment_of(alloc, config.settled(), file)?;
-    config.replace(&fragment)
 }
 
 fn fragment_of(alloc: Global, settled: &Settled, file: &str) -> Result<Fragment, AllocError>

@@ -1,5 +1,5 @@
 //! Configurations that are changed by files: what changes, and how many rules are evaluated.
-use super::test_trees::{fragment_twice, merged, replaced, settled};
+use super::test_trees::{changed_by, fragment_twice, settled};
 use kc_config::Config;
 use kc_dotconfig::Fragment;
 use kc_rules::{Profile, Settled};
@@ -88,12 +88,7 @@ const LAST: [Change; 1] = [Change {
 
 /// Whether a file changes what it should.
 fn is_made(alloc: Global, config: &mut Config<'_>, change: &Change) -> Result<bool, AllocError> {
-    let made = if change.is_merged {
-        merged(alloc, config, change.file)
-    } else {
-        replaced(alloc, config, change.file)
-    };
-    let report = made?;
+    let report = changed_by(alloc, config, change.file, change.is_merged)?;
     Ok(report.changed.as_slice() == change.changed && report.evaluated == change.evaluated)
 }
 
@@ -174,7 +169,7 @@ fn is_diamond_changed(alloc: Global) -> Result<bool, AllocError> {
 fn is_diamond_changed_in(alloc: Global, tree: &Settled) -> Result<bool, AllocError> {
     let mut config = twice!(Config::new(alloc, tree));
     let are_made = are_made(alloc, &mut config, &OF_THE_DIAMOND);
-    let is_refused = merged(alloc, &mut config, "CONFIG_A=n\n# x\nFOO=y\n").is_err();
+    let is_refused = changed_by(alloc, &mut config, "CONFIG_A=n\n# x\nFOO=y\n", true).is_err();
     let is_kept = is_y(&config, "A") && is_y(&config, "D");
     drop(config);
     Ok(are_made? && is_refused && is_kept)

@@ -112,14 +112,15 @@ fn ends_as(
     Ok(ended.status == status && is_written && ended.err.sink().bytes() == errors.as_bytes())
 }
 
-/// Passes a test if `check` holds over a disk with the files. Where an allocation is refused a run ends, so each test tries once
-/// more, over a new disk.
+/// The result of a test that passes if `check` holds over a disk with the files. Where an allocation is refused a run ends, so each
+/// test tries once more, over a new disk.
 macro_rules! holds_over_files {
     ($rt:expr, $check:ident $(, $given:expr)?) => {{
         let mut first = disk_with_files(&$rt)?;
         let mut second = disk_with_files(&$rt)?;
         let holds = $check(&$rt, &mut first $(, $given)?)? || $check(&$rt, &mut second $(, $given)?)?;
         assert!($rt; holds);
+        Ok(())
     }};
 }
 
@@ -137,8 +138,7 @@ fn lists_files(rt: &HostRuntime, disk: &mut MemoryDisk<'_>) -> Result<bool, Fail
 
 #[test]
 fn files_that_are_not_minimal_are_listed(rt: HostRuntime) -> Result<(), Fail> {
-    holds_over_files!(rt, lists_files);
-    Ok(())
+    holds_over_files!(rt, lists_files)
 }
 
 /// Whether files are replaced, and a second run leaves them as they are.
@@ -154,8 +154,7 @@ fn replaces_files(rt: &HostRuntime, disk: &mut MemoryDisk<'_>) -> Result<bool, F
 
 #[test]
 fn files_are_replaced_once(rt: HostRuntime) -> Result<(), Fail> {
-    holds_over_files!(rt, replaces_files);
-    Ok(())
+    holds_over_files!(rt, replaces_files)
 }
 
 /// Whether a file with a notice is refused where it would be written, and under `strict`.
@@ -171,8 +170,7 @@ fn refuses_notices(rt: &HostRuntime, disk: &mut MemoryDisk<'_>) -> Result<bool, 
 
 #[test]
 fn lines_with_notices_are_lost_if_asked(rt: HostRuntime) -> Result<(), Fail> {
-    holds_over_files!(rt, refuses_notices);
-    Ok(())
+    holds_over_files!(rt, refuses_notices)
 }
 
 /// Whether refused files stay as they are, the run goes on, and the first of them decides the status.
@@ -193,8 +191,7 @@ fn passes_refused_files(rt: &HostRuntime, disk: &mut MemoryDisk<'_>) -> Result<b
 
 #[test]
 fn the_first_refused_file_decides(rt: HostRuntime) -> Result<(), Fail> {
-    holds_over_files!(rt, passes_refused_files);
-    Ok(())
+    holds_over_files!(rt, passes_refused_files)
 }
 
 /// Whether a file stays where a call fails and has no line, and the run goes on to the next. The calls are a creation, three
@@ -216,7 +213,8 @@ fn goes_on_after(rt: &HostRuntime, disk: &mut MemoryDisk<'_>, calls: u64) -> Res
 #[test]
 fn each_call_of_the_disk_fails_in_turn(rt: HostRuntime) -> Result<(), Fail> {
     for calls in 0..7 {
-        holds_over_files!(rt, goes_on_after, calls);
+        let result: Result<(), Fail> = holds_over_files!(rt, goes_on_after, calls);
+        result?;
     }
     Ok(())
 }
@@ -233,8 +231,7 @@ fn ends_at_a_remaining_file(rt: &HostRuntime, disk: &mut MemoryDisk<'_>) -> Resu
 
 #[test]
 fn a_new_file_that_remains_ends_the_run(rt: HostRuntime) -> Result<(), Fail> {
-    holds_over_files!(rt, ends_at_a_remaining_file);
-    Ok(())
+    holds_over_files!(rt, ends_at_a_remaining_file)
 }
 
 /// Whether a run whose output can't be written has the status 5, and has replaced its files.
@@ -247,8 +244,7 @@ fn ends_at_a_failed_write(rt: &HostRuntime, disk: &mut MemoryDisk<'_>) -> Result
 
 #[test]
 fn a_failed_output_decides(rt: HostRuntime) -> Result<(), Fail> {
-    holds_over_files!(rt, ends_at_a_failed_write);
-    Ok(())
+    holds_over_files!(rt, ends_at_a_failed_write)
 }
 
 /// Whether a run over a file that isn't there and one that can't be read reports and counts both, and changes nothing.
@@ -261,6 +257,5 @@ fn counts_unread_files(rt: &HostRuntime, disk: &mut MemoryDisk<'_>) -> Result<bo
 
 #[test]
 fn unread_files_are_counted(rt: HostRuntime) -> Result<(), Fail> {
-    holds_over_files!(rt, counts_unread_files);
-    Ok(())
+    holds_over_files!(rt, counts_unread_files)
 }
