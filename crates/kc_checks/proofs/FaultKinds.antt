@@ -11,7 +11,6 @@ use Rattle.kc_value.specs.declared.value.Kind.{Kind}
 use Rattle.kc_expr.specs.between.Arena.{Exprs}
 use Rattle.kc_expr.specs.Expr.{modules as modules_name}
 use Rattle.kc_tree_model.specs.declared.fault.TreeKind.{TreeKind}
-use Rattle.kc_tree_model.specs.declared.fault.TreeKind.TheVariants.{SecondPrompt}
 use Rattle.kc_tree_model.specs.declared.fault.TreeFault.{TreeFault}
 use Rattle.kc_tree_model.specs.Statements.{Attribute, default_of, prompt_of}
 use Rattle.kc_tree_model.specs.Blocks.{Group, Line}
@@ -60,18 +59,7 @@ six false b c d e f j k l m n o = five b c d e f k l m n o
 -- whether a definition may follow that of a member
 added_one : (old : Exprs) (a : CodeAttribute) → is_added_code a ≡ is_added_attribute (attribute_in old a)
 added_one old (attributes.Typed k) = refl
-added_one old (attributes.TypedPrompt k c) = refl
-added_one old (attributes.TypedDefault k d) = refl
-added_one old (attributes.Prompt c) = refl
-added_one old (attributes.Default d) = refl
-added_one old (attributes.Depends id) = refl
-added_one old (attributes.Select s) = refl
-added_one old (attributes.Imply s) = refl
-added_one old (attributes.Range r) = refl
-added_one old (attributes.Visible id) = refl
-added_one old attributes.Help = refl
-added_one old attributes.Modules = refl
-added_one old attributes.Optional = refl
+added_one old x = refl
 
 added_all : (old : Exprs) (ls : List CodeLine) → list_all is_added_line ls ≡ list_all (λ (l : Line). is_added_attribute l.attribute) (map (line_in old) ls)
 added_all old [] = refl
@@ -108,10 +96,6 @@ pub typed_is : (c : Contents) (name : List ℕ) (k : Kind) (prompted is_modules 
     → is_wrong ≡ is_wrong_reverse_dependency c k a
     → typed_kind k prompted is_modules is_wrong a ≡ slice_get (attribute_faults c name (Some k) prompted a) 0
 typed_is c name k prompted is_modules is_wrong a m w = rw (m, w) (sym (six _ _ _ _ _ _ _ _ _ _ _ _))
-
-pub untyped_is : (c : Contents) (name : List ℕ) (prompted : Bool) (a : Attribute)
-    → slice_get (attribute_faults c name None prompted a) 0 ≡ cond (prompted && is_some (prompt_of a)) (Some SecondPrompt) None
-untyped_is c name prompted a = first_of_one (prompted && is_some (prompt_of a)) _
 
 -- the kind of fault found in an attribute of a choice is the first of the model's faults of the attribute
 pub choice_is : (members : List (List ℕ)) (prompted is_none : Bool) (a : Attribute) → is_none ≡ is_no_member members (default_of a)

@@ -306,9 +306,7 @@ nothing_reported language e names texts (codes.Menu t) c p h n m = other_first l
 nothing_reported language e names texts (codes.Condition id) c p h n m = other_first language c p _ h.1
 nothing_reported language e names texts (codes.Comment t) c p h n m = other_first language c p _ h.2
 nothing_reported language e names texts (codes.Source t) c p h n m = other_first language c p _ h.2
-nothing_reported language e names texts codes.Mainmenu c p h n m = other_first language c p _ h
-nothing_reported language e names texts (codes.Ends b) c p h n m = other_first language c p _ h
-nothing_reported language e names texts codes.FileEnd c p h n m = other_first language c p _ h
+nothing_reported language e names texts x c p h n m = other_first language c p _ h
 
 pub at_most_more : (b : Bool) (m n : ℕ) → m ≤ n → m ≤ cond b (n + 1) n
 at_most_more true m n h = omega arith

@@ -21,14 +21,11 @@ use Rattle.kc_checks.proofs.MissingPaths.{once_kept}
 source_shown : (exprs : Exprs) (names texts : List (List ℕ)) (c : CodeHead) (w : GroupHead) → RepresentsHead exprs names texts c w
     → path_in texts c ≡ from_head path_of_head w
 source_shown exprs names texts (codes.Config s) w h = sym (ap (from_head path_of_head) h.2)
-source_shown exprs names texts codes.Choice w h = sym (ap (from_head path_of_head) h)
 source_shown exprs names texts (codes.Menu t) w h = sym (ap (from_head path_of_head) h.2)
 source_shown exprs names texts (codes.Condition id) w h = sym (ap (from_head path_of_head) h.1)
 source_shown exprs names texts (codes.Comment t) w h = sym (ap (from_head path_of_head) h.2)
 source_shown exprs names texts (codes.Source t) w h = h.1 ∙ sym (ap (from_head path_of_head) h.2)
-source_shown exprs names texts codes.Mainmenu w h = sym (ap (from_head path_of_head) h)
-source_shown exprs names texts (codes.Ends b) w h = sym (ap (from_head path_of_head) h)
-source_shown exprs names texts codes.FileEnd w h = sym (ap (from_head path_of_head) h)
+source_shown exprs names texts x w h = sym (ap (from_head path_of_head) h)
 
 module _ (files : Files) (texts : List (List ℕ)) where
   -- the same with the newest first

@@ -13,7 +13,6 @@ use Rattle.kc_tree_model.proofs.ReadingLaws.TreesOfRelation.{reported_related, w
 use Rattle.kc_parser.specs.declared.listing.Listing.{Listing}
 use Rattle.kc_parser.specs.between.ListingView.{RepresentsListing}
 use Rattle.kc_parser.specs.between.MemoryFaults.{no_memory}
-use Rattle.kc_checks.specs.between.Summaries.{IsRepresented}
 use Rattle.kc_checks.specs.checker.MissingPaths.{is_absent}
 
 after_some : (language : Language) (o : Outcome) (f : TreeFault) → o.fault ≡ Some f → first_fault_after language o ≡ Some f
@@ -50,9 +49,6 @@ module _ (files : Files) (root : List ℕ) (l : Listing) (given : Option TreeFau
 
   pub shown_of_reading : given ≡ None → RepresentsListing l (reading files root).read
   shown_of_reading e = shown_by e read
-
-  pub of_reading : given ≡ None → IsRepresented l
-  of_reading e = record { read = (reading files root).read; shows = shown_of_reading e }
 
   -- if reading has no fault, the first fault of the files is the first of the checks on the whole tree
   pub reported_tree_fault : (o : Option TreeFault) → given ≡ None → o ≡ slice_get (tree_faults files.language (reading files root).read) 0

@@ -167,14 +167,11 @@ opened_is c e names texts codes.FileEnd g before n h number = closes c g before 
 pub begins_is : (e : Exprs) (names texts : List (List ℕ)) (what : CodeHead) (g : Group) → RepresentsHead e names texts what g.head
     → opens_choice g ≡ is_choice_code what
 begins_is e names texts (codes.Config s) g h = rw h.2 refl
-begins_is e names texts codes.Choice g h = rw h refl
 begins_is e names texts (codes.Menu t) g h = rw h.2 refl
 begins_is e names texts (codes.Condition id) g h = rw h.1 refl
 begins_is e names texts (codes.Comment t) g h = rw h.2 refl
 begins_is e names texts (codes.Source t) g h = rw h.2 refl
-begins_is e names texts codes.Mainmenu g h = rw h refl
-begins_is e names texts (codes.Ends b) g h = rw h refl
-begins_is e names texts codes.FileEnd g h = rw h refl
+begins_is e names texts x g h = rw h refl
 
 -- how many choices the first `i + 1` groups open
 pub counted : (read : List Group) (i : ℕ) (m : Group) (b : Bool) (n : ℕ) → read_before (i + 1) read ≡ m ∷ read_before i read → opens_choice m ≡ b

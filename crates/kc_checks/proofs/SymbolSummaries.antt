@@ -1,10 +1,8 @@
 -- The summaries of symbols.
-use Rattle.std.proofs.Common.{◌≡◌, ℕ, zero, suc, ◌+◌, ◌<◌, ◌≤◌, Bool, true, false, cond, List, [], ◌∷◌, ◌++◌, length, get_or, set, drop, map, filter, Option, Some, None, refl, ap, sym, ◌∙◌, arith, append-nil}
+use Rattle.std.proofs.Common.{◌≡◌, ℕ, zero, suc, Bool, true, false, cond, List, [], ◌∷◌, ◌++◌, set, map, filter, Option, Some, None, refl, ap, sym, ◌∙◌, arith, append-nil}
 use Rattle.std.specs.Prelude.{slice_get, filter_map, flat_map, option_map, bytes_eq, option_to_list, ◌==◌}
 use Rattle.std.specs.List.{cons_option}
 use Rattle.std.specs.Option.{option_or}
-use Rattle.std.proofs.Math.Seq.{drop-cons}
-use Rattle.std.proofs.lemmas.List.{drop_all}
 use Rattle.std.proofs.lemmas.Grind.{flat_map-append}
 use Rattle.std.proofs.lemmas.List.Elements.{filter-append}
 use Rattle.kc_value.specs.declared.value.Kind.{Kind}
@@ -150,22 +148,3 @@ pub types_of_lines : (e : Exprs) (ls : List CodeLine)
     ≡ filter_map (type_in e) ls
 types_of_lines e [] = refl
 types_of_lines e (l ∷ ls) = ap (cons_option (type_of (attribute_in e l.attribute))) (types_of_lines e ls)
-
--- the first of what elements give
-first_with : {Y : Type 0} (o : Option Y) (ys : List Y) → slice_get (cons_option o ys) 0 ≡ option_or o (slice_get ys 0)
-first_with None ys = refl
-first_with (Some y) ys = refl
-
-first_by : {X Y : Type 0} (f : X → Option Y) (x : X) (xs : List X) → slice_get (filter_map f (x ∷ xs)) 0 ≡ option_or (f x) (slice_get (filter_map f xs) 0)
-first_by f x xs = first_with (f x) (filter_map f xs)
-
-pub first_at : {X Y : Type 0} (f : X → Option Y) (xs : List X) (i : ℕ) (d : X) → i < length xs
-    → slice_get (filter_map f (drop i xs)) 0 ≡ option_or (f (get_or xs i d)) (slice_get (filter_map f (drop (i + 1) xs)) 0)
-first_at f xs i d h =
-    ap (λ ys. slice_get (filter_map f ys) 0) (drop-cons xs i d h)
-    ∙ first_by f (get_or xs i d) (drop (suc i) xs)
-    ∙ ap (λ n. option_or (f (get_or xs i d)) (slice_get (filter_map f (drop n xs)) 0)) (let e : suc i ≡ i + 1 = omega arith in e)
-
--- a filter of a list's elements from its end on gives nothing
-pub none_left : {X Y : Type 0} (f : X → Option Y) (xs : List X) (i : ℕ) → length xs ≤ i → slice_get (filter_map f (drop i xs)) 0 ≡ None
-none_left f xs i h = ap (λ ys. slice_get (filter_map f ys) 0) (drop_all i xs h)

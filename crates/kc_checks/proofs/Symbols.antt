@@ -1,5 +1,5 @@
 -- The symbols of a listing, and their summaries.
-use Rattle.std.proofs.Common.{◌≡◌, inl, inr, ℕ, ◌+◌, ◌<◌, Bool, true, false, cond, ◌||◌, not, List, [], ◌∷◌, ◌++◌, length, get_or, replicate, map, reverse, Option, Some, None, refl, ap, sym, subst, ◌∙◌, arith, append-nil}
+use Rattle.std.proofs.Common.{◌≡◌, inl, inr, ℕ, ◌+◌, ◌<◌, Bool, true, cond, List, [], ◌∷◌, ◌++◌, length, get_or, replicate, map, reverse, Option, Some, None, refl, ap, sym, subst, ◌∙◌, arith, append-nil}
 use Rattle.std.specs.Prelude.{slice_get, filter_map, flat_map, is_some, option_and_then, option_map, option_to_list}
 use Rattle.std.specs.List.{cons_option}
 use Rattle.std.proofs.lemmas.Grind.{flat_map-append}
@@ -7,15 +7,15 @@ use Rattle.std.proofs.lemmas.List.{length-map}
 use Rattle.std.proofs.lemmas.Option.{get_or_from_slice_get}
 use Rattle.kc_value.specs.declared.value.Kind.{Kind}
 use Rattle.kc_expr.specs.between.Arena.{Exprs}
-use Rattle.kc_expr.specs.Expr.{Expr, named, quoted, constant, alone}
+use Rattle.kc_expr.specs.Expr.{Expr, constant, alone}
 use Rattle.kc_expr.specs.Lookup.{index_of_name}
 use Rattle.kc_expr.specs.between.Names.{name_alone}
-use Rattle.kc_tree_model.specs.Statements.{Attribute, select, imply, DefaultAttribute, name_of_head, type_of}
+use Rattle.kc_tree_model.specs.Statements.{DefaultAttribute, name_of_head, type_of}
 use Rattle.kc_tree_model.specs.Blocks.{Group, Line, GroupHead, from_head, defined_name, open_blocks}
 use Rattle.kc_tree_model.specs.Conditions.{GroupInContext, group_in_context, groups_in_context, attribute_values}
 use Rattle.kc_tree_model.specs.Contents.{Contents, contents_of, bare_name, choice_number, choice_of_symbol, defines, definitions_of, member_named, name_among, type_given}
 use Rattle.kc_tree_model.specs.Limits.{names_defined}
-use Rattle.kc_tree_model.specs.TreeFaults.{kind_of, kind_or_bool, is_selectable, is_wrong_reverse_dependency}
+use Rattle.kc_tree_model.specs.TreeFaults.{kind_of, kind_or_bool, is_selectable}
 use Rattle.kc_value.specs.Kinds.{is_tri_kind}
 use Rattle.kc_tree_model.proofs.Consistency.Definitions.{defined}
 use Rattle.kc_tree_model.proofs.Consistency.Lists.{Has, Differ, at_most_once, has-at, get_below, has-filter, has-place, map-get, place-get, once-has, filter_map-has}
@@ -25,7 +25,6 @@ use Rattle.kc_parser.specs.declared.listing.Line.{Line as CodeLine}
 use Rattle.kc_parser.specs.declared.listing.GroupHead.{GroupHead as CodeHead}
 use Rattle.kc_parser.specs.declared.listing.GroupHead.TheVariants as codes
 use Rattle.kc_parser.specs.between.ListingView.{RepresentsGroups, RepresentsHead, line_in}
-use Rattle.kc_statements.specs.between.StatementViews.{target_of}
 use Rattle.kc_checks.specs.between.Summaries.{summary_in, symbol_summaries, choices_at, group_at, read_before, type_in}
 use Rattle.kc_checks.specs.declared.summary.SymbolSummary.{SymbolSummary}
 use Rattle.kc_checks.proofs.SymbolSummaries.{types_of_lines}
@@ -113,14 +112,11 @@ kind_is read name a e =
 pub nameless : (e : Exprs) (names texts : List (List ℕ)) (code : CodeHead) (w : GroupHead) → RepresentsHead e names texts code w
     → ((s : ℕ) → code ≡ codes.Config s → ⊥) → from_head name_of_head w ≡ None
 nameless e names texts (codes.Config s) w h n = absurd (n s refl)
-nameless e names texts codes.Choice w h n = ap (from_head name_of_head) h
 nameless e names texts (codes.Menu t) w h n = ap (from_head name_of_head) h.2
 nameless e names texts (codes.Condition id) w h n = ap (from_head name_of_head) h.1
 nameless e names texts (codes.Comment t) w h n = ap (from_head name_of_head) h.2
 nameless e names texts (codes.Source t) w h n = ap (from_head name_of_head) h.2
-nameless e names texts codes.Mainmenu w h n = ap (from_head name_of_head) h
-nameless e names texts (codes.Ends b) w h n = ap (from_head name_of_head) h
-nameless e names texts codes.FileEnd w h n = ap (from_head name_of_head) h
+nameless e names texts x w h n = ap (from_head name_of_head) h
 
 -- the symbols as they are kept
 module _ (read : List Group) (symbols : List SymbolSummary) (h : symbols ≡ symbol_summaries (contents_of read) (groups_in_context read)) where
@@ -136,34 +132,10 @@ module _ (read : List Group) (symbols : List SymbolSummary) (h : symbols ≡ sym
       get_or_from_slice_get symbols s _ d (ap (λ xs. slice_get xs s) h
       ∙ map-get (summary_in (contents_of read) (groups_in_context read)) (names_defined read) s name e)
 
--- an attribute with a target is wrong exactly if its symbol isn't bool or tristate, or the target can't be selected
-pub reverse_dependency_some : (c : Contents) (k : Kind) (a : Attribute) (x : List ℕ) → target_of a ≡ Some x
-    → is_wrong_reverse_dependency c k a ≡ (not (is_tri_kind k) || not (is_selectable c x))
-reverse_dependency_some c k (select s) x e = let same : s.name ≡ x = cc in ap (λ y. not (is_tri_kind k) || not (is_selectable c y)) same
-reverse_dependency_some c k (imply s) x e = let same : s.name ≡ x = cc in ap (λ y. not (is_tri_kind k) || not (is_selectable c y)) same
-reverse_dependency_some c k a x e = cc
-
-pub reverse_dependency_none : (c : Contents) (k : Kind) (a : Attribute) → target_of a ≡ None → is_wrong_reverse_dependency c k a ≡ false
-reverse_dependency_none c k (select s) e = cc
-reverse_dependency_none c k (imply s) e = cc
-reverse_dependency_none c k a e = refl
-
 -- `name_alone` and `bare_name` find the same name in an expression
 pub bare_is : (e : Expr) → name_alone e ≡ bare_name e
 bare_is (alone (constant t)) = refl
-bare_is (alone (named x)) = refl
-bare_is (alone (quoted x)) = refl
 bare_is e = refl
-
-pub several_name_none : (members : List (List ℕ)) (d : DefaultAttribute) → d.single ≡ false → is_some (member_named members d) ≡ false
-several_name_none members d e = ap (λ b. is_some (cond b (option_and_then (name_among members) (bare_name d.value)) None)) e
-
-no_member_named : (b : Bool) (members : List (List ℕ)) → is_some (cond b (option_and_then (name_among members) None) None) ≡ false
-no_member_named true members = refl
-no_member_named false members = refl
-
-pub no_name_none : (members : List (List ℕ)) (d : DefaultAttribute) → bare_name d.value ≡ None → is_some (member_named members d) ≡ false
-no_name_none members d e = ap (λ o. is_some (cond d.single (option_and_then (name_among members) o) None)) e ∙ no_member_named d.single members
 
 pub name_some : (members : List (List ℕ)) (d : DefaultAttribute) (x : List ℕ) → d.single ≡ true → bare_name d.value ≡ Some x
     → is_some (member_named members d) ≡ is_some (index_of_name x members)

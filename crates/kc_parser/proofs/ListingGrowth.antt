@@ -68,7 +68,6 @@ module _ (old new : Exprs) (grows : Grows old new) where
   bounded_kept d h = rw (operand_kept d.low h.0, operand_kept d.high h.1, if_kept d.condition h.2) refl
 
   attribute_kept : (a : CodeAttribute) → AttributeNodesExist old a → attribute_in new a ≡ attribute_in old a
-  attribute_kept (attributes.Typed k) h = refl
   attribute_kept (attributes.TypedPrompt k c) h = rw (if_kept c h) refl
   attribute_kept (attributes.TypedDefault k d) h = rw (valued_kept d h) refl
   attribute_kept (attributes.Prompt c) h = rw (if_kept c h) refl
@@ -78,12 +77,9 @@ module _ (old new : Exprs) (grows : Grows old new) where
   attribute_kept (attributes.Imply s) h = rw (target_kept s h) refl
   attribute_kept (attributes.Range r) h = rw (bounded_kept r h) refl
   attribute_kept (attributes.Visible id) h = rw (node_kept id h) refl
-  attribute_kept attributes.Help h = refl
-  attribute_kept attributes.Modules h = refl
-  attribute_kept attributes.Optional h = refl
+  attribute_kept x h = refl
 
   attribute_held : (a : CodeAttribute) → AttributeNodesExist old a → AttributeNodesExist new a
-  attribute_held (attributes.Typed k) h = tt
   attribute_held (attributes.TypedPrompt k c) h = if_held c h
   attribute_held (attributes.TypedDefault k d) h = (node_held d.value h.0, if_held d.condition h.1)
   attribute_held (attributes.Prompt c) h = if_held c h
@@ -93,9 +89,7 @@ module _ (old new : Exprs) (grows : Grows old new) where
   attribute_held (attributes.Imply s) h = target_held s h
   attribute_held (attributes.Range r) h = (operand_held r.low h.0, operand_held r.high h.1, if_held r.condition h.2)
   attribute_held (attributes.Visible id) h = node_held id h
-  attribute_held attributes.Help h = tt
-  attribute_held attributes.Modules h = tt
-  attribute_held attributes.Optional h = tt
+  attribute_held x h = tt
 
   pub lines_held : (lines : List CodeLine) → All (LineNodesExist old) lines → All (LineNodesExist new) lines
   lines_held lines h = λ k d i. attribute_held _ (h k d i)
@@ -107,14 +101,11 @@ module _ (old new : Exprs) (grows : Grows old new) where
   what_kept : (names ns texts ts : List (List ℕ)) (c : CodeHead) (w : GroupHead) → RepresentsHead old names texts c w
       → RepresentsHead new (names ++ ns) (texts ++ ts) c w
   what_kept names ns texts ts (codes.Config s) w h = (h.0, get_more names ns s h.0 h.1, h.2)
-  what_kept names ns texts ts codes.Choice w h = h
   what_kept names ns texts ts (codes.Menu t) w h = (h.0, get_more texts ts t h.0 h.1, h.2)
   what_kept names ns texts ts (codes.Condition id) w h = (node_held id h.0, rw (node_kept id h.0) h.1)
   what_kept names ns texts ts (codes.Comment t) w h = (h.0, get_more texts ts t h.0 h.1, h.2)
   what_kept names ns texts ts (codes.Source t) w h = (h.0, get_more texts ts t h.0 h.1, h.2)
-  what_kept names ns texts ts codes.Mainmenu w h = h
-  what_kept names ns texts ts (codes.Ends b) w h = h
-  what_kept names ns texts ts codes.FileEnd w h = h
+  what_kept names ns texts ts x w h = h
 
   range_kept : (lines ls : List CodeLine) (a end : ℕ) → a ≤ end → end ≤ length lines → slice_range (lines ++ ls) a end ≡ slice_range lines a end
   range_kept lines ls a end l e =

@@ -20,8 +20,7 @@ use Rattle.kc_parser.specs.checker.OpenBlockViews.{is_block, is_file, is_choice,
 
 block_choice : (b : Block) (l : ℕ) → is_choice (opens.Block b l) ≡ is_some_block blocks.Choice (Some b)
 block_choice blocks.Menu l = refl
-block_choice blocks.If l = refl
-block_choice blocks.Choice l = refl
+block_choice x l = refl
 
 choice_same : (texts : List (List ℕ)) (o : OpenBlock) (g : Group) → RepresentsOpenBlock texts o g → is_choice o ≡ opens_choice g
 choice_same texts (opens.Block b l) g h = rw h.0 (block_choice b l)

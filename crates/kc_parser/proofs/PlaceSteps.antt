@@ -38,28 +38,8 @@ no_blocks (g ∷ gs) = by_block (opened_block g) (no_blocks gs)
     by_block (Some x) ih = some_blocks (length (filter_map opened_block gs))
 
 pub allowed_is : (k : Keyword) (before : List Group) → is_allowed before k ≡ is_allowed_here before (place_of_keyword k) k
-allowed_is words.Config before = refl
-allowed_is words.Choice before = refl
-allowed_is words.Menu before = refl
-allowed_is words.If before = refl
-allowed_is words.Comment before = refl
-allowed_is words.Source before = refl
 allowed_is words.Mainmenu before = no_blocks (open_blocks 0 before)
-allowed_is (words.End b) before = refl
-allowed_is (words.Type k) before = refl
-allowed_is (words.DefaultType k) before = refl
-allowed_is words.Prompt before = refl
-allowed_is words.Default before = refl
-allowed_is words.Depends before = refl
-allowed_is words.Select before = refl
-allowed_is words.Imply before = refl
-allowed_is words.Range before = refl
-allowed_is words.Visible before = refl
-allowed_is words.Help before = refl
-allowed_is words.Modules before = refl
-allowed_is words.Option before = refl
-allowed_is words.Optional before = refl
-allowed_is words.LeftOut before = refl
+allowed_is x before = refl
 
 pub stray_is : (k : Keyword) (before : List Group) → is_stray_end before k ≡ is_stray_block before (block_ended k)
 stray_is (words.End b) before = refl
@@ -78,14 +58,11 @@ last_is (x ∷ xs) = last_by (x ∷ xs) (omega arith) x
 entry_same : (exprs : Exprs) (names texts : List (List ℕ)) (c : CodeHead) (w : GroupHead) → RepresentsHead exprs names texts c w
     → from_head opened_by w ≡ (entry_opened c)
 entry_same exprs names texts (codes.Config s) w h = rw h.2 refl
-entry_same exprs names texts codes.Choice w h = rw h refl
 entry_same exprs names texts (codes.Menu t) w h = rw h.2 refl
 entry_same exprs names texts (codes.Condition id) w h = rw h.1 refl
 entry_same exprs names texts (codes.Comment t) w h = rw h.2 refl
 entry_same exprs names texts (codes.Source t) w h = rw h.2 refl
-entry_same exprs names texts codes.Mainmenu w h = rw h refl
-entry_same exprs names texts (codes.Ends b) w h = rw h refl
-entry_same exprs names texts codes.FileEnd w h = rw h refl
+entry_same exprs names texts x w h = rw h refl
 
 entry_top : (exprs : Exprs) (names texts : List (List ℕ)) (lines : List CodeLine) (end : ℕ) (gs : List CodeGroup) (ms : List Group)
     → RepresentsGroups exprs names texts lines end gs ms → open_entry ms ≡ (entry_of_group (slice_get gs 0))

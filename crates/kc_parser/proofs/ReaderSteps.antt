@@ -5,7 +5,7 @@ use Rattle.kc_tokens.specs.declared.language.Language.{Language}
 use Rattle.kc_tree_model.specs.declared.fault.TreeFault.{TreeFault}
 use Rattle.kc_tree_model.specs.declared.fault.TreeKind.{TreeKind}
 use Rattle.kc_tree_model.specs.declared.fault.TreeKind.TheVariants.{OutOfMemory}
-use Rattle.kc_tree_model.specs.LogicalLines.{LogicalLine, logical_lines_from, physical_lines, begins_help, lines_of, help_line_count, first_indentation}
+use Rattle.kc_tree_model.specs.LogicalLines.{logical_lines_from, physical_lines, begins_help, lines_of, help_line_count, first_indentation}
 use Rattle.kc_tree_model.specs.Statements.{head, source}
 use Rattle.kc_tree_model.specs.declared.keyword.Block.{Block}
 use Rattle.kc_tree_model.specs.Blocks.{Group, file_end, innermost}
@@ -42,9 +42,6 @@ shown_of r p read d = d.shows
 
 module _ (r : FileSource) (sub : List ℕ → List Group → Outcome) (file : ℕ) (bytes : List ℕ) (at number : ℕ) (before : List Group) (text : List ℕ)
     (next lines : ℕ) (here : at < length bytes) (cut : IsLogicalAt bytes at text next lines) where
-  rest_of : Bool → List LogicalLine
-  rest_of b = logical_lines_from 0 (cond b (help_line_count (physical_lines (drop next bytes))) 0) (number + lines) (physical_lines (drop next bytes))
-
   -- the line at the front, and the lines after it
   front : left_from sub r file bytes at number before
       ≡ continue_after_line sub (read_lines sub r file (logical_lines_from 0 (cond (begins_help text) (help_line_count (physical_lines (drop next bytes))) 0)
@@ -132,12 +129,6 @@ pub all_left : (r : FileSource) (sub : List ℕ → List Group → Outcome) (fil
 unfolding lines_of
 all_left r sub file bytes before l d = record { now = before; describes = d; left = refl }
 
-pub left_more : (r : FileSource) (sub : List ℕ → List Group → Outcome) (file : ℕ) (bytes : List ℕ) (before : List Group) (old new : ReaderState)
-    (at number next lines : ℕ)
-    → (l : IsLeft r sub file bytes before old at number)
-    → IsOneRead r sub file bytes at number l.now new next lines → IsLeft r sub file bytes before new next (number + lines)
-left_more r sub file bytes before old new at number next lines l o = record { now = o.now; describes = o.describes; left = sym o.left ∙ l.left }
-
 ended_read : (file : ℕ) (read : List Group) (o : Option (Group × Block)) → (at_file_end file read o).read ≡ read
 ended_read file read None = refl
 ended_read file read (Some o) = refl
@@ -165,9 +156,6 @@ file_ended r sub file bytes before new at number (Err f) a b l h =
 
 -- a sourced file and its end
 module _ (r : FileSource) (sub : List ℕ → List Group → Outcome) (file line : ℕ) (path : List ℕ) (before : List Group) where
-  source_group : List Group
-  source_group = with_statement (at_line file line) (Some (head (source path))) before
-
   pub not_sourced : (new : ReaderState) (f : TreeFault) → AppendsSource r file line path before new (Err f)
       → ReturnsSourceRead r sub file line path before new (Err f)
   not_sourced new f (inl m) = inl m

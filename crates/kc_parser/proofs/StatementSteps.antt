@@ -66,24 +66,19 @@ shows_grown l arena before grows h = lists_grown _ arena _ _ _ [] _ _ _ before g
 early : (a b c : Bool) (kind : TreeKind) (rest : Result (Option Statement) TreeKind)
     → cond a (Some LeftOut) (cond b (Some Misplaced) (cond c (Some StrayEnd) None)) ≡ Some kind
     → (fault_if a LeftOut >>= λ _. fault_if b Misplaced >>= λ _. fault_if c StrayEnd >>= λ _. rest) ≡ Err kind
-early true b c kind rest e = cc
-early false true c kind rest e = cc
-early false false true kind rest e = cc
 early false false false kind rest e = cc
+early a b c kind rest e = cc
 
 late : (a b c : Bool) (rest : Result (Option Statement) TreeKind) → cond a (Some LeftOut) (cond b (Some Misplaced) (cond c (Some StrayEnd) None)) ≡ None
     → (fault_if a LeftOut >>= λ _. fault_if b Misplaced >>= λ _. fault_if c StrayEnd >>= λ _. rest) ≡ rest
-late true b c rest e = cc
-late false true c rest e = cc
-late false false true rest e = cc
 late false false false rest e = refl
+late a b c rest e = cc
 
 -- the limits after it
 limited : (a b : Bool) (s : Statement) (kind : TreeKind) → cond a (Some TooDeep) (cond b (Some TooMany) None) ≡ Some kind
     → (fault_if a TooDeep >>= λ _. fault_if b TooMany >>= λ _. Ok (Some s)) ≡ Err kind
-limited true b s kind e = cc
-limited false true s kind e = cc
 limited false false s kind e = cc
+limited a b s kind e = cc
 
 unlimited : (a b : Bool) (s : Statement) → cond a (Some TooDeep) (cond b (Some TooMany) None) ≡ None
     → (fault_if a TooDeep >>= λ _. fault_if b TooMany >>= λ _. Ok (Some s)) ≡ Ok (Some s)
