@@ -1,8 +1,7 @@
 -- Outcomes of programs: with more answers, with no open question, and in sequence.
-use Rattle.std.proofs.Common.{◌≡◌, ℕ, Bool, true, false, ◌||◌, cond, List, [], ◌++◌, Option, Some, None, Result, Ok, Err, refl, sym, ap, ◌∙◌, append_assoc}
-use Rattle.std.specs.Prelude.{nat_lt, ◌-◌, is_some}
-use Rattle.kc_macros_model.specs.declared.fault.MacroKind.TheVariants.{TooMany}
-use Rattle.kc_macros_model.specs.Programs.{Place, Fault, Answer, Event, spend, report, ask, read_file, find_file, list_folder, Reply, Program, returns, fails, stops, does, ◌>>=◌}
+use Rattle.std.proofs.Common.{◌≡◌, ℕ, Bool, true, false, ◌||◌, List, [], ◌++◌, Option, Some, None, Result, Ok, Err, refl, sym, ap, ◌∙◌, append_assoc, subst, ◌∷◌}
+use Rattle.std.specs.Prelude.{is_some}
+use Rattle.kc_macros_model.specs.Programs.{Place, Fault, Answer, Event, ask, read_file, find_file, list_folder, Reply, Program, returns, fails, stops, does, ◌>>=◌}
 use Rattle.kc_macros_model.specs.Worlds.{World, has_file, reply, notices_of, question_of, left_after, unless_unanswered, Ending, returned, failed, stopped, Outcome, after_event, unless_fault, outcome, without_answer}
 use Rattle.kc_macros_model.proofs.OpenQuestions.{first_open, first_answered}
 use Rattle.kc_macros_model.specs.ProgramLaws.{Extends, HasSameFiles, is_unanswered}
@@ -16,98 +15,91 @@ same_files {w = w} {more = more} same path =
 pub same_in_more : {w more : World} → Extends w more → HasSameFiles w more
 same_in_more ext = record { bytes = ext.bytes; unreadable = ext.unreadable; names = ext.names }
 
-module _ {A : Type 0} (w more : World) (ext : Extends w more) where
-  -- the second outcome is the same as the first, unless the first fails for want of an answer
-  abbrev SameIf : Outcome A → Outcome A → Type 0
-  SameIf o m = is_unanswered o.ending ≡ false → m ≡ o
+-- the outcome of a program after an event that leaves this much work
+pub outcome_after : {A : Type 0} (all : Bool) (w : World) (left n : ℕ) (e : Event) (k : Reply e → Program A) → left_after all w left e ≡ Ok n
+    → outcome all w left (does e k) ≡ after_event e (outcome all w n (k (reply w e)))
+outcome_after all w left n e k r = ap (λ x. unless_fault left x (λ m. after_event e (outcome all w m (k (reply w e))))) r
 
-  same_spent : (left : ℕ) (at : Place) (work : ℕ) (k : Unit {0} → Program A)
-      → ((n : ℕ) → SameIf (outcome true w n (k (tt {0}))) (outcome true more n (k (tt {0}))))
-      → SameIf (outcome true w left (does (spend at work) k)) (outcome true more left (does (spend at work) k))
-  same_spent left at work k ih = by_test (nat_lt left work)
+-- Two runs of a program, each in a world and with its own word on open questions, and what holds along the first, with the work left.
+module _ {A : Type 0} (a : Bool) (v : World) (b : Bool) (w : World) (G : ℕ → Program A → Type 0) where
+  -- an event of both runs leaves the same work, and the same rest of the program
+  abbrev pub Alike : (left : ℕ) (e : Event) → (Reply e → Program A) → Type 0
+  Alike left e k = (left_after b w left e ≡ left_after a v left e) × ((n : ℕ) → left_after a v left e ≡ Ok n → (k (reply w e) ≡ k (reply v e)) × G n (k (reply v e)))
+
+  event_alike : (left : ℕ) (e : Event) (k : Reply e → Program A) → ((n : ℕ) (r : Reply e) → G n (k r) → outcome b w n (k r) ≡ outcome a v n (k r))
+      → Alike left e k → outcome b w left (does e k) ≡ outcome a v left (does e k)
+  event_alike left e k ih (same, rest) =
+      ap (λ x. unless_fault left x (λ n. after_event e (outcome b w n (k (reply w e))))) same ∙ by_result (left_after a v left e) rest
     where
-      spent : World → Bool → Outcome A
-      spent v b = unless_fault left (cond b (Err (record { at = at; kind = TooMany; text = [] })) (Ok (left - work)))
-          (λ n. after_event (spend at work) (outcome true v n (k (tt {0}))))
+      by_result : (x : Result ℕ Fault) → ((n : ℕ) → x ≡ Ok n → (k (reply w e) ≡ k (reply v e)) × G n (k (reply v e)))
+          → unless_fault left x (λ n. after_event e (outcome b w n (k (reply w e)))) ≡ unless_fault left x (λ n. after_event e (outcome a v n (k (reply v e))))
+      by_result (Err f) h = refl
+      by_result (Ok n) h = let (s, g) = h n refl in ap (λ p. after_event e (outcome b w n p)) s ∙ ap (after_event e) (ih n (reply v e) g)
 
-      by_test : (b : Bool) → SameIf (spent w b) (spent more b)
-      by_test true h = refl
-      by_test false h = ap (after_event (spend at work)) (ih (left - work) h)
+  -- two runs have the same outcome if their events are alike
+  pub same_run : ((left : ℕ) (e : Event) (k : Reply e → Program A) → G left (does e k) → Alike left e k) → (left : ℕ) (p : Program A) → G left p
+      → outcome b w left p ≡ outcome a v left p
+  same_run alike left (returns x) g = refl
+  same_run alike left (fails f) g = refl
+  same_run alike left stops g = refl
+  same_run alike left (does e k) g = event_alike left e k (λ n r h. same_run alike n (k r) h) (alike left e k g)
 
-  same_answered : (left : ℕ) (at : Place) (question : List ℕ) (k : Option Answer → Program A)
-      → ((r : Option Answer) → SameIf (outcome true w left (k r)) (outcome true more left (k r)))
-      → SameIf (outcome true w left (does (ask at question) k)) (outcome true more left (does (ask at question) k))
-  same_answered left at question k ih = by_answer (w.answer question) refl
-    where
-      asked : World → Option Answer → Outcome A
-      asked v a = unless_fault left (unless_unanswered at question left a)
-          (λ n. after_event (ask at question) (outcome true v n (k a)))
+-- worlds of the same files reply alike to an event that asks nothing
+pub same_reply : {v w : World} → HasSameFiles v w → (e : Event) → question_of e ≡ [] → reply w e ≡ reply v e
+same_reply same (ask at question) n = absurd (let z : ⊥ = cc in z)
+same_reply same (read_file path) n = same.bytes path
+same_reply same (find_file path) n = same_files same path
+same_reply same (list_folder folder) n = same.names folder
+same_reply same e n = refl
 
-      by_answer : (a : Option Answer) → w.answer question ≡ a → SameIf (asked w a) (asked more (more.answer question))
-      by_answer None e h = absurd (let z : ⊥ = cc in z)
-      by_answer (Some a) e h = ap (asked more) (ext.answers question a e) ∙ ap (after_event (ask at question))
-          (ih (Some a) h)
+-- a program that doesn't fail for want of an answer has the same outcome in a world with more answers
+pub same_if_answered : {A : Type 0} (w more : World) → Extends w more → (left : ℕ) (p : Program A) → is_unanswered (outcome true w left p).ending ≡ false
+    → outcome true more left p ≡ outcome true w left p
+same_if_answered {A = A} w more ext = same_run true w true more G alike
+  where
+    G : ℕ → Program A → Type 0
+    G left p = is_unanswered (outcome true w left p).ending ≡ false
 
-  -- a program that doesn't fail for want of an answer has the same outcome in a world with more answers
-  pub same_if_answered : (left : ℕ) (p : Program A) → SameIf (outcome true w left p) (outcome true more left p)
-  same_if_answered left (returns x) h = refl
-  same_if_answered left (fails f) h = refl
-  same_if_answered left stops h = refl
-  same_if_answered left (does (report n) k) h = ap (after_event (report n)) (same_if_answered left (k (tt {0})) h)
-  same_if_answered left (does (read_file path) k) h =
-      ap (λ r. after_event (read_file path) (outcome true more left (k r))) (ext.bytes path) ∙ ap (after_event (read_file path))
-      (same_if_answered left (k (w.bytes path)) h)
-  same_if_answered left (does (find_file path) k) h =
-      ap (λ r. after_event (find_file path) (outcome true more left (k r))) (same_files (same_in_more ext) path) ∙ ap (after_event (find_file path))
-      (same_if_answered left (k (has_file w path)) h)
-  same_if_answered left (does (list_folder folder) k) h =
-      ap (λ r. after_event (list_folder folder) (outcome true more left (k r))) (ext.names folder)
-      ∙ ap (after_event (list_folder folder)) (same_if_answered left (k (w.names folder)) h)
-  same_if_answered left (does (spend at work) k) h = same_spent left at work k (λ n. same_if_answered n (k (tt {0}))) h
-  same_if_answered left (does (ask at question) k) h = same_answered left at question k (λ r. same_if_answered left (k r)) h
+    goes_on : (left n : ℕ) (e : Event) (k : Reply e → Program A) → left_after true w left e ≡ Ok n → is_unanswered (outcome true w left (does e k)).ending ≡ false
+        → G n (k (reply w e))
+    goes_on left n e k r g = subst (λ (o : Outcome A). is_unanswered o.ending ≡ false) (outcome_after true w left n e k r) g
 
-module _ {A : Type 0} (w : World) where
-  -- the second outcome is the same as the first, if the first has no open questions
-  abbrev Agree : Outcome A → Outcome A → Type 0
-  Agree o m = without_answer w o.questions ≡ [] → m ≡ o
+    by_answer : (left : ℕ) (at : Place) (question : List ℕ) (k : Option Answer → Program A) (r : Option Answer) → w.answer question ≡ r
+        → is_unanswered (outcome true w left (does (ask at question) k)).ending ≡ false → Alike true w true more G left (ask at question) k
+    by_answer left at question k None e g =
+        absurd (let z : true ≡ false = ap (λ r. is_unanswered (unless_fault left (unless_unanswered at question left r)
+        (λ n. after_event (ask at question) (outcome true w n (k (w.answer question))))).ending) (sym e) ∙ g in let y : ⊥ = cc in y)
+    by_answer left at question k (Some a) e g =
+        let same : more.answer question ≡ w.answer question = ext.answers question a e ∙ sym e in
+        (ap (unless_unanswered at question left) same, λ n r. (ap k same, goes_on left n (ask at question) k r g))
 
-  agree_spent : (left : ℕ) (at : Place) (work : ℕ) (k : Unit {0} → Program A)
-      → ((n : ℕ) → Agree (outcome false w n (k (tt {0}))) (outcome true w n (k (tt {0}))))
-      → Agree (outcome false w left (does (spend at work) k)) (outcome true w left (does (spend at work) k))
-  agree_spent left at work k ih = by_test (nat_lt left work)
-    where
-      spent : Bool → Bool → Outcome A
-      spent all b = unless_fault left (cond b (Err (record { at = at; kind = TooMany; text = [] })) (Ok (left - work)))
-          (λ n. after_event (spend at work) (outcome all w n (k (tt {0}))))
+    alike : (left : ℕ) (e : Event) (k : Reply e → Program A) → G left (does e k) → Alike true w true more G left e k
+    alike left (ask at question) k g = by_answer left at question k (w.answer question) refl g
+    alike left e k g = (refl, λ n r. (ap k (same_reply (same_in_more ext) e refl), goes_on left n e k r g))
 
-      by_test : (b : Bool) → Agree (spent false b) (spent true b)
-      by_test true h = refl
-      by_test false h = ap (after_event (spend at work)) (ih (left - work) h)
+-- a program that finds no open question has the same outcome whether or not open questions are faults
+pub same_if_none_open : {A : Type 0} (w : World) (left : ℕ) (p : Program A) → without_answer w (outcome false w left p).questions ≡ []
+    → outcome true w left p ≡ outcome false w left p
+same_if_none_open {A = A} w = same_run false w true w G alike
+  where
+    G : ℕ → Program A → Type 0
+    G left p = without_answer w (outcome false w left p).questions ≡ []
 
-  agree_asked : (left : ℕ) (at : Place) (question : List ℕ) (k : Option Answer → Program A)
-      → ((r : Option Answer) → Agree (outcome false w left (k r)) (outcome true w left (k r)))
-      → Agree (outcome false w left (does (ask at question) k)) (outcome true w left (does (ask at question) k))
-  agree_asked left at question k ih = by_answer (w.answer question) refl
-    where
-      after : Outcome A → Outcome A
-      after o = after_event (ask at question) o
+    by_answer : (left : ℕ) (at : Place) (question : List ℕ) (k : Option Answer → Program A) (r : Option Answer) → w.answer question ≡ r
+        → without_answer w (question ∷ (outcome false w left (k (w.answer question))).questions) ≡ [] → Alike false w true w G left (ask at question) k
+    by_answer left at question k None e g = absurd (first_open w question (outcome false w left (k (w.answer question))).questions e g)
+    by_answer left at question k (Some a) e g = (
+      ap (unless_unanswered at question left) e,
+      λ n r. (
+        refl,
+        let l : left ≡ n = cc in subst (λ m. without_answer w (outcome false w m (k (w.answer question))).questions ≡ []) l
+            (sym (first_answered w question (outcome false w left (k (w.answer question))).questions a e) ∙ g),
+      ),
+    )
 
-      by_answer : (a : Option Answer) → w.answer question ≡ a → Agree (after (outcome false w left (k a)))
-          (unless_fault left (unless_unanswered at question left a) (λ n. after (outcome true w n (k a))))
-      by_answer None e h = absurd (first_open w question (outcome false w left (k None)).questions e h)
-      by_answer (Some a) e h = ap after (ih (Some a) (sym (first_answered w question (outcome false w left (k (Some a))).questions a e) ∙ h))
-
-  -- a program that finds no open question has the same outcome whether or not open questions are faults
-  pub same_if_none_open : (left : ℕ) (p : Program A) → Agree (outcome false w left p) (outcome true w left p)
-  same_if_none_open left (returns x) h = refl
-  same_if_none_open left (fails f) h = refl
-  same_if_none_open left stops h = refl
-  same_if_none_open left (does (report n) k) h = ap (after_event (report n)) (same_if_none_open left (k (tt {0})) h)
-  same_if_none_open left (does (read_file path) k) h = ap (after_event (read_file path)) (same_if_none_open left (k (w.bytes path)) h)
-  same_if_none_open left (does (find_file path) k) h = ap (after_event (find_file path)) (same_if_none_open left (k (has_file w path)) h)
-  same_if_none_open left (does (list_folder folder) k) h = ap (after_event (list_folder folder)) (same_if_none_open left (k (w.names folder)) h)
-  same_if_none_open left (does (spend at work) k) h = agree_spent left at work k (λ n. same_if_none_open n (k (tt {0}))) h
-  same_if_none_open left (does (ask at question) k) h = agree_asked left at question k (λ r. same_if_none_open left (k r)) h
+    alike : (left : ℕ) (e : Event) (k : Reply e → Program A) → G left (does e k) → Alike false w true w G left e k
+    alike left (ask at question) k g = by_answer left at question k (w.answer question) refl g
+    alike left e k g = (refl, λ n r. (refl, subst (λ (o : Outcome A). without_answer w o.questions ≡ []) (outcome_after false w left n e k r) g))
 
 -- the outcome of two programs in sequence: an outcome, followed by that of the rest if it returned a value
 abbrev pub continued_by : {A B : Type 0} → Outcome A → Ending A → (ℕ → A → Outcome B) → Outcome B

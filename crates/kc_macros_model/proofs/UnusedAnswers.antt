@@ -1,19 +1,18 @@
 -- Answers that a tree doesn't use.
-use Rattle.std.proofs.Common.{◌≡◌, ℕ, Bool, true, false, ◌||◌, cond, List, [], ◌∷◌, ◌++◌, Option, Some, None, Ok, Err, refl, sym, ap, ◌∙◌}
-use Rattle.std.specs.Prelude.{nat_lt, ◌-◌, bytes_eq, filter, not, reverse}
+use Rattle.std.proofs.Common.{◌≡◌, ℕ, Bool, true, false, ◌||◌, cond, List, [], ◌∷◌, ◌++◌, Option, Some, None, Ok, refl, sym, ap, ◌∙◌, subst}
+use Rattle.std.specs.Prelude.{bytes_eq, filter, not, reverse}
 use mathlib.Core.List.{reverse-cons}
 use Rattle.std.proofs.lemmas.List.Folds.{list_any-append}
 use Rattle.std.proofs.lemmas.Slice.Eq.{bytes_eq-Decides}
 use Rattle.kc_tree_model.specs.Limits.{is_in_list, without_repeats}
 use Rattle.kc_value.specs.declared.limits.TheConstants.{MAX_WORK}
-use Rattle.kc_macros_model.specs.declared.fault.MacroKind.TheVariants.{TooMany}
-use Rattle.kc_macros_model.specs.Programs.{Place, Answer, spend, report, ask, read_file, find_file, list_folder, Program, returns, fails, stops, does}
+use Rattle.kc_macros_model.specs.Programs.{Place, Answer, Event, Reply, ask, Program, does}
 use Rattle.kc_macros_model.specs.ReadingStates.{ExpandedFile}
 use Rattle.kc_macros_model.specs.TreeExpansion.{tree_read}
-use Rattle.kc_macros_model.specs.Worlds.{World, has_file, unless_unanswered, Outcome, after_event, unless_fault, outcome, expansion, not_in, questions_once, if_all_answered, unused}
+use Rattle.kc_macros_model.specs.Worlds.{World, unless_unanswered, Outcome, outcome, expansion, not_in, questions_once, if_all_answered, unused}
 use Rattle.kc_macros_model.specs.ProgramLaws.{HasSameFiles}
 use Rattle.kc_macros_model.specs.TreeLaws.{UnusedAnswersChangeNothing}
-use Rattle.kc_macros_model.proofs.Outcomes.{same_files}
+use Rattle.kc_macros_model.proofs.Outcomes.{Alike, outcome_after, same_run, same_reply}
 
 or_true : (b : Bool) → (b || true) ≡ true
 or_true true = refl
@@ -62,55 +61,32 @@ absent_failing p x (y ∷ ys) e = by_tests (p y) (bytes_eq y x) refl refl (absen
 abbrev SameAnswers : World → World → List (List ℕ) → Type 0
 SameAnswers w less qs = (question : List ℕ) → is_in_list question qs ≡ true → less.answer question ≡ w.answer question
 
-module _ {A : Type 0} (w less : World) (same : HasSameFiles w less) where
-  spent_alike : (left : ℕ) (at : Place) (work : ℕ) (k : Unit {0} → Program A)
-      → ((n : ℕ) → SameAnswers w less (outcome false w n (k (tt {0}))).questions → outcome true less n (k (tt {0})) ≡ outcome true w n (k (tt {0})))
-      → SameAnswers w less (outcome false w left (does (spend at work) k)).questions
-      → outcome true less left (does (spend at work) k) ≡ outcome true w left (does (spend at work) k)
-  spent_alike left at work k ih = by_test (nat_lt left work)
-    where
-      spent : Bool → World → Bool → Outcome A
-      spent all v b = unless_fault left (cond b (Err (record { at = at; kind = TooMany; text = [] })) (Ok (left - work)))
-          (λ n. after_event (spend at work) (outcome all v n (k (tt {0}))))
+-- a program has the same outcome where the questions are answered alike that it asks where some may be open
+alike : {A : Type 0} (w less : World) → HasSameFiles w less → (left : ℕ) (p : Program A) → SameAnswers w less (outcome false w left p).questions
+    → outcome true less left p ≡ outcome true w left p
+alike {A = A} w less same = same_run true w true less G by_event
+  where
+    G : ℕ → Program A → Type 0
+    G left p = SameAnswers w less (outcome false w left p).questions
 
-      by_test : (b : Bool) → SameAnswers w less (spent false w b).questions → spent true less b ≡ spent true w b
-      by_test true h = refl
-      by_test false h = ap (after_event (spend at work)) (ih (left - work) h)
-
-  asked_alike : (left : ℕ) (at : Place) (question : List ℕ) (k : Option Answer → Program A)
-      → (SameAnswers w less (outcome false w left (k (w.answer question))).questions
-      → outcome true less left (k (w.answer question)) ≡ outcome true w left (k (w.answer question)))
-      → SameAnswers w less (question ∷ (outcome false w left (k (w.answer question))).questions)
-      → outcome true less left (does (ask at question) k) ≡ outcome true w left (does (ask at question) k)
-  asked_alike left at question k ih h =
-      let first : is_in_list question (question ∷ (outcome false w left (k (w.answer question))).questions) ≡ true =
-      ap (λ b. b || is_in_list question (outcome false w left (k (w.answer question))).questions) ((bytes_eq-Decides question question).1 refl) in
-      ap (asked less) (h question first) ∙ by_answer (w.answer question) (ih (λ q i. h q (ap (λ b. bytes_eq question q || b) i ∙ or_true (bytes_eq question q))))
-    where
-      asked : World → Option Answer → Outcome A
-      asked v a = unless_fault left (unless_unanswered at question left a) (λ n. after_event (ask at question) (outcome true v n (k a)))
-
-      by_answer : (a : Option Answer) → outcome true less left (k a) ≡ outcome true w left (k a) → asked less a ≡ asked w a
-      by_answer None e = refl
-      by_answer (Some a) e = ap (after_event (ask at question)) e
-
-  -- a program has the same outcome where the questions are answered alike that it asks where some may be open
-  pub alike : (left : ℕ) (p : Program A) → SameAnswers w less (outcome false w left p).questions → outcome true less left p ≡ outcome true w left p
-  alike left (returns x) h = refl
-  alike left (fails f) h = refl
-  alike left stops h = refl
-  alike left (does (report n) k) h = ap (after_event (report n)) (alike left (k (tt {0})) h)
-  alike left (does (read_file path) k) h =
-      ap (λ r. after_event (read_file path) (outcome true less left (k r))) (same.bytes path) ∙ ap (after_event (read_file path))
-      (alike left (k (w.bytes path)) h)
-  alike left (does (find_file path) k) h =
-      ap (λ r. after_event (find_file path) (outcome true less left (k r))) (same_files same path) ∙ ap (after_event (find_file path))
-      (alike left (k (has_file w path)) h)
-  alike left (does (list_folder folder) k) h =
-      ap (λ r. after_event (list_folder folder) (outcome true less left (k r))) (same.names folder) ∙ ap (after_event (list_folder folder))
-      (alike left (k (w.names folder)) h)
-  alike left (does (spend at work) k) h = spent_alike left at work k (λ n. alike n (k (tt {0}))) h
-  alike left (does (ask at question) k) h = asked_alike left at question k (alike left (k (w.answer question))) h
+    by_event : (left : ℕ) (e : Event) (k : Reply e → Program A) → G left (does e k) → Alike true w true less G left e k
+    by_event left (ask at question) k h =
+        let asked : List (List ℕ) = (outcome false w left (k (w.answer question))).questions in
+        let first : less.answer question ≡ w.answer question =
+        h question (ap (λ b. b || is_in_list question asked) ((bytes_eq-Decides question question).1 refl)) in (
+          ap (unless_unanswered at question left) first,
+          λ n r. (
+            ap k first,
+            subst (λ m. SameAnswers w less (outcome false w m (k (w.answer question))).questions)
+                (left_same at question (w.answer question) r) (λ q i. h q (ap (λ b. bytes_eq question q || b) i ∙ or_true (bytes_eq question q))),
+          ),
+        )
+      where
+        left_same : {left n : ℕ} (at : Place) (question : List ℕ) (a : Option Answer) → unless_unanswered at question left a ≡ Ok n → left ≡ n
+        left_same at question None r = absurd (let z : ⊥ = cc in z)
+        left_same at question (Some a) r = cc
+    by_event left e k h =
+        (refl, λ n r. (ap k (same_reply same e refl), subst (λ (o : Outcome A). SameAnswers w less o.questions) (outcome_after false w left n e k r) h))
 
 pub unused_changes_nothing : UnusedAnswersChangeNothing
 unfolding expansion unused
