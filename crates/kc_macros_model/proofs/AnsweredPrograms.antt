@@ -1,10 +1,8 @@
 -- Programs where each open question is a fault, and comparisons of the readings of a tree.
-use Rattle.std.proofs.Common.{◌≡◌, ℕ, Bool, true, false, cond, List, [], Option, Some, None, Ok, Err, refl, sym, subst, ap, ◌∙◌}
-use Rattle.std.specs.Prelude.{nat_lt, ◌-◌}
-use Rattle.kc_macros_model.specs.declared.fault.MacroKind.TheVariants.{TooMany}
-use Rattle.kc_macros_model.specs.Programs.{Place, Fault, Answer, Event, spend, report, ask, read_file, find_file, list_folder, Program, returns, fails, stops, does}
+use Rattle.std.proofs.Common.{◌≡◌, ℕ, Bool, true, false, List, [], Option, Some, None, Result, Ok, Err, refl, sym, subst, ap, ◌∙◌}
+use Rattle.kc_macros_model.specs.Programs.{Fault, Answer, Event, Reply, ask, Program, returns, fails, stops, does}
 use Rattle.kc_macros_model.specs.Variables.{value_of_answer}
-use Rattle.kc_macros_model.specs.Worlds.{World, has_file, unless_unanswered, question_of, Ending, returned, failed, Outcome, after_event, unless_fault, outcome}
+use Rattle.kc_macros_model.specs.Worlds.{World, reply, left_after, unless_unanswered, question_of, Ending, returned, failed, Outcome, after_event, unless_fault, outcome}
 use Rattle.kc_macros_model.specs.ProgramLaws.{Extends}
 use Rattle.kc_macros_model.proofs.OpenQuestions.{open_question, if_unanswered}
 use Rattle.kc_macros_model.proofs.CleanTexts.{clean_none, CleanAnswers}
@@ -24,37 +22,30 @@ module _ {A : Type 0} (w : World) (end : Ending A) (tells : Tells false end) whe
   no_fault : {X : Type 0} (f : Fault) → failed f ≡ end → X
   no_fault f e = absurd (subst (Tells false) (sym e) tells)
 
-  spent_ends : (left : ℕ) (at : Place) (work : ℕ) (k : Unit {0} → Program A) → ((n : ℕ) → Ended (outcome true w n (k (tt {0})))
-      → EndsAs w (Answered w) end (k (tt {0})))
-      → Ended (outcome true w left (does (spend at work) k)) → EndsAs w (Answered w) end (k (tt {0}))
-  spent_ends left at work k ih = by_test (nat_lt left work)
+  event_answered : (left n : ℕ) (e : Event) → left_after true w left e ≡ Ok n → Answered w e
+  event_answered left n (ask at question) r = by_answer (w.answer question) r
     where
-      by_test : (b : Bool) → Ended (unless_fault left (cond b (Err (record { at = at; kind = TooMany; text = [] })) (Ok (left - work)))
-          (λ n. after_event (spend at work) (outcome true w n (k (tt {0}))))) → EndsAs w (Answered w) end (k (tt {0}))
-      by_test true e = no_fault (record { at = at; kind = TooMany; text = [] }) e
-      by_test false e = ih (left - work) e
+      by_answer : (a : Option Answer) → unless_unanswered at question left a ≡ Ok n → if_unanswered question a ≡ []
+      by_answer None r = absurd (let z : ⊥ = cc in z)
+      by_answer (Some a) r = refl
+  event_answered left n e r = refl
 
-  asked_ends : (left : ℕ) (at : Place) (question : List ℕ) (k : Option Answer → Program A)
-      → ((r : Option Answer) → Ended (outcome true w left (k r)) → EndsAs w (Answered w) end (k r))
-      → Ended (outcome true w left (does (ask at question) k)) → EndsAs w (Answered w) end (does (ask at question) k)
-  asked_ends left at question k ih = by_answer (w.answer question)
+  event_ends : (left : ℕ) (e : Event) (k : Reply e → Program A)
+      → ((n : ℕ) → Ended (outcome true w n (k (reply w e))) → EndsAs w (Answered w) end (k (reply w e)))
+      → Ended (outcome true w left (does e k)) → EndsAs w (Answered w) end (does e k)
+  event_ends left e k ih = by_result (left_after true w left e) refl
     where
-      by_answer : (a : Option Answer) → Ended (unless_fault left (unless_unanswered at question left a)
-          (λ n. after_event (ask at question) (outcome true w n (k a)))) → (if_unanswered question a ≡ []) × EndsAs w (Answered w) end (k a)
-      by_answer None e = no_fault _ e
-      by_answer (Some a) e = (refl, ih (Some a) e)
+      by_result : (x : Result ℕ Fault) → left_after true w left e ≡ x → Ended (unless_fault left x (λ n. after_event e (outcome true w n (k (reply w e)))))
+          → EndsAs w (Answered w) end (does e k)
+      by_result (Err f) r h = no_fault f h
+      by_result (Ok n) r h = (event_answered left n e r, ih n h)
 
   -- a program whose outcome is a value or a stop, where open questions are faults, ends so and asks no open question
   pub job_ends : (left : ℕ) (p : Program A) → Ended (outcome true w left p) → EndsAs w (Answered w) end p
-  job_ends left (returns x) e = e
-  job_ends left (fails f) e = e
-  job_ends left stops e = e
-  job_ends left (does (report n) k) e = (refl, job_ends left (k (tt {0})) e)
-  job_ends left (does (read_file path) k) e = (refl, job_ends left (k (w.bytes path)) e)
-  job_ends left (does (find_file path) k) e = (refl, job_ends left (k (has_file w path)) e)
-  job_ends left (does (list_folder folder) k) e = (refl, job_ends left (k (w.names folder)) e)
-  job_ends left (does (spend at work) k) e = (refl, spent_ends left at work k (λ n. job_ends n (k (tt {0}))) e)
-  job_ends left (does (ask at question) k) e = asked_ends left at question k (λ r. job_ends left (k r)) e
+  job_ends left (returns x) h = h
+  job_ends left (fails f) h = h
+  job_ends left stops h = h
+  job_ends left (does e k) h = event_ends left e k (λ n. job_ends n (k (reply w e))) h
 
 -- where texts may have newlines, each text fits
 pub no_need : {A : Type 0} → true ≡ false → A

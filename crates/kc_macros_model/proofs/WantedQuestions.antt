@@ -1,16 +1,15 @@
 -- A question that is wanted is needed.
-use Rattle.std.proofs.Common.{◌≡◌, ℕ, Bool, true, false, ◌||◌, cond, List, [], ◌∷◌, ◌++◌, Option, Some, None, Ok, Err, refl, sym, ap, ◌∙◌}
-use Rattle.std.specs.Prelude.{nat_lt, ◌-◌, bytes_eq, is_none, reverse}
+use Rattle.std.proofs.Common.{◌≡◌, ℕ, Bool, true, false, ◌||◌, cond, List, [], ◌∷◌, ◌++◌, Option, Some, None, Result, Ok, Err, refl, sym, ap, ◌∙◌}
+use Rattle.std.specs.Prelude.{bytes_eq, is_none, reverse}
 use mathlib.Core.List.{reverse-cons}
 use Rattle.std.proofs.lemmas.List.Folds.{list_any-append}
 use Rattle.std.proofs.lemmas.Slice.Eq.{bytes_eq-Decides}
 use Rattle.kc_tree_model.specs.Limits.{is_in_list, without_repeats}
-use Rattle.kc_macros_model.specs.declared.fault.MacroKind.TheVariants.{TooMany}
 use Rattle.kc_value.specs.declared.limits.TheConstants.{MAX_WORK}
-use Rattle.kc_macros_model.specs.Programs.{Place, Answer, spend, report, ask, read_file, find_file, list_folder, Program, returns, fails, stops, does}
+use Rattle.kc_macros_model.specs.Programs.{Fault, Answer, Event, ask, Program, returns, fails, stops, does}
 use Rattle.kc_macros_model.specs.ReadingStates.{ExpandedFile}
 use Rattle.kc_macros_model.specs.TreeExpansion.{tree_read}
-use Rattle.kc_macros_model.specs.Worlds.{World, has_file, Ending, returned, failed, stopped, Outcome, after_event, unless_fault, outcome, expansion, questions_or_fault, without_answer, questions_once, wanted}
+use Rattle.kc_macros_model.specs.Worlds.{reply, left_after, World, Ending, returned, failed, stopped, Outcome, after_event, unless_fault, outcome, expansion, questions_or_fault, without_answer, questions_once, wanted}
 use Rattle.kc_macros_model.proofs.OpenQuestions.{absent_filtered}
 use Rattle.kc_macros_model.specs.ProgramLaws.{Extends}
 use Rattle.kc_macros_model.specs.TreeLaws.{WantedIsNeeded}
@@ -28,15 +27,6 @@ module _ {A : Type 0} (w more : World) (ext : Extends w more) (question : List �
   abbrev Without : Outcome A → Type 0
   Without o = is_in_list question o.questions ≡ false
 
-  spared_spent : (left : ℕ) (at : Place) (work : ℕ) (k : Unit {0} → Program A) → ((n : ℕ) → Without (outcome false w n (k (tt {0}))))
-      → Without (outcome false w left (does (spend at work) k))
-  spared_spent left at work k ih = by_test (nat_lt left work)
-    where
-      by_test : (b : Bool) → Without (unless_fault left (cond b (Err (record { at = at; kind = TooMany; text = [] })) (Ok (left - work)))
-          (λ n. after_event (spend at work) (outcome false w n (k (tt {0})))))
-      by_test true = refl
-      by_test false = ih (left - work)
-
   -- the question has no answer in the world with fewer answers
   none_before : w.answer question ≡ None
   none_before = by_answer (w.answer question) refl
@@ -45,24 +35,25 @@ module _ {A : Type 0} (w more : World) (ext : Extends w more) (question : List �
       by_answer None e = e
       by_answer (Some a) e = absurd (let z : Some a ≡ None = sym (ext.answers question a e) ∙ unanswered in let y : ⊥ = cc in y)
 
-  spared_asked : (left : ℕ) (at : Place) (other : List ℕ) (k : Option Answer → Program A) → (w.answer other ≡ None → other ≡ question → ⊥)
-      → Without (outcome false w left (k (w.answer other))) → Without (outcome false w left (does (ask at other) k))
-  spared_asked left at other k h ih = by_same (bytes_eq other question) refl (outcome false w left (k (w.answer other))) ih
+  spared_event : (e : Event) (o : Outcome A) → Spares w question e → Without o → Without (after_event e o)
+  spared_event (ask at other) o h i = by_same (bytes_eq other question) refl
     where
-      by_same : (b : Bool) → bytes_eq other question ≡ b → (o : Outcome A) → Without o → (b || is_in_list question o.questions) ≡ false
-      by_same true e o i = let s = (bytes_eq-Decides other question).0 e in absurd (h (ap w.answer s ∙ none_before) s)
-      by_same false e o i = i
+      by_same : (b : Bool) → bytes_eq other question ≡ b → (b || is_in_list question o.questions) ≡ false
+      by_same true e = let s = (bytes_eq-Decides other question).0 e in absurd (h (ap w.answer s ∙ none_before) s)
+      by_same false e = i
+  spared_event e o h i = i
+
+  spared_result : (left : ℕ) (e : Event) (rest : ℕ → Outcome A) → Spares w question e → ((n : ℕ) → Without (rest n)) → (x : Result ℕ Fault)
+      → Without (unless_fault left x (λ n. after_event e (rest n)))
+  spared_result left e rest h i (Err f) = refl
+  spared_result left e rest h i (Ok n) = spared_event e (rest n) h (i n)
 
   pub spared_questions : (left : ℕ) (p : Program A) → Spared p → Without (outcome false w left p)
   spared_questions left (returns x) h = refl
   spared_questions left (fails f) h = refl
   spared_questions left stops h = refl
-  spared_questions left (does (report n) k) h = spared_questions left (k (tt {0})) h.2
-  spared_questions left (does (read_file path) k) h = spared_questions left (k (w.bytes path)) h.2
-  spared_questions left (does (find_file path) k) h = spared_questions left (k (has_file w path)) h.2
-  spared_questions left (does (list_folder folder) k) h = spared_questions left (k (w.names folder)) h.2
-  spared_questions left (does (spend at work) k) h = spared_spent left at work k (λ n. spared_questions n (k (tt {0})) h.2)
-  spared_questions left (does (ask at other) k) h = spared_asked left at other k h.0 (spared_questions left (k (w.answer other)) h.2)
+  spared_questions left (does e k) h =
+      spared_result left e (λ n. outcome false w n (k (reply w e))) h.0 (λ n. spared_questions n (k (reply w e)) h.2) (left_after false w left e)
 
 -- a list without repeats has no more, and neither has one turned around
 not_in_reverse : (x : List ℕ) (xs : List (List ℕ)) → is_in_list x xs ≡ false → is_in_list x (reverse xs) ≡ false
