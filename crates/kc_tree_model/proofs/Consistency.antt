@@ -11,7 +11,6 @@ pub mod Units
 pub mod Numbers
 pub mod Entries
 pub mod TitledLines
-pub mod Titles
 pub mod EntryTitles
 pub mod FewLines
 pub mod NameLimits

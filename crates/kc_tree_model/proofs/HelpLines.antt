@@ -6,7 +6,7 @@ use Rattle.kc_tokens.specs.declared.language.Language.{Language}
 use Rattle.kc_tokens.specs.declared.language.Language.TheVariants.{Strict, Linux}
 use Rattle.kc_tokens.specs.declared.language.LinuxVersion.{LinuxVersion}
 use Rattle.kc_tokens.specs.declared.token.TokenKind.{TokenKind}
-use Rattle.kc_tokens.specs.declared.token.TokenKind.TheVariants.{Word, Quoted, Relation, Not, And, Or, Open, Close}
+use Rattle.kc_tokens.specs.declared.token.TokenKind.TheVariants.{Word, Quoted}
 use Rattle.kc_expr.proofs.Languages.{AllKinds, IsUnquoted, unquoted_line, strict_in_linux}
 use Rattle.kc_tree_model.specs.Keywords.{keyword_of}
 use Rattle.kc_tree_model.specs.LogicalLines.{is_help, is_help_word, is_help_or_fault, begins_help_in, begins_help}

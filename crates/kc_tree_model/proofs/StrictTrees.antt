@@ -25,7 +25,7 @@ use Rattle.kc_tree_model.specs.Trees.{in_language}
 use Rattle.kc_tree_model.specs.TreeFiles.{Files, file_at, index_of_file}
 use Rattle.kc_tree_model.specs.LogicalLines.{LogicalLine, lines_of}
 use Rattle.kc_tree_model.specs.Keywords.{keyword_of, is_quoted_kind, is_the_word}
-use Rattle.kc_tree_model.specs.Statements.{config, choice, menu, condition, comment, source, mainmenu, ends, Statement}
+use Rattle.kc_tree_model.specs.Statements.{config, Statement}
 use Rattle.kc_tree_model.specs.Forms.{statement_of, ◌>>=◌}
 use Rattle.kc_tree_model.specs.Blocks.{Group, GroupHead, Position, of_head, file_end}
 use Rattle.kc_tree_model.specs.Placement.{first_is, is_allowed, is_left_out, is_stray_end}

@@ -1,12 +1,10 @@
 -- The definitions of a tree without a fault, and what is known of its contents.
 use Rattle.std.proofs.Common.{◌≡◌, ◌⊎◌, inl, inr, ℕ, Bool, true, false, not, ◌&&◌, ◌||◌, List, [], ◌∷◌, ◌++◌, Option, Some, None, refl, ap, sym, ◌∙◌, subst, map, filter}
 use Rattle.std.specs.List.{list_all}
-use Rattle.std.specs.Prelude.{slice_get, filter_map, flat_map, unwrap_or, is_some, is_none, bytes_eq, ◌==◌}
+use Rattle.std.specs.Prelude.{slice_get, filter_map, flat_map, is_some, is_none, bytes_eq, ◌==◌}
 use Rattle.std.proofs.lemmas.Bool.{eqb-true}
 use Rattle.kc_tokens.specs.declared.language.Language.{Language}
 use Rattle.kc_tokens.specs.declared.language.Language.TheVariants.{Strict, Linux}
-use Rattle.kc_value.specs.declared.value.Kind.{Kind}
-use Rattle.kc_value.specs.declared.value.Kind.TheVariants.{Bool as Boolean, Tristate, Text, Int, Hex}
 use Rattle.kc_tree_model.specs.declared.fault.TreeKind.{TreeKind}
 use Rattle.kc_tree_model.specs.declared.fault.TreeKind.TheVariants.{ChoiceMember}
 use Rattle.kc_tree_model.specs.declared.fault.TreeFault.{TreeFault}
@@ -18,7 +16,7 @@ use Rattle.kc_tree_model.specs.Conditions.{GroupInContext}
 use Rattle.kc_tree_model.specs.Contents.{Contents, contents_of, defines, first_definition, type_given, choice_of_symbol, symbol_of, choice_of, is_first_definition, choice_of_first_definition, unit_of_head}
 use Rattle.kc_tree_model.specs.TreeFaults.{when, is_no_member_kind, is_added_attribute, is_addition, is_same_choice, may_follow_member, definition_faults, faults_of_head, faults_of_group}
 use Rattle.kc_tree_model.proofs.Consistency.Lists.{Has, has-filter_map, filter_map-has, same_text, text_same, Differ, has-once, once-has, Differ-once}
-use Rattle.kc_tree_model.proofs.Consistency.Places.{IsWord, NamesWord, AreValues, values_of_group, IsRead, group-placed, placed-group, word_of_group, NumbersDiffer, numbers_differ, choice_read, what_of_name}
+use Rattle.kc_tree_model.proofs.Consistency.Places.{IsWord, NamesWord, AreValues, IsRead, read_after, group-placed, placed-group, NumbersDiffer, numbers_differ, choice_read, what_of_name}
 
 -- if two lists joined are empty, each of them is empty
 pub nothing_left : {A : Type 0} (xs ys : List A) → xs ++ ys ≡ [] → (xs ≡ []) × (ys ≡ [])
@@ -170,13 +168,14 @@ sound_contents read r = record {
   names = Differ-once (filter_map defined_name read);
   words = λ name h.
       let g = has-filter_map defined_name read name (has-once name (filter_map defined_name read) h) in
-      subst NamesWord (what_of_name g.0.head name g.2) (word_of_group g.0 read r g.1);
+      let after = read_after g.0 read r g.1 in
+      subst NamesWord (what_of_name g.0.head name g.2) after.1.word;
   defined_once = λ name h.
       let g = has-filter_map defined_name read name (has-once name (filter_map defined_name read) h) in
       let p = placed-group g.0 read g.1 in
       (p.0, p.1, ap defined_name p.2 ∙ g.2);
   named = λ p name h e. once-has name (filter_map defined_name read) (filter_map-has defined_name read p.group name (group-placed p read h) e);
-  values = λ p h. values_of_group p.group read r (group-placed p read h);
+  values = λ p h. (let after = read_after p.group read r (group-placed p read h) in after.1.values);
   choices = refl;
   choice_there = λ p n h e. choice_read p read n h e;
 }

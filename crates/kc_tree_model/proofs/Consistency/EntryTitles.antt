@@ -6,16 +6,15 @@ use Rattle.kc_expr.specs.Expr.{Expr}
 use Rattle.kc_tree_model.specs.Trees.{Entry, definition, choice_begins, menu_begins, menu_ends}
 use Rattle.kc_tree_model.specs.TreeLookup.{title_of_entry}
 use Rattle.kc_tree_model.specs.TreeFiles.{Files}
-use Rattle.kc_tree_model.specs.Statements.{config, choice, menu, condition, comment, source, mainmenu, ends, title_of_head}
+use Rattle.kc_tree_model.specs.Statements.{config, choice, menu, comment, ends, title_of_head}
 use Rattle.kc_tree_model.specs.declared.keyword.Block.TheVariants as blocks
-use Rattle.kc_tree_model.specs.Blocks.{Group, GroupHead, of_head, file_end, from_head, open_blocks}
+use Rattle.kc_tree_model.specs.Blocks.{Group, GroupHead, of_head, from_head, open_blocks}
 use Rattle.kc_tree_model.specs.Conditions.{GroupInContext, group_in_context, groups_in_context}
 use Rattle.kc_tree_model.specs.TreeReading.{reading}
 use Rattle.kc_tree_model.specs.Contents.{Contents, contents_of, entry_of_head, menu_end_of, tree_of_groups, tree_of_files}
 use Rattle.kc_tree_model.proofs.Consistency.TitledLines.{title_in}
 use Rattle.kc_tree_model.proofs.Consistency.Lists.{Has, has-at, has-append, has-filter_map}
-use Rattle.kc_tree_model.proofs.Consistency.Places.{group-placed, has-open_blocks}
-use Rattle.kc_tree_model.proofs.Consistency.Titles.{IsPlain, titles_plain, plain_of_group}
+use Rattle.kc_tree_model.proofs.Consistency.Places.{IsPlain, is_read, read_after, group-placed, has-open_blocks}
 use Rattle.kc_tree_model.proofs.Consistency.PlainTexts.{IsPlainText}
 
 -- an open block was read
@@ -71,8 +70,8 @@ unfolding tree_of_files tree_of_groups
 entry_titles_plain files root k e title at told =
     let read = (reading files root).read in
     let c = contents_of (reading files root).read in
-    let plain = titles_plain files root in
+    let plain : (g : Group) → Has g read → IsPlain g.head = λ g h. (let after = read_after g read (is_read files root) h in after.1.title) in
     let from = has-filter_map (λ (p : GroupInContext). from_head (entry_of_head files.language (contents_of (reading files root).read) p) p.group.head) c.places e
     (has-at e _ k at) in
-    entry_plain _ c from.0 from.0.group.head refl (plain_of_group from.0.group read plain (group-placed from.0 read from.1))
-    (λ g h. plain_of_group g read plain (opened_read from.0 read g from.1 h)) e title told from.2
+    entry_plain _ c from.0 from.0.group.head refl (plain from.0.group (group-placed from.0 read from.1))
+    (λ g h. plain g (opened_read from.0 read g from.1 h)) e title told from.2

@@ -8,7 +8,7 @@ use Rattle.kc_expr.specs.Grammar.{Level, IsExpr, one_and, more_ors, one_factor, 
 use Rattle.kc_tokens.specs.declared.fault.ExprKind.{ExprKind}
 use Rattle.kc_tokens.specs.declared.fault.ExprFault.{ExprFault}
 use Rattle.kc_tokens.specs.declared.token.TokenKind.{TokenKind}
-use Rattle.kc_tokens.specs.declared.token.TokenKind.TheVariants.{Word, Quoted, Relation, Not, And, Or, Open, Close}
+use Rattle.kc_tokens.specs.declared.token.TokenKind.TheVariants.{Word, Quoted}
 use Rattle.kc_expr.proofs.GrammarLaws.{expr_sound}
 use Rattle.kc_expr.proofs.TokenTexts.{AllTexts}
 use Rattle.kc_tree_model.specs.declared.fault.TreeKind.{TreeKind}

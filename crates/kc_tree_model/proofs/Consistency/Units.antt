@@ -8,10 +8,10 @@ use Rattle.kc_expr.specs.Lookup.{index_of_name}
 use Rattle.kc_tree_model.specs.Trees.{Symbol, Choice}
 use Rattle.kc_tree_model.specs.declared.ids.Unit.{Unit as TreeUnit}
 use Rattle.kc_tree_model.specs.declared.ids.Unit.TheVariants.{Symbol as of_symbol, Choice as of_choice}
-use Rattle.kc_tree_model.specs.Statements.{config, choice, menu, condition, comment, source, mainmenu, ends, name_of_head}
-use Rattle.kc_tree_model.specs.Blocks.{GroupHead, of_head, file_end, from_head, defined_name, opens_choice}
+use Rattle.kc_tree_model.specs.Statements.{config, choice, name_of_head}
+use Rattle.kc_tree_model.specs.Blocks.{GroupHead, of_head, from_head, defined_name, opens_choice}
 use Rattle.kc_tree_model.specs.Conditions.{GroupInContext}
-use Rattle.kc_tree_model.specs.Contents.{Contents, choice_number, defines, definitions_of, first_definition, choice_of_symbol, symbol_of, is_member_of, choice_of, is_first_definition, choice_of_first_definition, unit_of_head}
+use Rattle.kc_tree_model.specs.Contents.{Contents, choice_number, defines, definitions_of, choice_of_symbol, symbol_of, is_member_of, choice_of, is_first_definition, choice_of_first_definition, unit_of_head}
 use Rattle.kc_tree_model.specs.TreeFaults.{faults_of_group}
 use Rattle.kc_tree_model.proofs.Consistency.Lists.{Has, has-at, at-has, get-map, map-get, has-filter, filter-has, has-filter_map, filter_map-has, first_of_filter_map, first_of_some, place-get, has-place, number-get, has-number, Differ, at_most_once}
 use Rattle.kc_tree_model.proofs.Consistency.Places.{NumbersDiffer, same_place, what_of_name, what_of_choice}

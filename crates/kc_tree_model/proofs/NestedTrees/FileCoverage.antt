@@ -7,7 +7,7 @@ use Rattle.kc_tree_model.specs.declared.fault.TreeKind.{TreeKind}
 use Rattle.kc_tree_model.specs.declared.fault.TreeKind.TheVariants.{SourceLoop, MissingFile, TooDeep}
 use Rattle.kc_tree_model.specs.declared.fault.TreeFault.{TreeFault}
 use Rattle.kc_tree_model.specs.LogicalLines.{LogicalLine, lines_of}
-use Rattle.kc_tree_model.specs.Statements.{Head, config, choice, menu, condition, comment, source, mainmenu, ends, Statement, head, attribute, block_of_head, path_of_head}
+use Rattle.kc_tree_model.specs.Statements.{Head, config, choice, menu, condition, comment, source, Statement, head, attribute, block_of_head, path_of_head}
 use Rattle.kc_tree_model.specs.declared.keyword.Block.{Block}
 use Rattle.kc_tree_model.specs.Blocks.{Group, Position, GroupHead, of_head, file_end, from_head, open_blocks, sourced_path, innermost}
 use Rattle.kc_tree_model.specs.Limits.{FileSource, bytes_in, is_in_list, open_files, source_fault}
