@@ -25,17 +25,23 @@ loop-place-init g c =
       recorded = recorded_none (g.S.System.recorded c.args.meter.now) begun.0.done begun.1;
     }
 
-pub revise_unit-requires : goal.revise_unit-requires
-revise_unit-requires g c = record {
-  unit =
-      let place = c.in-Some.place in
-      let least = c.in-Some.ensures.takes in
-      c.requires.plan.ordered.units place _ (slice_get-get_or c.args.plan.now.order.now place 0 (c.loop-place.invariant.revising.ahead place least.member).1);
-  plan = c.requires.plan;
-  users = c.requires.users;
-  values = c.loop-place.invariant.fits;
-  size = c.pop_first.ensures.size ∙ c.loop-place.invariant.size ∙ c.requires.size;
-}
+pub revise_unit-requires-clause-unit : goal.revise_unit-requires-clause-unit
+revise_unit-requires-clause-unit g c =
+    let place = c.in-Some.place in
+    let least = c.in-Some.ensures.takes in
+    c.requires.plan.ordered.units place _ (slice_get-get_or c.args.plan.now.order.now place 0 (c.loop-place.invariant.revising.ahead place least.member).1)
+
+pub revise_unit-requires-clause-plan : goal.revise_unit-requires-clause-plan
+revise_unit-requires-clause-plan g c = c.requires.plan
+
+pub revise_unit-requires-clause-users : goal.revise_unit-requires-clause-users
+revise_unit-requires-clause-users g c = c.requires.users
+
+pub revise_unit-requires-clause-values : goal.revise_unit-requires-clause-values
+revise_unit-requires-clause-values g c = c.loop-place.invariant.fits
+
+pub revise_unit-requires-clause-size : goal.revise_unit-requires-clause-size
+revise_unit-requires-clause-size g c = c.pop_first.ensures.size ∙ c.loop-place.invariant.size ∙ c.requires.size
 
 pub overflow_add-evaluated : goal.overflow_add-evaluated
 overflow_add-evaluated g c =

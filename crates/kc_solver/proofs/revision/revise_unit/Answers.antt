@@ -95,12 +95,14 @@ returns-else-differs g c = record {
   records = c.in_ok-value.ensures.records;
 }
 
-pub evaluate-requires : goal.evaluate-requires
-evaluate-requires g c = record {
-  unit = c.requires.unit;
-  users = c.requires.users;
-  values = c.requires.values;
-}
+pub evaluate-requires-clause-unit : goal.evaluate-requires-clause-unit
+evaluate-requires-clause-unit g c = c.requires.unit
+
+pub evaluate-requires-clause-users : goal.evaluate-requires-clause-users
+evaluate-requires-clause-users g c = c.requires.users
+
+pub evaluate-requires-clause-values : goal.evaluate-requires-clause-values
+evaluate-requires-clause-values g c = c.requires.values
 
 pub bounds-values-u : goal.bounds-values-u
 bounds-values-u g c = omega (arith, c.requires.unit, c.requires.values.0)

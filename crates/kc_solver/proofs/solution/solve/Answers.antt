@@ -26,13 +26,15 @@ returns g c = record {
       omega (arith, done, order_length _ _ c.args.order.now c.requires.order, c.loop-u.invariant.steps);
 }
 
-pub evaluate-requires : goal.evaluate-requires
-evaluate-requires g c = record {
-  unit =
-      c.requires.order.units _ _ (get_at c.units-u-items.result.now c.args.order.now c.loop-u.u-index c.units-u-items.ensures c.loop-u-test.true);
-  users = c.requires.users;
-  values = rw c.as_slice.ensures.value c.loop-u.invariant.fits;
-}
+pub evaluate-requires-clause-unit : goal.evaluate-requires-clause-unit
+evaluate-requires-clause-unit g c =
+    c.requires.order.units _ _ (get_at c.units-u-items.result.now c.args.order.now c.loop-u.u-index c.units-u-items.ensures c.loop-u-test.true)
+
+pub evaluate-requires-clause-users : goal.evaluate-requires-clause-users
+evaluate-requires-clause-users g c = c.requires.users
+
+pub evaluate-requires-clause-values : goal.evaluate-requires-clause-values
+evaluate-requires-clause-values g c = rw c.as_slice.ensures.value c.loop-u.invariant.fits
 
 pub index_mut-requires : goal.index_mut-requires
 index_mut-requires g c =

@@ -4,27 +4,43 @@ use Rattle.kc_solver.proofs.Records.{recorded_same}
 use Rattle.kc_solver.proofs.UserChanges.{place_inside, changed_fits, count_same, one_place, within, due_touched, still_holds}
 use Rattle.kc_solver.proofs.updates.change.Goals as goal
 
-pub write_changes-requires : goal.write_changes-requires
-write_changes-requires g c = record {
-  units = λ k u x e. omega (arith, (c.requires.changes k u x e).0, c.requires.users.0);
-  once = one_place _ _ _ _ c.requires.plan.ordered c.requires.plan.places_are;
-  within = λ w p e.
-      omega (arith, place_inside _ _ _ _ c.requires.plan.ordered c.requires.plan.places_are w p e, c.requires.size);
-  nothing = c.new-log.ensures.items;
-  places = c.requires.plan.places_are.one_each ∙ sym c.requires.users.0;
-  none = c.requires.none;
-}
+pub write_changes-requires-clause-units : goal.write_changes-requires-clause-units
+write_changes-requires-clause-units g c = λ k u x e. omega (arith, (c.requires.changes k u x e).0, c.requires.users.0)
 
-pub revalue-requires : goal.revalue-requires
-revalue-requires g c = record {
-  users = rw c.in-Ok.ensures.users (changed_fits _ _ _ _ c.requires.changes c.requires.users);
-  places = within _ _ _ _ c.requires.plan.ordered c.requires.plan.places_are _ _ _ c.in-Ok.ensures.lists;
-  holds = still_holds _ _ _ _ c.requires.plan.ordered c.requires.plan.places_are _ _ _ c.in-Ok.ensures.lists _
-      (decided _ g.met.S.System.equal_users) _ c.requires.solves;
-  plan = c.requires.plan;
-  fits = c.requires.fits;
-  size = c.write_changes.ensures.size ∙ c.requires.size;
-}
+pub write_changes-requires-clause-once : goal.write_changes-requires-clause-once
+write_changes-requires-clause-once g c = one_place _ _ _ _ c.requires.plan.ordered c.requires.plan.places_are
+
+pub write_changes-requires-clause-within : goal.write_changes-requires-clause-within
+write_changes-requires-clause-within g c = λ w p e.
+    omega (arith, place_inside _ _ _ _ c.requires.plan.ordered c.requires.plan.places_are w p e, c.requires.size)
+
+pub write_changes-requires-clause-nothing : goal.write_changes-requires-clause-nothing
+write_changes-requires-clause-nothing g c = c.new-log.ensures.items
+
+pub write_changes-requires-clause-places : goal.write_changes-requires-clause-places
+write_changes-requires-clause-places g c = c.requires.plan.places_are.one_each ∙ sym c.requires.users.0
+
+pub write_changes-requires-clause-none : goal.write_changes-requires-clause-none
+write_changes-requires-clause-none g c = c.requires.none
+
+pub revalue-requires-clause-users : goal.revalue-requires-clause-users
+revalue-requires-clause-users g c = rw c.in-Ok.ensures.users (changed_fits _ _ _ _ c.requires.changes c.requires.users)
+
+pub revalue-requires-clause-places : goal.revalue-requires-clause-places
+revalue-requires-clause-places g c = within _ _ _ _ c.requires.plan.ordered c.requires.plan.places_are _ _ _ c.in-Ok.ensures.lists
+
+pub revalue-requires-clause-holds : goal.revalue-requires-clause-holds
+revalue-requires-clause-holds g c = still_holds _ _ _ _ c.requires.plan.ordered c.requires.plan.places_are _ _ _ c.in-Ok.ensures.lists _
+    (decided _ g.met.S.System.equal_users) _ c.requires.solves
+
+pub revalue-requires-clause-plan : goal.revalue-requires-clause-plan
+revalue-requires-clause-plan g c = c.requires.plan
+
+pub revalue-requires-clause-fits : goal.revalue-requires-clause-fits
+revalue-requires-clause-fits g c = c.requires.fits
+
+pub revalue-requires-clause-size : goal.revalue-requires-clause-size
+revalue-requires-clause-size g c = c.write_changes.ensures.size ∙ c.requires.size
 
 pub returns-in-Ok-revalue : goal.returns-in-Ok-revalue
 returns-in-Ok-revalue g c =

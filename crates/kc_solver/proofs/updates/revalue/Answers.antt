@@ -40,16 +40,26 @@ pub restore_logged-requires-in-Err-ascending_units : goal.restore_logged-require
 restore_logged-requires-in-Err-ascending_units g c =
     record { units = λ k u a e. omega (arith, c.in-Ok.ensures.undo.units k u a e, c.in-Ok.ensures.undo.one_each) }
 
-pub revise-requires : goal.revise-requires
-revise-requires g c = record {
-  plan = c.requires.plan;
-  users = c.requires.users;
-  fits = c.requires.fits;
-  nothing = c.new-log.ensures.items;
-  places = c.requires.places;
-  holds = c.requires.holds;
-  size = c.requires.size;
-}
+pub revise-requires-clause-plan : goal.revise-requires-clause-plan
+revise-requires-clause-plan g c = c.requires.plan
+
+pub revise-requires-clause-users : goal.revise-requires-clause-users
+revise-requires-clause-users g c = c.requires.users
+
+pub revise-requires-clause-fits : goal.revise-requires-clause-fits
+revise-requires-clause-fits g c = c.requires.fits
+
+pub revise-requires-clause-nothing : goal.revise-requires-clause-nothing
+revise-requires-clause-nothing g c = c.new-log.ensures.items
+
+pub revise-requires-clause-places : goal.revise-requires-clause-places
+revise-requires-clause-places g c = c.requires.places
+
+pub revise-requires-clause-holds : goal.revise-requires-clause-holds
+revise-requires-clause-holds g c = c.requires.holds
+
+pub revise-requires-clause-size : goal.revise-requires-clause-size
+revise-requires-clause-size g c = c.requires.size
 
 pub restore_logged-requires : goal.restore_logged-requires
 restore_logged-requires g c = record { units = λ k u a e. omega (arith, c.revise.ensures.undo.units k u a e, c.revise.ensures.undo.one_each) }

@@ -9,18 +9,28 @@ both_refused : {A E : Type 0} (P Q R : Type 0) (r : Result A E) → (P → Q →
 both_refused P Q R (Ok a) f p q = tt
 both_refused P Q R (Err e) f p q = f p q
 
-pub change-requires : goal.change-requires
-change-requires g c = record {
-  changes =
-      let same : c.self.inside.plan.system.now ≡ c.args.self.now.system = ap (λ (h : SessionState _ _ _). h.system) c.self.view_is in
-      rw same c.requires.fits;
-  plan = c.self.invariant.plan;
-  users = rw c.deref_mut.ensures.value c.self.invariant.users;
-  fits = rw c.deref_mut-2.ensures.value c.self.invariant.values;
-  solves = rw (c.deref_mut.ensures.value, c.deref_mut-2.ensures.value) c.self.invariant.gives.solves;
-  none = c.self.invariant.none;
-  size = c.self.invariant.size;
-}
+pub change-requires-clause-changes : goal.change-requires-clause-changes
+change-requires-clause-changes g c =
+    let same : c.self.inside.plan.system.now ≡ c.args.self.now.system = ap (λ (h : SessionState _ _ _). h.system) c.self.view_is in
+    rw same c.requires.fits
+
+pub change-requires-clause-plan : goal.change-requires-clause-plan
+change-requires-clause-plan g c = c.self.invariant.plan
+
+pub change-requires-clause-users : goal.change-requires-clause-users
+change-requires-clause-users g c = rw c.deref_mut.ensures.value c.self.invariant.users
+
+pub change-requires-clause-fits : goal.change-requires-clause-fits
+change-requires-clause-fits g c = rw c.deref_mut-2.ensures.value c.self.invariant.values
+
+pub change-requires-clause-solves : goal.change-requires-clause-solves
+change-requires-clause-solves g c = rw (c.deref_mut.ensures.value, c.deref_mut-2.ensures.value) c.self.invariant.gives.solves
+
+pub change-requires-clause-none : goal.change-requires-clause-none
+change-requires-clause-none g c = c.self.invariant.none
+
+pub change-requires-clause-size : goal.change-requires-clause-size
+change-requires-clause-size g c = c.self.invariant.size
 
 pub invariant_of-self : goal.invariant_of-self
 invariant_of-self g c =

@@ -10,18 +10,22 @@ solve-requires-clause-order g c = c.requires.order
 pub solve-requires-clause-users : goal.solve-requires-clause-users
 solve-requires-clause-users g c = rw c.as_slice.ensures.value c.requires.users
 
-pub with_values-requires : goal.with_values-requires
-with_values-requires g c = record {
-  order = rw c.units.ensures c.requires.order;
-  users = c.requires.users;
-  values = c.in_ok-values.ensures.fits;
-  gives =
-      let values = c.in_ok-values.values.items in
-      record {
-        solves = rw c.as_slice.ensures.value at c.in_ok-values.ensures.solves;
-        only = λ w b. c.in_ok-values.ensures.unique w values (rw (← c.as_slice.ensures.value) at b) c.in_ok-values.ensures.solves;
-      };
-}
+pub with_values-requires-clause-order : goal.with_values-requires-clause-order
+with_values-requires-clause-order g c = rw c.units.ensures c.requires.order
+
+pub with_values-requires-clause-users : goal.with_values-requires-clause-users
+with_values-requires-clause-users g c = c.requires.users
+
+pub with_values-requires-clause-values : goal.with_values-requires-clause-values
+with_values-requires-clause-values g c = c.in_ok-values.ensures.fits
+
+pub with_values-requires-clause-gives : goal.with_values-requires-clause-gives
+with_values-requires-clause-gives g c =
+    let values = c.in_ok-values.values.items in
+    record {
+      solves = rw c.as_slice.ensures.value at c.in_ok-values.ensures.solves;
+      only = λ w b. c.in_ok-values.ensures.unique w values (rw (← c.as_slice.ensures.value) at b) c.in_ok-values.ensures.solves;
+    }
 
 pub returns-clause-system : goal.returns-clause-system
 returns-clause-system g c = IfOk-weaker c.with_values.result _ _ (λ s e. ap (λ (h : SessionState _ _ _). h.system) e) c.with_values.ensures.ok
