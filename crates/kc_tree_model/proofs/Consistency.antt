@@ -12,6 +12,5 @@ pub mod Numbers
 pub mod Entries
 pub mod TitledLines
 pub mod EntryTitles
-pub mod FewLines
 pub mod NameLimits
 pub mod Consistent

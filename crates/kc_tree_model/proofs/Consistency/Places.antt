@@ -14,11 +14,10 @@ use Rattle.kc_tree_model.specs.Keywords.{is_name}
 use Rattle.kc_tree_model.specs.Blocks.{Group, Line, Position, GroupHead, of_head, Side, side_of, opening, closing, inside, from_head, defined_name, open_blocks, opens_choice, is_some_block}
 use Rattle.kc_tree_model.specs.TreeReading.{statement_on_line, with_statement, with_attribute, reading}
 use Rattle.kc_tree_model.specs.Conditions.{choice_among, GroupInContext, group_in_context, groups_in_context}
-use Rattle.kc_tree_model.proofs.NestedTrees.LineFits.{line_names, line_values, line_utf8}
+use Rattle.kc_tree_model.proofs.NestedTrees.LineFits.{line_given, line_names, line_values, line_utf8}
 use Rattle.kc_tree_model.proofs.Consistency.Lists.{Has, has-append, append-has_left, append-has_right}
 use Rattle.kc_tree_model.proofs.Consistency.PlainTexts.{IsPlainText, value_is_plain, title_is_plain}
 use Rattle.kc_tree_model.proofs.Consistency.TitledLines.{title_in, line_titles}
-use Rattle.kc_tree_model.proofs.Consistency.FewLines.{line_few}
 use Rattle.kc_tree_model.specs.Limits.{is_in_list, is_long_name, names_defined, without_repeats, too_many_by_head}
 use Rattle.kc_value.specs.declared.limits.TheConstants.{MAX_SYMBOLS, MAX_NAME_BYTES}
 use Rattle.std.proofs.lemmas.Bool.{or_parts, ltb-false, leb-false}
@@ -139,7 +138,8 @@ line_read : (language : Language) (read : List Group) (at : Position) (l : Logic
 line_read language read at l None h one e = h
 line_read language read at l (Some (attribute a)) h one e = attribute_read read at.line a (values_given language read l a one e) h
 line_read language read at l (Some (head x)) h one e =
-    let few = line_few language read l (head x) e in (
+    let given = line_given language read l (Some (head x)) e in
+    let few = given.few in (
       few_given read at x few h.0,
       (
         record {

@@ -256,7 +256,7 @@ pub not_false : (b : Bool) → not b ≡ false → b ≡ true
 not_false true h = refl
 not_false false h = cc
 
--- a line with these tokens, the first of them a keyword, is the statement `s`, which is allowed after these groups
+-- a line with these tokens, the first of them a keyword, is the statement `s`, which is allowed after these groups and passes no limit
 pub record IsKeywordStatement (read : List Group) (tokens : Result (List Lexeme) ExprFault) (s : Statement) : Type 0 where
   pub keyword : Keyword
   pub first : Lexeme
@@ -266,6 +266,7 @@ pub record IsKeywordStatement (read : List Group) (tokens : Result (List Lexeme)
   pub matched : is_stray_end read keyword ≡ false
   pub form : statement_of keyword rest ≡ Ok s
   pub sort : sort_of s ≡ sort_of_word keyword
+  pub few : is_too_many read s ≡ false
 
 abbrev pub IsKeywordStatementIfSome : List Group → Result (List Lexeme) ExprFault → Option Statement → Type 0
 IsKeywordStatementIfSome read tokens None = Unit {0}
@@ -290,6 +291,7 @@ statement_keyword language read k t ts o h =
       matched = c.0;
       form = d.1;
       sort = subst (Gives (sort_of_word k)) d.1 (gives_statement k ts);
+      few = f.0;
     })
 
 keyword_statement_if_some : (language : Language) (read : List Group) (w : Option Keyword) (t : Lexeme) (ts : List Lexeme) (o : Option Statement)
