@@ -1,21 +1,20 @@
 -- Numbers in entries, selectors and impliers are those of symbols and choices, and each choice is a unit.
-use Rattle.std.proofs.Common.{◌≡◌, ℕ, ◌<◌, true, List, [], ◌∷◌, Option, Some, None, refl, ap, sym, ◌∙◌, subst, length, map, filter, arith}
-use Rattle.std.specs.Prelude.{slice_get, filter_map, flat_map, option_map, bytes_eq, nat_lt}
+use Rattle.std.proofs.Common.{◌≡◌, ℕ, ◌<◌, true, List, [], Option, Some, None, ap, subst, length, map, filter, arith}
+use Rattle.std.specs.Prelude.{slice_get, filter_map, flat_map, bytes_eq, nat_lt}
 use Rattle.std.specs.List.{list_all}
 use Rattle.std.proofs.lemmas.Bool.{lt-ltb}
 use Rattle.std.proofs.lemmas.List.{length-map}
 use Rattle.kc_tokens.specs.declared.language.Language.{Language}
-use Rattle.kc_expr.specs.Expr.{Expr}
 use Rattle.kc_expr.specs.Lookup.{index_of_name}
-use Rattle.kc_tree_model.specs.Trees.{Choice, Entry, ReverseDependency, Symbol, definition, choice_begins, menu_begins, menu_ends}
+use Rattle.kc_tree_model.specs.Trees.{Choice, ReverseDependency, Symbol, definition, choice_begins}
 use Rattle.kc_tree_model.specs.declared.ids.Unit.TheVariants.{Choice as of_choice}
-use Rattle.kc_tree_model.specs.Statements.{TargetAttribute, Attribute, config, choice, menu, comment, ends, select_of, imply_of, title_of_head}
-use Rattle.kc_tree_model.specs.declared.keyword.Block.TheVariants as blocks
-use Rattle.kc_tree_model.specs.Blocks.{Group, GroupHead, of_head, from_head, defined_name}
+use Rattle.kc_tree_model.specs.Statements.{TargetAttribute, Attribute, select_of, imply_of}
+use Rattle.kc_tree_model.specs.Blocks.{from_head, defined_name}
 use Rattle.kc_tree_model.specs.Conditions.{context_of, GroupInContext, attribute_condition, attribute_values}
-use Rattle.kc_tree_model.specs.Contents.{Contents, choice_number, choice_of, entry_of_head, reverse_dependencies_of, reverse_dependencies_by, menu_end_of, symbol_of}
-use Rattle.kc_tree_model.proofs.Consistency.Lists.{Has, all_pass, get_below, has-at, has-filter_map, has_flat_map, number-get, place-get}
+use Rattle.kc_tree_model.specs.Contents.{Contents, choice_number, choice_of, entry_of_head, reverse_dependencies_of, reverse_dependencies_by, symbol_of}
+use Rattle.kc_tree_model.proofs.Consistency.Lists.{Has, all_pass, get_below, has_flat_map, number-get, place-get}
 use Rattle.kc_tree_model.proofs.Consistency.Definitions.{IsSound, choice_places, choices_of, symbols_of, units_of}
+use Rattle.kc_tree_model.proofs.Consistency.Entries.{entry_given}
 use Rattle.kc_tree_model.proofs.Consistency.Units.{at_number, choice_at, choice_place, choice_unit_at, has_mapped, number_at, number_is, symbol_at, unit_listed}
 
 -- a number below that of symbols, and of choices
@@ -83,71 +82,14 @@ units_of_choices language c s k x h =
     let there = choice_place c k p.0 p.1 in
     unit_listed c p.0 (of_choice k) there.0 (choice_unit_at c p.0 k there.1 (number_is c s p.0.group.number k (at_number c s k p.0 p.1)))
 
--- the numbers of entries
-abbrev symbol_of_entry : Entry → Option ℕ
-symbol_of_entry (definition s) = Some s
-symbol_of_entry e = None
-
-abbrev choice_of_entry : Entry → Option ℕ
-choice_of_entry (choice_begins c) = Some c
-choice_of_entry e = None
-
-no_number : (test : Entry → Option ℕ) (d e : Entry) (n : ℕ) → test d ≡ None → test e ≡ Some n → Some d ≡ Some e → ⊥
-no_number test d e n none told k = let same : d ≡ e = cc in let both : None ≡ Some n = sym none ∙ ap test same ∙ told in cc
-
-no_numbers : (test : Entry → Option ℕ) (f : ℕ → Entry) → ((m : ℕ) → test (f m) ≡ None) → (e : Entry) (n : ℕ) → test e ≡ Some n → (o : Option ℕ)
-    → option_map f o ≡ Some e → ⊥
-no_numbers test f none e n told None k = cc
-no_numbers test f none e n told (Some m) k = no_number test (f m) e n (none m) told k
-
-no_menu : (test : Entry → Option ℕ) (f : List ℕ → Expr → Expr → Entry) → ((t : List ℕ) (d v : Expr) → test (f t d v) ≡ None)
-    → (dependency visible : Expr) (e : Entry) (n : ℕ) → test e ≡ Some n
-    → (o : Option (List ℕ)) → option_map (λ t. f t dependency visible) o ≡ Some e → ⊥
-no_menu test f none d v e n told None k = cc
-no_menu test f none d v e n told (Some t) k = no_number test (f t d v) e n (none t d v) told k
-
-no_end : (language : Language) (test : Entry → Option ℕ) → ((t : List ℕ) (d v : Expr) → test (menu_ends t d v) ≡ None) → (opened : List Group) (e : Entry) (n : ℕ) → test e ≡ Some n
-    → menu_end_of language opened ≡ Some e → ⊥
-no_end language test none [] e n told k = cc
-no_end language test none (g ∷ outer) e n told k = no_menu test menu_ends none _ _ e n told (from_head title_of_head g.head) k
-
-numbered : (test : Entry → Option ℕ) (f : ℕ → Entry) → ((m : ℕ) → test (f m) ≡ Some m) → (e : Entry) (n : ℕ) → test e ≡ Some n → (o : Option ℕ)
-    → option_map f o ≡ Some e → o ≡ Some n
-numbered test f some e n told None k = cc
-numbered test f some e n told (Some m) k = let same : f m ≡ e = cc in sym (some m) ∙ ap test same ∙ told
-
-symbol_entry : (language : Language) (c : Contents) (p : GroupInContext) (w : GroupHead) (e : Entry) (n : ℕ) → symbol_of_entry e ≡ Some n → from_head (entry_of_head language c p) w ≡ Some e
-    → n < length (symbols_of language c)
-symbol_entry language c p (of_head (config name)) e n told k =
-    below_symbols _ c name n (numbered symbol_of_entry definition (λ m. refl) e n told (index_of_name name c.names) k)
-symbol_entry language c p (of_head choice) e n told k = absurd (no_numbers symbol_of_entry choice_begins (λ m. refl) e n told _ k)
-symbol_entry language c p (of_head (menu x)) e n told k =
-    absurd (no_menu symbol_of_entry menu_begins (λ t d v. refl) _ _ e n told (from_head title_of_head p.group.head) k)
-symbol_entry language c p (of_head (comment x)) e n told k = absurd (no_number symbol_of_entry _ e n refl told k)
-symbol_entry language c p (of_head (ends blocks.Menu)) e n told k = absurd (no_end _ symbol_of_entry (λ t d v. refl) p.opened e n told k)
-symbol_entry language c p w e n told k = cc
-
-choice_entry : (language : Language) (c : Contents) → IsSound c → (p : GroupInContext) (w : GroupHead) (e : Entry) (n : ℕ) → choice_of_entry e ≡ Some n
-    → from_head (entry_of_head language c p) w ≡ Some e → n < length (choices_of language c)
-choice_entry language c s p (of_head (config name)) e n told k = absurd (no_numbers choice_of_entry definition (λ m. refl) e n told _ k)
-choice_entry language c s p (of_head choice) e n told k =
-    below_choices _ c s p.group.number n (numbered choice_of_entry choice_begins (λ m. refl) e n told (choice_number c p.group.number) k)
-choice_entry language c s p (of_head (menu x)) e n told k =
-    absurd (no_menu choice_of_entry menu_begins (λ t d v. refl) _ _ e n told (from_head title_of_head p.group.head) k)
-choice_entry language c s p (of_head (comment x)) e n told k = absurd (no_number choice_of_entry _ e n refl told k)
-choice_entry language c s p (of_head (ends blocks.Menu)) e n told k = absurd (no_end _ choice_of_entry (λ t d v. refl) p.opened e n told k)
-choice_entry language c s p w e n told k = cc
-
 -- the number in a definition entry of sound contents is that of one of their symbols
 pub entry_symbols : (language : Language) (c : Contents) → IsSound c → (k n : ℕ)
     → slice_get (filter_map (λ (p : GroupInContext). from_head (entry_of_head language c p) p.group.head) c.places) k ≡ Some (definition n) → n < length (symbols_of language c)
 entry_symbols language c s k n at =
-    let r = has-filter_map (λ (p : GroupInContext). from_head (entry_of_head language c p) p.group.head) c.places (definition n) (has-at (definition n) _ k at) in
-    symbol_entry _ c r.0 r.0.group.head (definition n) n refl r.2
+    let r = entry_given language c k (definition n) at in below_symbols _ c r.2.0 n r.2.1
 
 pub entry_choices : (language : Language) (c : Contents) → IsSound c → (k n : ℕ)
     → slice_get (filter_map (λ (p : GroupInContext). from_head (entry_of_head language c p) p.group.head) c.places) k ≡ Some (choice_begins n)
     → n < length (choices_of language c)
 entry_choices language c s k n at =
-    let r = has-filter_map (λ (p : GroupInContext). from_head (entry_of_head language c p) p.group.head) c.places (choice_begins n) (has-at (choice_begins n) _ k at) in
-    choice_entry _ c s r.0 r.0.group.head (choice_begins n) n refl r.2
+    let r = entry_given language c k (choice_begins n) at in below_choices _ c s r.0.group.number n r.2
