@@ -2,17 +2,14 @@
 use Rattle.std.proofs.Common.{◌≢◌, ◌⊎◌, subst}
 use Rattle.std.specs.Prelude.{IfErr, nat_lt}
 use Rattle.std.specs.Io.KnownBytes.{Consumes}
-use Rattle.kc_answers.proofs.Common.{◌≡◌, inl, inr, ℕ, ◌+◌, ◌<◌, ◌≤◌, Bool, true, false, cond, List, [], ◌∷◌, length, take, Option, Some, None, Result, Ok, Err,
-    sym, ap, ◌∙◌, is_utf8, take_all, keyword_in_table, PhysicalLine, split_at_newlines, without_white_end, AnswersFault, MAX_ANSWER_BYTES, MAX_ANSWER_LINES,
-    Answer, RecordedAnswers, meaning_of_line, LinesSoFar, fault_at, with_meaning, fault_of_line, with_line, FileEnd, complete, cut_by, and_then, recorded_from,
-    first_line, end_of_file}
+use Rattle.kc_answers.proofs.Common.{◌≡◌, inl, inr, ℕ, ◌+◌, ◌<◌, ◌≤◌, Bool, true, false, cond, List, [], ◌∷◌, length, take, Option, Some, None, Result, Ok, Err, sym, ap, ◌∙◌, is_utf8, take_all, keyword_in_table, PhysicalLine, split_at_newlines, without_white_end, AnswersFault, MAX_ANSWER_BYTES}
+use Rattle.kc_answers.proofs.Common.{MAX_ANSWER_LINES, Answer, RecordedAnswers, meaning_of_line, LinesSoFar, fault_at, with_meaning, fault_of_line, with_line, FileEnd, complete, cut_by, and_then, recorded_from, first_line, end_of_file}
 use Rattle.std.proofs.lemmas.Bool.{lt-ltb, le-ltb}
 use Rattle.kc_macros_model.specs.declared.fault.AnswersKind.{AnswersKind}
 use Rattle.kc_macros_model.specs.declared.fault.AnswersKind.TheVariants.{Malformed, TwoAnswers, NotUtf8, LineTooLong, TooManyLines, TooLarge, Read, OutOfMemory}
 use Rattle.std.specs.Option.{option_or}
 use Rattle.kc_value.specs.declared.limits.TheConstants.{MAX_ANSWER_LINE_BYTES}
-use Rattle.kc_macros_model.specs.AnswerFiles.{AnswerLine, comment, answer, command, malformed, is_same_answer, one_line_more, with_answer, malformed_line,
-    fault_of_size, unless_waiting, cut_line, answers_read}
+use Rattle.kc_macros_model.specs.AnswerFiles.{AnswerLine, comment, answer, command, malformed, is_same_answer, one_line_more, with_answer, malformed_line, fault_of_size, unless_waiting, cut_line, answers_read}
 use Rattle.kc_answers.specs.checker.AnswerFaults.{no_memory}
 use Rattle.kc_answers.specs.ReadAnswers.{ReadsToEnd, AreRecorded, AreAnswersRefused}
 

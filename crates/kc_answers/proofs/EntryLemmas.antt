@@ -1,6 +1,5 @@
 -- A map after the insertion of an entry, which takes the place of one with its key, as views of its values show it.
-use Rattle.kc_answers.proofs.Common.{◌≡◌, ℕ, Bool, true, false, cond, List, [], ◌∷◌, map, Option, Some, None, refl, sym, ap, ◌∙◌, Vec, bytes_eq, Global,
-    bytes_eq-Decides, insert_entry, keyword_in_table}
+use Rattle.kc_answers.proofs.Common.{◌≡◌, ℕ, Bool, true, false, cond, List, [], ◌∷◌, map, Option, Some, None, refl, sym, ap, ◌∙◌, Vec, bytes_eq, Global, bytes_eq-Decides, insert_entry, keyword_in_table}
 use Rattle.kc_answers.proofs.TableLemmas.{bytes_eq_turned}
 
 same_bytes : (x y : List ℕ) → bytes_eq x y ≡ true → x ≡ y

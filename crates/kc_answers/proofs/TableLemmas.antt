@@ -1,6 +1,6 @@
 -- Questions and answers, through the map that holds them.
-use Rattle.kc_answers.proofs.Common.{◌≡◌, ℕ, zero, suc, Bool, true, false, cond, List, [], ◌∷◌, ◌++◌, take, map, Option, Some, None, refl, sym, ap, ◌∙◌, Vec,
-    bytes_eq, option_map, is_none, RecordedAnswers, questions_of, Global, bytes_eq-Decides, insert_entry, keys_of, keyword_in_table, Answer, answer_of_entry}
+use Rattle.kc_answers.proofs.Common.{◌≡◌, ℕ, zero, suc, Bool, true, false, cond, List, [], ◌∷◌, ◌++◌, take, map, Option, Some, None, refl, sym, ap, ◌∙◌, Vec, bytes_eq, option_map, is_none, RecordedAnswers, questions_of, Global, bytes_eq-Decides, insert_entry, keys_of, keyword_in_table, Answer}
+use Rattle.kc_answers.proofs.Common.{answer_of_entry}
 use Rattle.std.specs.Prelude.{filter, not, is_some, IfOk, Result, Ok, Err, ◌||◌}
 use Rattle.kc_tree_model.specs.Limits.{is_in_list}
 use Rattle.kc_answers.specs.RunStates.{with_question}

@@ -3,9 +3,8 @@ use Rattle.std.proofs.Common.{zero}
 use Rattle.std.specs.Prelude.{nat_lt}
 use Rattle.std.proofs.lemmas.Bool.{lt-ltb}
 use Rattle.std.proofs.lemmas.List.{get_or-reverse, length-reverse}
-use Rattle.kc_conditions.proofs.Common.{◌≡◌, ℕ, suc, ◌+◌, ◌-◌, ◌<◌, ◌≤◌, false, cond, List, [], ◌∷◌, length, get_or, drop, reverse, refl, ap, sym, ◌∙◌, arith,
-    slice_range, Language, Exprs, Group, open_blocks, group_in_context, no_conditions, conditions_at, read_before, RepresentsConditions, RepresentsAllConditions,
-    GroupConditions}
+use Rattle.kc_conditions.proofs.Common.{◌≡◌, ℕ, suc, ◌+◌, ◌-◌, ◌<◌, ◌≤◌, false, cond, List, [], ◌∷◌, length, get_or, drop, reverse, refl, ap, sym, ◌∙◌, arith, slice_range, Language, Exprs, Group, open_blocks, group_in_context, no_conditions, conditions_at, read_before, RepresentsConditions}
+use Rattle.kc_conditions.proofs.Common.{RepresentsAllConditions, GroupConditions}
 use Rattle.kc_conditions.specs.between.GroupConditions.{conditions_end, own_conditions}
 
 -- the stored conditions of group `i` are those of the group that was read with this number, and lie within the list

@@ -3,12 +3,10 @@ use Rattle.std.proofs.Common.{inl, inr, length-drop, drop-cons, add-one}
 use Rattle.std.specs.Prelude.{option_to_list, filter_map}
 use Rattle.std.proofs.lemmas.List.{reverse-append, take-append-le, drop-append-le}
 use Rattle.std.proofs.Math.Seq.{drop-append_seam}
-use Rattle.kc_conditions.proofs.Common.{◌≡◌, ℕ, suc, ◌+◌, ◌-◌, ◌<◌, ◌≤◌, Bool, true, false, cond, List, [], ◌∷◌, ◌++◌, length, get_or, take, drop, map, reverse,
-    Option, Some, None, refl, ap, sym, subst, ◌∙◌, arith, append-nil, length-append, All, IfSome, slice_get, slice_range, take_all, is_linux_6_12, Language,
-    Exprs, Represents, node_expr, Grows, Expr, AttributeNodesExist, is_prompt, conjunct_given, LineNodesExist, RepresentsHead, line_in, node_held, node_same,
-    grows_same, choice, condition, Group, of_head, open_blocks, conjunction_of, visible_conjunct, dependencies_of, context, group_in_context, Conjoins, conjunct,
-    conjunct_views, AreJoined, AreAppended, condition_view, line_condition, first_prompt, RepresentsPrompt, GroupHeadNodesExist, or_yes, RepresentsEnclosing,
-    RepresentsConditions, RepresentsAllConditions, HasWalked, Dependencies, Visibles, EnclosingConditions, EntryConditions, GroupConditions, grows_on}
+use Rattle.kc_conditions.proofs.Common.{◌≡◌, ℕ, suc, ◌+◌, ◌-◌, ◌<◌, ◌≤◌, Bool, true, false, cond, List, [], ◌∷◌, ◌++◌, length, get_or, take, drop, map, reverse, Option, Some, None, refl, ap, sym, subst, ◌∙◌, arith, append-nil, length-append, All, IfSome, slice_get, slice_range, take_all}
+use Rattle.kc_conditions.proofs.Common.{is_linux_6_12, Language, Exprs, Represents, node_expr, Grows, Expr, AttributeNodesExist, is_prompt, conjunct_given, LineNodesExist, RepresentsHead, line_in, node_held, node_same, grows_same, choice, condition, Group, of_head, open_blocks, conjunction_of}
+use Rattle.kc_conditions.proofs.Common.{visible_conjunct, dependencies_of, context, group_in_context, Conjoins, conjunct, conjunct_views, AreJoined, AreAppended, condition_view, line_condition, first_prompt, RepresentsPrompt, GroupHeadNodesExist, or_yes, RepresentsEnclosing, RepresentsConditions}
+use Rattle.kc_conditions.proofs.Common.{RepresentsAllConditions, HasWalked, Dependencies, Visibles, EnclosingConditions, EntryConditions, GroupConditions, grows_on}
 use Rattle.kc_statements.specs.between.StatementViews.{attribute_in}
 use Rattle.kc_statements.specs.declared.statement.Attribute.{Attribute as CodeAttribute}
 use Rattle.kc_statements.specs.declared.statement.Attribute.TheVariants as attributes

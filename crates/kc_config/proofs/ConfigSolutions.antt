@@ -1,7 +1,6 @@
 -- The state of a configuration after a change.
-use Rattle.kc_config.proofs.Common.{◌≡◌, inl, inr, ℕ, ◌<◌, IsTrue, List, [], ◌++◌, length, Option, Some, None, refl, sym, ◌∙◌, ap, subst, arith, Contains,
-    filter, is_none, changed_users, user_of, FitsUsers, UserValue, user_fits, tree_of_settled, empty_assignment, overlay, Configured, tree_in, FitsTree,
-    changes_of, users_of, units_of, clears_of, overs}
+use Rattle.kc_config.proofs.Common.{◌≡◌, inl, inr, ℕ, ◌<◌, IsTrue, List, [], ◌++◌, length, Option, Some, None, refl, sym, ◌∙◌, ap, subst, arith, Contains, filter, is_none, changed_users, user_of, FitsUsers, UserValue, user_fits, tree_of_settled, empty_assignment, overlay, Configured, tree_in}
+use Rattle.kc_config.proofs.Common.{FitsTree, changes_of, users_of, units_of, clears_of, overs}
 use Rattle.std.specs.Prelude.{replicate}
 use Rattle.kc_solver.specs.Solutions.{UniquelySolves, FitsValues}
 use Rattle.kc_rules_model.specs.Rule.{rule}

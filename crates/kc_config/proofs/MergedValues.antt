@@ -1,9 +1,8 @@
 -- The user values of a list laid over those of an assignment.
 use Rattle.std.proofs.Common.{◌+◌}
 use Rattle.std.specs.Prelude.{slice_index}
-use Rattle.kc_config.proofs.Common.{◌≡◌, inl, inr, ℕ, zero, suc, ◌<◌, true, cond, IsTrue, List, [], ◌∷◌, ◌++◌, length, Option, Some, None, refl, sym, ◌∙◌, ap,
-    subst, arith, slice_get, option_or, nat_cmp, cases_eq, Tree, changed_users, user_of, FitsUsers, UserValue, user_fits, over, overlay, empty_assignment,
-    FitsTree, changes_of, users_of, units_of, overs, length_changed, none_length}
+use Rattle.kc_config.proofs.Common.{◌≡◌, inl, inr, ℕ, zero, suc, ◌<◌, true, cond, IsTrue, List, [], ◌∷◌, ◌++◌, length, Option, Some, None, refl, sym, ◌∙◌, ap, subst, arith, slice_get, option_or, nat_cmp, cases_eq, Tree, changed_users, user_of, FitsUsers, UserValue, user_fits, over, overlay}
+use Rattle.kc_config.proofs.Common.{empty_assignment, FitsTree, changes_of, users_of, units_of, overs, length_changed, none_length}
 use Rattle.std.specs.BTreeMap.{is_at}
 use Rattle.std.specs.List.Sorted.{IsStrictlyIncreasing}
 use Rattle.kc_dotconfig_model.proofs.FittingFiles.{over_user_fits, held_fits}

@@ -1,7 +1,6 @@
 -- The last member with `y`.
 use Rattle.std.proofs.Common.{◌&&◌, get_or}
-use Rattle.kc_config.proofs.Common.{◌≡◌, ℕ, zero, suc, ◌<◌, true, cond, List, [], ◌∷◌, length, drop, Some, None, sym, ◌∙◌, ap, arith, option_or, MemberLine,
-    last_y}
+use Rattle.kc_config.proofs.Common.{◌≡◌, ℕ, zero, suc, ◌<◌, true, cond, List, [], ◌∷◌, length, drop, Some, None, sym, ◌∙◌, ap, arith, option_or, MemberLine, last_y}
 
 -- an assignment of `y` after which there is none is the last one
 pub last_found : (lines : List MemberLine) (i : ℕ) (l : MemberLine) → i < length lines → l ≡ get_or lines i l → l.is_y ≡ true

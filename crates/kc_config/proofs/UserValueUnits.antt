@@ -1,9 +1,8 @@
 -- The units that have user values after changes.
 use Rattle.std.proofs.Common.{◌≢◌, ◌⊎◌, Bool, IfSome}
 use Rattle.std.specs.Prelude.{slice_set, slice_index_or, replicate}
-use Rattle.kc_config.proofs.Common.{◌≡◌, inl, inr, ℕ, zero, suc, ◌<◌, true, false, cond, IsTrue, List, [], ◌∷◌, ◌++◌, length, Option, Some, None, refl, sym, ◌∙◌,
-    ap, subst, arith, slice_get, Contains, filter, cases_eq, length-set, Tree, changed_users, FitsChanges, user_of, FitsUsers, UserValue, user_fits,
-    empty_assignment, overlay, FitsTree, changes_of, users_of, length_changed, none_length, units_of, clears_of}
+use Rattle.kc_config.proofs.Common.{◌≡◌, inl, inr, ℕ, zero, suc, ◌<◌, true, false, cond, IsTrue, List, [], ◌∷◌, ◌++◌, length, Option, Some, None, refl, sym, ◌∙◌, ap, subst, arith, slice_get, Contains, filter, cases_eq, length-set, Tree, changed_users, FitsChanges, user_of, FitsUsers, UserValue}
+use Rattle.kc_config.proofs.Common.{user_fits, empty_assignment, overlay, FitsTree, changes_of, users_of, length_changed, none_length, units_of, clears_of}
 use Rattle.std.proofs.lemmas.List.{get_or-set_other}
 use Rattle.kc_solver.proofs.Lists.{none_fits}
 use Rattle.kc_solver.proofs.UserChanges.{changed_fits}

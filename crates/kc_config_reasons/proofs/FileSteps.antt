@@ -1,7 +1,6 @@
 -- The lines of a file are gone over one after another.
-use Rattle.kc_config_reasons.proofs.Common.{◌≡◌, ℕ, ◌+◌, true, List, [], ◌∷◌, Option, Some, None, refl, sym, ◌∙◌, ap, subst, option_map, AllZip, option_or,
-    is_utf8, Tree, unit_of, without_white_end, FileFormat, LineMeaning, Means, line_giving, said_to, user_by_line, AskingLine, FileLines, line_view, line_at,
-    later_line, line_kept, KeepsLines, AreBelow, NumbersBelow, Keeps}
+use Rattle.kc_config_reasons.proofs.Common.{◌≡◌, ℕ, ◌+◌, true, List, [], ◌∷◌, Option, Some, None, refl, sym, ◌∙◌, ap, subst, option_map, AllZip, option_or, is_utf8, Tree, unit_of, without_white_end, FileFormat, LineMeaning, Means, line_giving, said_to, user_by_line, AskingLine, FileLines, line_view}
+use Rattle.kc_config_reasons.proofs.Common.{line_at, later_line, line_kept, KeepsLines, AreBelow, NumbersBelow, Keeps}
 use Rattle.std.specs.List.{list_all}
 use Rattle.std.proofs.lemmas.Bool.{and_parts}
 use Rattle.kc_value.specs.Lines.{pieces}

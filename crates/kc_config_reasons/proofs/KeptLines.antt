@@ -1,9 +1,8 @@
 -- A line of a configuration file is kept over the earlier ones.
 use Rattle.std.proofs.Common.{inl, inr}
 use Rattle.std.specs.Prelude.{◌==◌}
-use Rattle.kc_config_reasons.proofs.Common.{◌≡◌, ℕ, ◌+◌, ◌<◌, Bool, true, false, cond, List, [], ◌∷◌, Option, Some, None, refl, sym, ◌∙◌, ap, subst, arith,
-    Result, Ok, Err, OnOk, option_map, option_or, Tree, unit_of, UserValue, LineMeaning, assigns, assigns_escaped, Meaning, meaning_view, said_to, line_giving,
-    user_by_line, AskingLine, FileLines, line_view, line_at, later_line, line_kept, AreBelow, NumbersBelow, Keeps}
+use Rattle.kc_config_reasons.proofs.Common.{◌≡◌, ℕ, ◌+◌, ◌<◌, Bool, true, false, cond, List, [], ◌∷◌, Option, Some, None, refl, sym, ◌∙◌, ap, subst, arith, Result, Ok, Err, OnOk, option_map, option_or, Tree, unit_of, UserValue, LineMeaning, assigns, assigns_escaped, Meaning, meaning_view, said_to}
+use Rattle.kc_config_reasons.proofs.Common.{line_giving, user_by_line, AskingLine, FileLines, line_view, line_at, later_line, line_kept, AreBelow, NumbersBelow, Keeps}
 use Rattle.std.specs.BTreeMap.{insert_entry}
 use Rattle.std.specs.Ordering.{nat_cmp}
 use Rattle.std.proofs.lemmas.Bool.{cases_eq, eqb-true, eqb-false, eq-eqb, lt-ltb, le-ltb}

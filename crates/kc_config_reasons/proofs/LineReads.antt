@@ -1,6 +1,5 @@
 -- The meaning of a line is the one that is read.
-use Rattle.kc_config_reasons.proofs.Common.{◌≡◌, true, List, ℕ, Option, Some, None, sym, ◌∙◌, ap, subst, Result, Ok, Err, OnOk, option_map, is_utf8, Tree,
-    without_white_end, FileFormat, LineMeaning, Means, Meaning, meaning_view, FileLines, Keeps}
+use Rattle.kc_config_reasons.proofs.Common.{◌≡◌, true, List, ℕ, Option, Some, None, sym, ◌∙◌, ap, subst, Result, Ok, Err, OnOk, option_map, is_utf8, Tree, without_white_end, FileFormat, LineMeaning, Means, Meaning, meaning_view, FileLines, Keeps}
 use Rattle.std.specs.Str.{IsUtf8}
 use Rattle.std.proofs.lemmas.Str.{IsUtf8-from_is_utf8}
 use Rattle.kc_dotconfig_model.specs.PrefixGrammar.{is_name_prefix}

@@ -1,13 +1,11 @@
 -- What a line assigns to members of a choice is of one member, and its unit.
-use Rattle.kc_config_reasons.proofs.Common.{ℕ, Bool, true, false, cond, List, [], ◌∷◌, Option, Some, None, refl, Tree, Symbol, unit_of, FileFormat, LineMeaning,
-    assigns, assigns_escaped, unchosen, silent, Means}
+use Rattle.kc_config_reasons.proofs.Common.{ℕ, Bool, true, false, cond, List, [], ◌∷◌, Option, Some, None, refl, Tree, Symbol, unit_of, FileFormat, LineMeaning, assigns, assigns_escaped, unchosen, silent, Means}
 use Rattle.kc_value.specs.declared.tri.Tri.TheVariants.{N}
 use Rattle.kc_value.specs.Kinds.{is_tri_kind}
 use Rattle.kc_tokens.specs.Languages.{is_linux_6_12}
 use Rattle.kc_rules_model.specs.declared.values.UserValue.TheVariants.{Tri as TriUser, Text as TextUser, Member as MemberUser, Lines as LinesUser}
 use Rattle.kc_dotconfig_model.specs.declared.format.Strings.{Strings}
-use Rattle.kc_dotconfig_model.specs.ConfigLines.{has_escape_notice, unset_meaning, ValueMeans, tri, chosen, not_chosen, quoted, number, no_int, no_hex, no_tri,
-    no_text, no_number, value, unset, unknown_value, unknown_unset, empty, comment}
+use Rattle.kc_dotconfig_model.specs.ConfigLines.{has_escape_notice, unset_meaning, ValueMeans, tri, chosen, not_chosen, quoted, number, no_int, no_hex, no_tri, no_text, no_number, value, unset, unknown_value, unknown_unset, empty, comment}
 use Rattle.kc_config_reasons.specs.checker.LineSteps.{OwnUser, IsOwn}
 
 module _ (tree : Tree) where

@@ -3,10 +3,8 @@ use Rattle.std.proofs.Common.{zero, not, append_assoc}
 use Rattle.std.specs.Global.{Vec}
 use Rattle.std.specs.Prelude.{option_to_list, find}
 use Rattle.std.specs.Borrow.{Bor}
-use Rattle.kc_config_reasons.proofs.Common.{◌≡◌, ℕ, suc, ◌+◌, ◌<◌, Bool, true, false, cond, List, [], ◌∷◌, ◌++◌, map, drop, length, Option, Some, None, refl,
-    sym, ◌∙◌, ap, arith, get_or, Result, Ok, Err, IfOk, option_map, reverse, option_or, option_copied, AllZip, Tree, unit_of, UserValue, LineMeaning,
-    assigning_place, overridden, AskingLine, FileLines, line_view, line_kept, KeepsLines, place_view, file_numbers, place_kept, places_kept,
-    file_asking_otherwise}
+use Rattle.kc_config_reasons.proofs.Common.{◌≡◌, ℕ, suc, ◌+◌, ◌<◌, Bool, true, false, cond, List, [], ◌∷◌, ◌++◌, map, drop, length, Option, Some, None, refl, sym, ◌∙◌, ap, arith, get_or, Result, Ok, Err, IfOk, option_map, reverse, option_or, option_copied, AllZip, Tree, unit_of, UserValue}
+use Rattle.kc_config_reasons.proofs.Common.{LineMeaning, assigning_place, overridden, AskingLine, FileLines, line_view, line_kept, KeepsLines, place_view, file_numbers, place_kept, places_kept, file_asking_otherwise}
 use Rattle.std.proofs.Math.Seq.{drop-cons, drop-length}
 use Rattle.std.proofs.lemmas.List.{map-append, reverse-append, length-map, length-drop}
 use Rattle.kc_rules_model.specs.Equality.{same_user}

@@ -1,6 +1,5 @@
 -- The reasons of a symbol hold of a configuration.
-use Rattle.kc_config_reasons.proofs.Common.{◌≡◌, ℕ, ◌<◌, List, Option, Some, length, refl, sym, ◌∙◌, ap, subst, Result, Ok, Err, IfOk, option_map, Tree, Symbol,
-    unit_of, UserValue, TreeModel, profile_of, tree_model_of, tree_in}
+use Rattle.kc_config_reasons.proofs.Common.{◌≡◌, ℕ, ◌<◌, List, Option, Some, length, refl, sym, ◌∙◌, ap, subst, Result, Ok, Err, IfOk, option_map, Tree, Symbol, unit_of, UserValue, TreeModel, profile_of, tree_model_of, tree_in}
 use Rattle.std.specs.Prelude.{slice_get}
 use Rattle.kc_rules_model.specs.declared.profile.Profile.{Profile}
 use Rattle.kc_rules_model.specs.declared.values.UnitValue.{UnitValue}

@@ -1,6 +1,5 @@
 -- A list that ascends without repeats is determined by its elements.
-use Rattle.kc_dependencies.proofs.Common.{◌≡◌, inl, inr, ℕ, ◌<◌, ◌==◌, Bool, true, false, List, [], ◌∷◌, refl, sym, ap, subst, ◌∙◌, arith, AllByRecursion,
-    list_any, false≢true, or_cases, or_left, or_right, eqb-true, eq-eqb}
+use Rattle.kc_dependencies.proofs.Common.{◌≡◌, inl, inr, ℕ, ◌<◌, ◌==◌, Bool, true, false, List, [], ◌∷◌, refl, sym, ap, subst, ◌∙◌, arith, AllByRecursion, list_any, false≢true, or_cases, or_left, or_right, eqb-true, eq-eqb}
 
 abbrev pub Rises : List ℕ → Type 0
 Rises [] = Unit {0}

@@ -3,8 +3,8 @@ use Rattle.std.proofs.Common.{IsSome}
 use Rattle.std.specs.List.{filter_map, cons_option}
 use Rattle.std.proofs.Math.Bool.{or_assoc}
 use Rattle.std.proofs.lemmas.List.Elements.{All-append, All-cons, All-nil}
-use Rattle.kc_dependencies.proofs.Common.{◌≡◌, ℕ, ◌+◌, ◌<◌, Bool, true, false, ◌||◌, ◌==◌, List, [], ◌∷◌, ◌++◌, length, map, get_or, take, Option, Some, None,
-    subst, refl, sym, ap, ◌∙◌, flat_map, list_any, false≢true, list_any-append, operand_names, operand_or_empty, Tree, mentions, is_at, has, AreUnits}
+use Rattle.kc_dependencies.proofs.Common.{◌≡◌, ℕ, ◌+◌, ◌<◌, Bool, true, false, ◌||◌, ◌==◌, List, [], ◌∷◌, ◌++◌, length, map, get_or, take, Option, Some, None, subst, refl, sym, ap, ◌∙◌, flat_map, list_any, false≢true, list_any-append, operand_names, operand_or_empty, Tree, mentions, is_at, has}
+use Rattle.kc_dependencies.proofs.Common.{AreUnits}
 use Rattle.std.proofs.lemmas.List.Folds.{list_any_more}
 use Rattle.kc_expr.specs.Expr.{Expr, alone, related, negated, both, either, shown}
 use Rattle.kc_expr.specs.between.Operand.{operand_alone}

@@ -1,6 +1,5 @@
 -- Lists of user values in ascending order of units.
-use Rattle.kc_dotconfig.proofs.Common.{◌≡◌, ℕ, zero, suc, ◌-◌, ◌<◌, IsTrue, List, [], ◌∷◌, ◌++◌, length, take, get_or, Some, ◌⊎◌, inl, inr, refl, sym, ◌∙◌, ap,
-    arith, slice_get, nat_cmp_is, nat_cmp, match_ordering, Greater, insert_entry, UserValue, AreAbove, IsAscending, AreBelow}
+use Rattle.kc_dotconfig.proofs.Common.{◌≡◌, ℕ, zero, suc, ◌-◌, ◌<◌, IsTrue, List, [], ◌∷◌, ◌++◌, length, take, get_or, Some, ◌⊎◌, inl, inr, refl, sym, ◌∙◌, ap, arith, slice_get, nat_cmp_is, nat_cmp, match_ordering, Greater, insert_entry, UserValue, AreAbove, IsAscending, AreBelow}
 use Rattle.std.specs.Prelude.{nat_lt}
 use Rattle.std.proofs.lemmas.Bool.{ltb-true}
 use Rattle.std.proofs.lemmas.List.{length_push}

@@ -1,6 +1,5 @@
 -- The fragments that fit a tree.
-use Rattle.kc_dotconfig.proofs.Common.{◌≡◌, ◌⊎◌, inl, inr, ℕ, zero, suc, ◌+◌, ◌<◌, ◌≤◌, true, false, IsTrue, List, [], ◌∷◌, length, get_or, Some, refl, sym, ◌∙◌,
-    ap, subst, arith, slice_get, slice_index, IsStrictlyIncreasing, false≢true, Tree, UserValue, user_fits, FitsTree, units_of, next_at}
+use Rattle.kc_dotconfig.proofs.Common.{◌≡◌, ◌⊎◌, inl, inr, ℕ, zero, suc, ◌+◌, ◌<◌, ◌≤◌, true, false, IsTrue, List, [], ◌∷◌, length, get_or, Some, refl, sym, ◌∙◌, ap, subst, arith, slice_get, slice_index, IsStrictlyIncreasing, false≢true, Tree, UserValue, user_fits, FitsTree, units_of, next_at}
 use Rattle.std.proofs.lemmas.Bool.{cases_lt}
 
 same_unit : (p q : ℕ × UserValue) → Some p ≡ Some q → p.0 ≡ q.0

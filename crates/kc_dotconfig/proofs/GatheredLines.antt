@@ -1,9 +1,8 @@
 -- Gathered assignments of members.
 use Rattle.std.proofs.Common.{◌||◌, filter}
-use Rattle.kc_dotconfig.proofs.Common.{◌≡◌, ◌≢◌, ◌⊎◌, inl, inr, ℕ, suc, ◌<◌, ◌≤◌, Bool, true, false, not, ◌==◌, cond, List, [], ◌∷◌, ◌++◌, length, Option, Some,
-    None, refl, sym, ◌∙◌, ap, arith, Vec, is_some, slice_set, option_or, lookup, is_at, insert_entry, nat_cmp, match_ordering, nat_cmp_is, Ordering, Less, Equal,
-    Greater, cases_eq, false≢true, get_or-set_same, get_or-set_other, length-set, changed_users, user_of, MemberLine, UserValue, is_listed, over, kept_last,
-    changes_of, AreAbove, IsAscending, AreBelow, lines_user, value_in, lines_in, held_in, with_unit, joined, split}
+use Rattle.kc_dotconfig.proofs.Common.{◌≡◌, ◌≢◌, ◌⊎◌, inl, inr, ℕ, suc, ◌<◌, ◌≤◌, Bool, true, false, not, ◌==◌, cond, List, [], ◌∷◌, ◌++◌, length, Option, Some, None, refl, sym, ◌∙◌, ap, arith, Vec, is_some, slice_set, option_or, lookup, is_at, insert_entry, nat_cmp, match_ordering, nat_cmp_is}
+use Rattle.kc_dotconfig.proofs.Common.{Ordering, Less, Equal, Greater, cases_eq, false≢true, get_or-set_same, get_or-set_other, length-set, changed_users, user_of, MemberLine, UserValue, is_listed, over, kept_last, changes_of, AreAbove, IsAscending, AreBelow, lines_user, value_in, lines_in, held_in}
+use Rattle.kc_dotconfig.proofs.Common.{with_unit, joined, split}
 use Rattle.std.specs.Option.{option_map}
 use Rattle.std.specs.Ordering.{is_eq}
 use Rattle.kc_rules_model.specs.declared.values.UserValue.TheVariants.{Lines as LinesUser}

@@ -1,6 +1,5 @@
 -- Items grouped by a number.
-use Rattle.kc_dotconfig.proofs.Common.{◌≡◌, inl, inr, ℕ, ◌==◌, eq-eqb, cond, List, [], ◌∷◌, Some, None, sym, ◌∙◌, ap, Vec, lookup, is_at, insert_entry, nat_cmp,
-    cases_eq, ne_eqb}
+use Rattle.kc_dotconfig.proofs.Common.{◌≡◌, inl, inr, ℕ, ◌==◌, eq-eqb, cond, List, [], ◌∷◌, Some, None, sym, ◌∙◌, ap, Vec, lookup, is_at, insert_entry, nat_cmp, cases_eq, ne_eqb}
 use Rattle.std.specs.Option.{option_map}
 use Rattle.kc_dotconfig.specs.checker.Groups.{items_at, items_more}
 use Rattle.kc_dotconfig.proofs.GatheredLines.{found_same, found_other}

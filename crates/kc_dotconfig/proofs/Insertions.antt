@@ -1,10 +1,7 @@
 -- A user value inserted into a sorted list is a change of the assignment.
-use Rattle.kc_dotconfig.proofs.Common.{◌≡◌, ◌≢◌, inl, inr, Bool, true, false, cond, ◌==◌, eq-eqb, ℕ, zero, suc, ◌+◌, ◌<◌, List, [], ◌∷◌, ◌++◌, length,
-    length-append, map, Option, Some, None, refl, sym, ◌∙◌, ap, subst, arith, Vec, slice_set, is_some, option_or, nat_cmp_is, nat_cmp, match_ordering, Ordering,
-    Less, Equal, Greater, insert_entry, cases_eq, ne_eqb, get_or-set_same, get_or-set_other, length-set, user_of, changed_users, MemberLine, UserValue,
-    changes_of, users_of, notice_pair, IsGathered, AreAbove, IsAscending, AreBelow, value_in, lines_in, lines_more, lines_user, held_in, with_unit, joined,
-    IsPlain, Tree, NoticeKind, Escape, Accumulator, LineMeaning, assigns, assigns_escaped, unchosen, notice, silent, over, empty_assignment, file_assignment,
-    choice_line_of, append-nil, split}
+use Rattle.kc_dotconfig.proofs.Common.{◌≡◌, ◌≢◌, inl, inr, Bool, true, false, cond, ◌==◌, eq-eqb, ℕ, zero, suc, ◌+◌, ◌<◌, List, [], ◌∷◌, ◌++◌, length, length-append, map, Option, Some, None, refl, sym, ◌∙◌, ap, subst, arith, Vec, slice_set, is_some, option_or, nat_cmp_is, nat_cmp, match_ordering}
+use Rattle.kc_dotconfig.proofs.Common.{Ordering, Less, Equal, Greater, insert_entry, cases_eq, ne_eqb, get_or-set_same, get_or-set_other, length-set, user_of, changed_users, MemberLine, UserValue, changes_of, users_of, notice_pair, IsGathered, AreAbove, IsAscending, AreBelow, value_in, lines_in}
+use Rattle.kc_dotconfig.proofs.Common.{lines_more, lines_user, held_in, with_unit, joined, IsPlain, Tree, NoticeKind, Escape, Accumulator, LineMeaning, assigns, assigns_escaped, unchosen, notice, silent, over, empty_assignment, file_assignment, choice_line_of, append-nil, split}
 use Rattle.std.specs.Prelude.{replicate}
 use Rattle.std.specs.Option.{option_map}
 use Rattle.std.proofs.lemmas.List.{set_comm}

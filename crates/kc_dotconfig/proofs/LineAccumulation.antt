@@ -1,8 +1,6 @@
 -- The meaning of a line of a configuration file is added to the accumulator.
-use Rattle.kc_dotconfig.proofs.Common.{◌≡◌, ℕ, ◌+◌, ◌==◌, true, cond, List, [], ◌∷◌, ◌++◌, length, Option, Some, None, sym, ◌∙◌, ap, subst, Result, Ok, Err,
-    OnOk, IfSome, option_map, insert_entry, nat_cmp, Tree, MemberLine, UserValue, Accumulator, FileFormat, NoticeKind, Escape, Meaning, is_name_prefix,
-    LineMeaning, assigns, unchosen, Means, IsMalformed, choice_line_of, append-nil, without_white_end, meaning_view, IsWithin, IsGathered, lines_in, lines_more,
-    IsPlain}
+use Rattle.kc_dotconfig.proofs.Common.{◌≡◌, ℕ, ◌+◌, ◌==◌, true, cond, List, [], ◌∷◌, ◌++◌, length, Option, Some, None, sym, ◌∙◌, ap, subst, Result, Ok, Err, OnOk, IfSome, option_map, insert_entry, nat_cmp, Tree, MemberLine, UserValue, Accumulator, FileFormat, NoticeKind, Escape, Meaning}
+use Rattle.kc_dotconfig.proofs.Common.{is_name_prefix, LineMeaning, assigns, unchosen, Means, IsMalformed, choice_line_of, append-nil, without_white_end, meaning_view, IsWithin, IsGathered, lines_in, lines_more, IsPlain}
 use Rattle.kc_rules_model.specs.declared.values.UserValue.TheVariants.{Text as TextUser}
 use Rattle.kc_dotconfig.specs.declared.meanings.Meaning.TheVariants.{Escaped, Unchosen, Line, Noted, Nothing}
 use Rattle.kc_dotconfig_model.specs.between.LineMeanings.{line_meaning}

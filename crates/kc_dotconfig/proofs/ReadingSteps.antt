@@ -1,8 +1,7 @@
 -- The steps of reading a configuration file, over plain values.
-use Rattle.kc_dotconfig.proofs.Common.{◌≡◌, ◌⊎◌, inl, inr, ℕ, zero, suc, ◌+◌, ◌-◌, ◌<◌, ◌≤◌, Bool, true, false, not, ◌==◌, List, [], ◌∷◌, ◌++◌, length, take,
-    drop, refl, sym, ◌∙◌, ap, subst, append_assoc, length-append, arith, Result, Ok, Err, IfErr, OnOk, slice_index, append-nil, common_steps, Tree, FileFormat,
-    LoadKind, Malformed, NotUtf8, LineTooLong, TooManyLines, OutOfMemory, TooLarge, Accumulator, LineMeaning, Means, IsMalformed, without_white_end, FileMeans,
-    MAX_CONFIG_BYTES, MAX_CONFIG_LINES, MAX_LINE_BYTES, complete, IsFirstFault, IsGathered, Holds, AcceptsBytes, EndsWell, EndsBadly}
+use Rattle.kc_dotconfig.proofs.Common.{◌≡◌, ◌⊎◌, inl, inr, ℕ, zero, suc, ◌+◌, ◌-◌, ◌<◌, ◌≤◌, Bool, true, false, not, ◌==◌, List, [], ◌∷◌, ◌++◌, length, take, drop, refl, sym, ◌∙◌, ap, subst, append_assoc, length-append, arith, Result, Ok, Err, IfErr, OnOk, slice_index, append-nil, common_steps}
+use Rattle.kc_dotconfig.proofs.Common.{Tree, FileFormat, LoadKind, Malformed, NotUtf8, LineTooLong, TooManyLines, OutOfMemory, TooLarge, Accumulator, LineMeaning, Means, IsMalformed, without_white_end, FileMeans, MAX_CONFIG_BYTES, MAX_CONFIG_LINES, MAX_LINE_BYTES, complete, IsFirstFault, IsGathered}
+use Rattle.kc_dotconfig.proofs.Common.{Holds, AcceptsBytes, EndsWell, EndsBadly}
 use Rattle.std.specs.Prelude.{OnErr, Some, None}
 use Rattle.std.specs.Str.{IsUtf8}
 use Rattle.std.proofs.lemmas.Bool.{and_from, and_parts, eqb-true}

@@ -1,8 +1,7 @@
 -- The user values accumulated from an accepted file fit the tree.
 use Rattle.std.proofs.Common.{IfSome}
-use Rattle.kc_dotconfig.proofs.Common.{◌≡◌, ℕ, zero, suc, ◌+◌, ◌<◌, true, IsTrue, List, [], ◌∷◌, length, Option, Some, None, sym, ◌∙◌, ap, subst, arith,
-    slice_get, slice_set, slice_index, IsStrictlyIncreasing, get_or-set_same, length-set, Tree, IsConsistent, changed_users, user_of, UserValue, user_fits,
-    FileFormat, is_name_prefix, LineMeaning, FileMeans, file_assignment, empty_assignment, FitsTree, changes_of, users_of, IsAscending, AreBelow, units_of}
+use Rattle.kc_dotconfig.proofs.Common.{◌≡◌, ℕ, zero, suc, ◌+◌, ◌<◌, true, IsTrue, List, [], ◌∷◌, length, Option, Some, None, sym, ◌∙◌, ap, subst, arith, slice_get, slice_set, slice_index, IsStrictlyIncreasing, get_or-set_same, length-set, Tree, IsConsistent, changed_users, user_of, UserValue}
+use Rattle.kc_dotconfig.proofs.Common.{user_fits, FileFormat, is_name_prefix, LineMeaning, FileMeans, file_assignment, empty_assignment, FitsTree, changes_of, users_of, IsAscending, AreBelow, units_of}
 use Rattle.kc_dotconfig_model.specs.LoadFaults.{IsAccepted}
 use Rattle.kc_dotconfig_model.proofs.AcceptedLines.{accepted_utf8}
 use Rattle.kc_dotconfig_model.proofs.FittingFiles.{file_fits}

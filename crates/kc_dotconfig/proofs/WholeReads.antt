@@ -1,10 +1,9 @@
 -- A configuration file read to its end, a block at a time.
 use Rattle.std.proofs.Common.{◌^◌}
 use Rattle.std.specs.Prelude.{Option, Some, None}
-use Rattle.kc_dotconfig.proofs.Common.{true, ◌≡◌, ◌⊎◌, inl, inr, ℕ, ◌+◌, ◌-◌, ◌<◌, ◌≤◌, map, List, [], ◌∷◌, ◌++◌, length, take, refl, sym, ◌∙◌, ap, subst,
-    append_assoc, length-append, arith, Result, Ok, Err, IfOk, IfErr, OnOk, FileFormat, append-nil, Tree, LoadKind, Malformed, NotUtf8, LineTooLong,
-    TooManyLines, OutOfMemory, TooLarge, Accumulator, MAX_CONFIG_BLOCK_BYTES, MAX_CONFIG_BYTES, MAX_CONFIG_LINES, complete, IsFirstFault, IsConsistent,
-    is_name_prefix, FitsTree, users_of, notice_pair, joined, Holds, AcceptsBytes, EndsWell, EndsBadly, IsGathered, IsAscending, AreBelow}
+use Rattle.kc_dotconfig.proofs.Common.{true, ◌≡◌, ◌⊎◌, inl, inr, ℕ, ◌+◌, ◌-◌, ◌<◌, ◌≤◌, map, List, [], ◌∷◌, ◌++◌, length, take, refl, sym, ◌∙◌, ap, subst, append_assoc, length-append, arith, Result, Ok, Err, IfOk, IfErr, OnOk, FileFormat, append-nil, Tree, LoadKind, Malformed, NotUtf8, LineTooLong}
+use Rattle.kc_dotconfig.proofs.Common.{TooManyLines, OutOfMemory, TooLarge, Accumulator, MAX_CONFIG_BLOCK_BYTES, MAX_CONFIG_BYTES, MAX_CONFIG_LINES, complete, IsFirstFault, IsConsistent, is_name_prefix, FitsTree, users_of, notice_pair, joined, Holds, AcceptsBytes, EndsWell, EndsBadly, IsGathered}
+use Rattle.kc_dotconfig.proofs.Common.{IsAscending, AreBelow}
 use Rattle.kc_dotconfig_model.specs.declared.fault.LoadFault.{LoadFault}
 use Rattle.std.specs.Io.KnownBytes.{Consumes, Keeps, IsAtEnd}
 use Rattle.kc_value.specs.Streams.{one_failure_more}

@@ -1,8 +1,7 @@
 -- Lists of members to which something is assigned.
 use Rattle.std.proofs.Common.{zero, suc, ◌≤◌, Bool, ◌&&◌, ◌||◌, get_or, Result, Ok, Err}
 use Rattle.std.specs.Prelude.{find, is_ok, MatchResult}
-use Rattle.kc_evaluation.proofs.Common.{◌≡◌, ℕ, ◌+◌, ◌<◌, inl, inr, true, ◌==◌, cond, List, [], ◌∷◌, length, map, Some, None, drop, refl, sym, ap, ◌∙◌, arith,
-    list_any, cases_lt, false_from_ne_true, eqb-true, list_any_none, MemberLine, is_listed, last_y}
+use Rattle.kc_evaluation.proofs.Common.{◌≡◌, ℕ, ◌+◌, ◌<◌, inl, inr, true, ◌==◌, cond, List, [], ◌∷◌, length, map, Some, None, drop, refl, sym, ap, ◌∙◌, arith, list_any, cases_lt, false_from_ne_true, eqb-true, list_any_none, MemberLine, is_listed, last_y}
 use Rattle.std.specs.List.Sorted.{IsNonDecreasing, IsBinarySearchResult, IsPermutation}
 use Rattle.std.specs.Option.{option_or}
 use Rattle.std.specs.Ordering.{nat_cmp}

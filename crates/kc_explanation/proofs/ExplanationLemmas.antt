@@ -1,8 +1,7 @@
 -- The text of a symbol's reasons, line after line.
 use Rattle.std.proofs.Common.{zero, suc, ◌<◌, length}
 use Rattle.std.specs.Prelude.{option_map, unwrap_or}
-use Rattle.kc_explanation.proofs.Common.{◌≡◌, ℕ, List, [], ◌∷◌, ◌++◌, Some, refl, ap, sym, ◌∙◌, append_assoc, arith, slice_get, Tree, Symbol, UnitValue, Strings,
-    Position}
+use Rattle.kc_explanation.proofs.Common.{◌≡◌, ℕ, List, [], ◌∷◌, ◌++◌, Some, refl, ap, sym, ◌∙◌, append_assoc, arith, slice_get, Tree, Symbol, UnitValue, Strings, Position}
 use Rattle.kc_reasons_model.specs.PlainReasons.{PlainReasons}
 use Rattle.kc_reasons_model.specs.SymbolLines.{SymbolLines}
 use Rattle.kc_located_reasons.specs.LocatedNeeds.{LocatedPart}

@@ -1,7 +1,6 @@
 -- Lines of parts of conditions, and of selects and implies.
 use Rattle.std.proofs.Common.{cond, Option, None}
-use Rattle.kc_explanation.proofs.Common.{◌≡◌, ℕ, List, [], ◌∷◌, ◌++◌, map, Some, refl, ap, ◌∙◌, append_assoc, codes, slice_get, append-nil, Exprs, Tree, Symbol,
-    Position, UnitValue, environment, Strings, located_alternatives_view, located_forcing_lines, joined_parts, part_lines, needed_lines}
+use Rattle.kc_explanation.proofs.Common.{◌≡◌, ℕ, List, [], ◌∷◌, ◌++◌, map, Some, refl, ap, ◌∙◌, append_assoc, codes, slice_get, append-nil, Exprs, Tree, Symbol, Position, UnitValue, environment, Strings, located_alternatives_view, located_forcing_lines, joined_parts, part_lines, needed_lines}
 use Rattle.std.specs.Global.{Vec}
 use Rattle.kc_expr.specs.Expr.{Environment}
 use Rattle.kc_tree_model.specs.Trees.{ReverseDependency}

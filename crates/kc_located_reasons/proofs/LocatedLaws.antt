@@ -2,8 +2,7 @@
 use Rattle.std.proofs.Common.{true, false, ◌||◌}
 use Rattle.std.specs.Prelude.{flat_map}
 use Rattle.std.specs.List.{list_any}
-use Rattle.kc_located_reasons.proofs.Common.{◌≡◌, Bool, cond, List, [], ◌∷◌, ◌++◌, map, refl, ap, sym, ◌∙◌, map-append, Tri, Part, lacking, at_place, lacking_at,
-    located_lacking}
+use Rattle.kc_located_reasons.proofs.Common.{◌≡◌, Bool, cond, List, [], ◌∷◌, ◌++◌, map, refl, ap, sym, ◌∙◌, map-append, Tri, Part, lacking, at_place, lacking_at, located_lacking}
 use Rattle.kc_tree_model.specs.Trees.{Symbol}
 use Rattle.kc_tree_model.specs.Blocks.{Position}
 use Rattle.kc_rules_model.specs.Rule.{selected, is_from_environment}

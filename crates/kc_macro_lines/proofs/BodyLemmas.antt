@@ -1,8 +1,6 @@
 -- Bytes between quotes, written item by item.
-use Rattle.kc_macro_lines.proofs.Common.{◌≡◌, ℕ, true, List, [], ◌∷◌, ◌++◌, Some, refl, sym, ap, ◌∙◌, append_assoc, append-nil, Place, Program, returns, ◌>>=◌,
-    Item, reference, item_bytes, items, Value, Bindings, text_value, WrittenToken, token_of_body, body_of, joined_bodies, written_items, returned, Stop,
-    RunState, ends, end_of_stop, Runs, bodies_left, quoted_written, Leads, then_runs, stops_early, runs_nothing, returns_as, then_returns, then_then, then_same,
-    runs_same, leads_same, leads_then, leads_on, fails_so}
+use Rattle.kc_macro_lines.proofs.Common.{◌≡◌, ℕ, true, List, [], ◌∷◌, ◌++◌, Some, refl, sym, ap, ◌∙◌, append_assoc, append-nil, Place, Program, returns, ◌>>=◌, Item, reference, item_bytes, items, Value, Bindings, text_value, WrittenToken, token_of_body, body_of, joined_bodies, written_items}
+use Rattle.kc_macro_lines.proofs.Common.{returned, Stop, RunState, ends, end_of_stop, Runs, bodies_left, quoted_written, Leads, then_runs, stops_early, runs_nothing, returns_as, then_returns, then_then, then_same, runs_same, leads_same, leads_then, leads_on, fails_so}
 use Rattle.kc_macros_model.specs.Programs.{Fault, fails}
 use Rattle.kc_macros_model.specs.Variables.{joined_values}
 use Rattle.kc_macros_model.specs.WrittenTokens.{WrittenQuotedText, body_of_value, written_item}

@@ -1,6 +1,5 @@
 -- The names that most proofs of this crate cite, passed on from one place. Declares nothing.
-pub use Rattle.std.proofs.Common.{Bool, List, None, Option, Some, [], ap, append_assoc, arith, cond, drop, false, get_or, leb, length, length-append,
-    length-drop, refl, rules, subst, suc, sym, take, true, zero, ℕ, ◌&&◌, ◌++◌, ◌+◌, ◌-◌, ◌<◌, ◌||◌, ◌∙◌, ◌∷◌, ◌≡◌, ◌≤◌}
+pub use Rattle.std.proofs.Common.{Bool, List, None, Option, Some, [], ap, append_assoc, arith, cond, drop, false, get_or, leb, length, length-append, length-drop, refl, rules, subst, suc, sym, take, true, zero, ℕ, ◌&&◌, ◌++◌, ◌+◌, ◌-◌, ◌<◌, ◌||◌, ◌∙◌, ◌∷◌, ◌≡◌, ◌≤◌}
 pub use Rattle.std.proofs.lemmas.Bool.{eqb-true, le-ltb}
 pub use Rattle.std.proofs.lemmas.List.{append-nil, drop_all}
 pub use Rattle.std.proofs.lemmas.Simd.{length-chunk}
@@ -22,20 +21,16 @@ pub use Rattle.kc_macros.specs.Runs.{Runs, end_of_stop, ends, place_of}
 pub use Rattle.kc_macros.specs.between.Variables.{bindings_of}
 pub use Rattle.kc_macros.specs.checker.ProgramSteps.{Leads}
 pub use Rattle.kc_macros.specs.declared.stop.Stop.{Stop}
-pub use Rattle.kc_macros_model.specs.Assignments.{AssignedText, LineContent, assigned, assignment_at, assignment_or, assignment_to, is_gap, is_gap_token,
-    is_open_front, is_unknown, line_content, operator_at, tokens, with_token, without_front}
+pub use Rattle.kc_macros_model.specs.Assignments.{AssignedText, LineContent, assigned, assignment_at, assignment_or, assignment_to, is_gap, is_gap_token, is_open_front, is_unknown, line_content, operator_at, tokens, with_token, without_front}
 pub use Rattle.kc_macros_model.specs.EnvironmentLines.{asked_after_option, asked_by, solid_tokens}
 pub use Rattle.kc_macros_model.specs.Expansion.{text_value}
 pub use Rattle.kc_macros_model.specs.LineForms.{help_words, prompt_words, source_words}
-pub use Rattle.kc_macros_model.specs.LineTokens.{LineToken, broken, bytes_of_tokens, extent, first_token, gap, is_run_byte, line_tokens, other, quoted,
-    quoted_token, run, run_token, token_bytes}
+pub use Rattle.kc_macros_model.specs.LineTokens.{LineToken, broken, bytes_of_tokens, extent, first_token, gap, is_run_byte, line_tokens, other, quoted, quoted_token, run, run_token, token_bytes}
 pub use Rattle.kc_macros_model.specs.Programs.{Place, Program, returns, stops, ◌>>=◌}
-pub use Rattle.kc_macros_model.specs.References.{Item, byte, escaped, first_item, inside_length, is_plain_dollar, is_reference, is_unterminated, item_bytes,
-    items, reference, reference_of, unterminated}
+pub use Rattle.kc_macros_model.specs.References.{Item, byte, escaped, first_item, inside_length, is_plain_dollar, is_reference, is_unterminated, item_bytes, items, reference, reference_of, unterminated}
 pub use Rattle.kc_macros_model.specs.Variables.{Bindings, Value}
 pub use Rattle.kc_macros_model.specs.Worlds.{returned}
-pub use Rattle.kc_macros_model.specs.WrittenTokens.{WrittenToken, body_of, joined_bodies, run_value, token_of_body, token_of_text, written_as, written_items,
-    written_token}
+pub use Rattle.kc_macros_model.specs.WrittenTokens.{WrittenToken, body_of, joined_bodies, run_value, token_of_body, token_of_text, written_as, written_items, written_token}
 pub use Rattle.kc_macros_model.specs.declared.token_sort.TokenSort.TheVariants.{Other, Word}
 pub use Rattle.kc_tokens.specs.Token.{is_white_byte}
 pub use Rattle.kc_tree_model.specs.Limits.{is_in_list}

@@ -1,12 +1,9 @@
 -- Lines without `$`, and lines on which nothing acts.
-use Rattle.kc_macro_lines.proofs.Common.{◌≡◌, ℕ, zero, suc, ◌+◌, ◌≤◌, Bool, true, false, ◌&&◌, ◌||◌, cond, List, [], ◌∷◌, ◌++◌, length, take, drop, get_or,
-    Option, Some, None, refl, sym, ap, ◌∙◌, subst, arith, ◌==◌, not, nat_lt, pred, bytes_eq, codes, is_some, option_map, list_any, prefix_len, is_utf8, drop_all,
-    eqb-true, le-ltb, is_white_byte, is_in_list, Place, Program, returns, stops, ◌>>=◌, Item, byte, escaped, item_bytes, reference_of, first_item, items,
-    inside_length, is_unterminated, is_reference, is_plain_dollar, Bindings, LineToken, gap, run, quoted, other, broken, token_bytes, extent, is_run_byte,
-    run_token, quoted_token, first_token, line_tokens, bytes_of_tokens, Word, Other, WrittenToken, written_as, body_of, joined_bodies, written_items,
-    token_of_body, written_token, run_value, token_of_text, AssignedText, LineContent, tokens, with_token, is_gap, is_unknown, is_gap_token, is_open_front,
-    assignment_to, assignment_at, assignment_or, line_content, without_front, solid_tokens, asked_after_option, asked_by, prompt_words, source_words, help_words,
-    is_acting_word, IsQuiet}
+use Rattle.kc_macro_lines.proofs.Common.{◌≡◌, ℕ, zero, suc, ◌+◌, ◌≤◌, Bool, true, false, ◌&&◌, ◌||◌, cond, List, [], ◌∷◌, ◌++◌, length, take, drop, get_or, Option, Some, None, refl, sym, ap, ◌∙◌, subst, arith, ◌==◌, not, nat_lt, pred, bytes_eq, codes, is_some, option_map, list_any, prefix_len}
+use Rattle.kc_macro_lines.proofs.Common.{is_utf8, drop_all, eqb-true, le-ltb, is_white_byte, is_in_list, Place, Program, returns, stops, ◌>>=◌, Item, byte, escaped, item_bytes, reference_of, first_item, items, inside_length, is_unterminated, is_reference, is_plain_dollar, Bindings, LineToken, gap}
+use Rattle.kc_macro_lines.proofs.Common.{run, quoted, other, broken, token_bytes, extent, is_run_byte, run_token, quoted_token, first_token, line_tokens, bytes_of_tokens, Word, Other, WrittenToken, written_as, body_of, joined_bodies, written_items, token_of_body, written_token, run_value}
+use Rattle.kc_macro_lines.proofs.Common.{token_of_text, AssignedText, LineContent, tokens, with_token, is_gap, is_unknown, is_gap_token, is_open_front, assignment_to, assignment_at, assignment_or, line_content, without_front, solid_tokens, asked_after_option, asked_by, prompt_words, source_words}
+use Rattle.kc_macro_lines.proofs.Common.{help_words, is_acting_word, IsQuiet}
 use Rattle.std.specs.Prelude.{is_none}
 use Rattle.kc_tree_model.specs.LogicalLines.{begins_help}
 use Rattle.kc_macros_model.specs.declared.fault.MacroKind.TheVariants.{LineTooLong}
@@ -15,8 +12,7 @@ use Rattle.kc_macros_model.specs.Expansion.{fault}
 use Rattle.kc_macros_model.specs.declared.token_sort.TokenSort.TheVariants.{Gap}
 use Rattle.kc_macros_model.specs.EnvironmentLines.{meant_line}
 use Rattle.kc_macros_model.proofs.EnvironmentLines.{meant_same}
-use Rattle.kc_macros_model.specs.LineForms.{LineForm, plain, bare_prompt, replaced_by, named_choice, sources, sort_of_source, is_path, form_of, form_by_word,
-    form_of_pair, is_word, is_bare_prompt, is_help_line, is_undecided, without_gaps, line_bytes}
+use Rattle.kc_macros_model.specs.LineForms.{LineForm, plain, bare_prompt, replaced_by, named_choice, sources, sort_of_source, is_path, form_of, form_by_word, form_of_pair, is_word, is_bare_prompt, is_help_line, is_undecided, without_gaps, line_bytes}
 use Rattle.kc_macros_model.specs.ReadingStates.{ReadingState, progress, WrittenLine, written_line}
 use Rattle.kc_macros_model.specs.TreeExpansion.{SourceReader, form_written, short_line, tokens_written, content_written, line_written}
 use Rattle.kc_macro_lines.specs.between.CopiedLines.{IsCopied}

@@ -1,6 +1,5 @@
 -- A line without `=` asks no variable of the environment.
-use Rattle.kc_macro_lines.proofs.Common.{◌≡◌, ℕ, Bool, true, false, ◌||◌, cond, List, [], ◌∷◌, ◌++◌, Option, None, refl, sym, ap, ◌∙◌, ◌==◌, codes, bytes_eq,
-    LineToken, gap, run, quoted, other, broken, line_tokens, bytes_of_tokens, solid_tokens, asked_after_option, asked_by, has_equals_sign}
+use Rattle.kc_macro_lines.proofs.Common.{◌≡◌, ℕ, Bool, true, false, ◌||◌, cond, List, [], ◌∷◌, ◌++◌, Option, None, refl, sym, ap, ◌∙◌, ◌==◌, codes, bytes_eq, LineToken, gap, run, quoted, other, broken, line_tokens, bytes_of_tokens, solid_tokens, asked_after_option, asked_by, has_equals_sign}
 use Rattle.std.specs.Prelude.{◌&&◌}
 use Rattle.kc_macros_model.specs.EnvironmentLines.{asked_after_sign, asked_after_env, environment_asked}
 use Rattle.kc_macro_lines.proofs.LineTokenLemmas.{row_of_tokens}

@@ -1,8 +1,6 @@
 -- Texts without their first bytes, and the assignments that they make.
-use Rattle.kc_macro_lines.proofs.Common.{◌≡◌, ℕ, zero, suc, ◌+◌, ◌-◌, ◌<◌, ◌≤◌, Bool, true, false, ◌&&◌, cond, List, [], ◌∷◌, length, take, drop, get_or, Option,
-    None, refl, sym, ap, ◌∙◌, arith, length-drop, ◌==◌, not, option_map, eqb-true, list_any, prefix_len, is_white_byte, LineToken, run, token_bytes, line_tokens,
-    bytes_of_tokens, WrittenToken, AssignedText, assigned, without_front, operator_at, assignment_to, is_gap_token, is_unknown, is_open_front, first_token_of,
-    has_token, rest_is}
+use Rattle.kc_macro_lines.proofs.Common.{◌≡◌, ℕ, zero, suc, ◌+◌, ◌-◌, ◌<◌, ◌≤◌, Bool, true, false, ◌&&◌, cond, List, [], ◌∷◌, length, take, drop, get_or, Option, None, refl, sym, ap, ◌∙◌, arith, length-drop, ◌==◌, not, option_map, eqb-true, list_any, prefix_len, is_white_byte, LineToken, run}
+use Rattle.kc_macro_lines.proofs.Common.{token_bytes, line_tokens, bytes_of_tokens, WrittenToken, AssignedText, assigned, without_front, operator_at, assignment_to, is_gap_token, is_unknown, is_open_front, first_token_of, has_token, rest_is}
 use Rattle.kc_macros_model.specs.WrittenTokens.{is_keyword}
 use Rattle.kc_macros_model.specs.Assignments.{is_blank_byte}
 use Rattle.kc_macro_lines.proofs.LineTokenLemmas.{row_of_tokens, tokens_first, token_fits, any_token}

@@ -1,9 +1,7 @@
 -- The content of a line, token by token.
-use Rattle.kc_macro_lines.proofs.Common.{◌≡◌, ℕ, ◌<◌, Bool, true, false, ◌&&◌, List, [], ◌∷◌, ◌++◌, length, Option, Some, None, refl, sym, ap, ◌∙◌, subst,
-    append_assoc, arith, append-nil, Place, Program, returns, stops, ◌>>=◌, Value, Bindings, LineToken, run, token_bytes, WrittenToken, token_of_text, run_value,
-    written_token, AssignedText, assigned, LineContent, tokens, with_token, is_gap, is_open_front, assignment_to, assignment_at, assignment_or, line_content,
-    returned, Stop, RunState, ends, end_of_stop, Runs, token_of, tokens_of, Leads, then_runs, stops_early, runs_nothing, then_returns, then_then, then_same,
-    runs_same, leads_same, leads_then, leads_on}
+use Rattle.kc_macro_lines.proofs.Common.{◌≡◌, ℕ, ◌<◌, Bool, true, false, ◌&&◌, List, [], ◌∷◌, ◌++◌, length, Option, Some, None, refl, sym, ap, ◌∙◌, subst, append_assoc, arith, append-nil, Place, Program, returns, stops, ◌>>=◌, Value, Bindings, LineToken, run, token_bytes, WrittenToken}
+use Rattle.kc_macro_lines.proofs.Common.{token_of_text, run_value, written_token, AssignedText, assigned, LineContent, tokens, with_token, is_gap, is_open_front, assignment_to, assignment_at, assignment_or, line_content, returned, Stop, RunState, ends, end_of_stop, Runs, token_of, tokens_of, Leads}
+use Rattle.kc_macro_lines.proofs.Common.{then_runs, stops_early, runs_nothing, then_returns, then_then, then_same, runs_same, leads_same, leads_then, leads_on}
 use Rattle.std.proofs.lemmas.List.{map-append}
 use Rattle.kc_macros_model.specs.Assignments.{assigns}
 use Rattle.kc_macros_model.specs.Worlds.{stopped}

@@ -1,8 +1,6 @@
 -- A line is its tokens in a row.
-use Rattle.kc_macro_lines.proofs.Common.{◌≡◌, ℕ, zero, suc, ◌-◌, ◌<◌, ◌≤◌, Bool, true, false, ◌||◌, cond, List, [], ◌∷◌, ◌++◌, length, take, drop, get_or, refl,
-    sym, ap, ◌∙◌, subst, arith, length-append, ◌==◌, pred, not, nat_lt, list_any, append-nil, drop_all, eqb-true, is_white_byte, item_bytes, first_item, items,
-    is_unterminated, LineToken, gap, run, quoted, other, broken, token_bytes, extent, is_run_byte, run_token, quoted_token, first_token, line_tokens,
-    bytes_of_tokens, is_gap_token, first_token_of, has_token, rest_is}
+use Rattle.kc_macro_lines.proofs.Common.{◌≡◌, ℕ, zero, suc, ◌-◌, ◌<◌, ◌≤◌, Bool, true, false, ◌||◌, cond, List, [], ◌∷◌, ◌++◌, length, take, drop, get_or, refl, sym, ap, ◌∙◌, subst, arith, length-append, ◌==◌, pred, not, nat_lt, list_any, append-nil, drop_all, eqb-true, is_white_byte, item_bytes}
+use Rattle.kc_macro_lines.proofs.Common.{first_item, items, is_unterminated, LineToken, gap, run, quoted, other, broken, token_bytes, extent, is_run_byte, run_token, quoted_token, first_token, line_tokens, bytes_of_tokens, is_gap_token, first_token_of, has_token, rest_is}
 use Rattle.std.proofs.lemmas.Bool.{ltb-true}
 
 -- where an extent stops

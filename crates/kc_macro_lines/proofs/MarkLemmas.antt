@@ -1,7 +1,6 @@
 -- A `$` or a byte that isn't ASCII among the bytes that are looked at together.
 use Rattle.std.proofs.Common.{◌*◌, ◌%◌, ◌^◌, eqb, not, ◌==◌, bit_or, Fits, w8, map, ap₂}
-use Rattle.kc_macro_lines.proofs.Common.{◌≡◌, ℕ, zero, suc, ◌+◌, ◌≤◌, leb, Bool, true, false, ◌||◌, cond, List, [], ◌∷◌, ◌++◌, length, take, drop, get_or, refl,
-    sym, ap, ◌∙◌, arith, length-drop, nat_le, list_any, eqb-true, length-chunk, chunk, has_dollar_or_wide}
+use Rattle.kc_macro_lines.proofs.Common.{◌≡◌, ℕ, zero, suc, ◌+◌, ◌≤◌, leb, Bool, true, false, ◌||◌, cond, List, [], ◌∷◌, ◌++◌, length, take, drop, get_or, refl, sym, ap, ◌∙◌, arith, length-drop, nat_le, list_any, eqb-true, length-chunk, chunk, has_dollar_or_wide}
 use Rattle.std.proofs.lemmas.Bool.{agree_below, agree_below_at}
 use Rattle.std.proofs.lemmas.List.{take-append-drop, take-take, drop-take, take_all, length-map}
 use Rattle.std.proofs.lemmas.List.Folds.{list_any-append}

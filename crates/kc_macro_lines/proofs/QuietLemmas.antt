@@ -2,11 +2,9 @@
 use Rattle.std.proofs.Common.{◌≢◌}
 use Rattle.std.specs.Prelude.{take_while}
 use Rattle.std.specs.List.{All, list_all}
-use Rattle.kc_macro_lines.proofs.Common.{◌≡◌, ℕ, zero, suc, ◌<◌, Bool, true, false, ◌||◌, cond, List, [], ◌∷◌, ◌++◌, length, take, drop, get_or, refl, sym, ap,
-    ◌∙◌, subst, arith, ◌==◌, not, pred, nat_le, bytes_eq, codes, is_utf8, drop_all, is_white_byte, is_in_list, Place, returns, ◌>>=◌, Bindings, body_of,
-    joined_bodies, written_items, byte, escaped, item_bytes, first_item, items, LineToken, gap, run, broken, other, token_bytes, extent, is_run_byte, run_token,
-    quoted_token, first_token, line_tokens, without_front, prompt_words, source_words, help_words, has_dollar_or_backslash, is_acting_word, has_dollar_or_wide,
-    IsQuiet}
+use Rattle.kc_macro_lines.proofs.Common.{◌≡◌, ℕ, zero, suc, ◌<◌, Bool, true, false, ◌||◌, cond, List, [], ◌∷◌, ◌++◌, length, take, drop, get_or, refl, sym, ap, ◌∙◌, subst, arith, ◌==◌, not, pred, nat_le, bytes_eq, codes, is_utf8, drop_all, is_white_byte, is_in_list, Place, returns, ◌>>=◌, Bindings}
+use Rattle.kc_macro_lines.proofs.Common.{body_of, joined_bodies, written_items, byte, escaped, item_bytes, first_item, items, LineToken, gap, run, broken, other, token_bytes, extent, is_run_byte, run_token, quoted_token, first_token, line_tokens, without_front, prompt_words, source_words}
+use Rattle.kc_macro_lines.proofs.Common.{help_words, has_dollar_or_backslash, is_acting_word, has_dollar_or_wide, IsQuiet}
 use Rattle.std.proofs.lemmas.Bool.{and_parts, leb-false}
 use Rattle.std.proofs.lemmas.List.Elements.{All-nil, All-cons}
 use Rattle.std.proofs.lemmas.List.Sums.{take_while-cons}

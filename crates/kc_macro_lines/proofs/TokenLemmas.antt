@@ -2,10 +2,8 @@
 use Rattle.std.proofs.Common.{inl, inr}
 use Rattle.std.specs.Prelude.{◌⊎◌, slice_get}
 use Rattle.std.proofs.lemmas.Bool.{lt-ltb, cases_lt}
-use Rattle.kc_macro_lines.proofs.Common.{◌≡◌, ℕ, zero, suc, ◌+◌, ◌-◌, ◌<◌, ◌≤◌, Bool, true, false, ◌&&◌, ◌||◌, cond, List, [], ◌∷◌, ◌++◌, length, take, drop,
-    get_or, Option, Some, None, refl, sym, ap, ◌∙◌, arith, length-append, length-drop, ◌==◌, pred, is_some, not, nat_lt, le-ltb, list_any, Item, byte, escaped,
-    reference, unterminated, item_bytes, reference_of, first_item, items, is_unterminated, is_reference, is_plain_dollar, inside_length, extent, first_item_of,
-    rest_is}
+use Rattle.kc_macro_lines.proofs.Common.{◌≡◌, ℕ, zero, suc, ◌+◌, ◌-◌, ◌<◌, ◌≤◌, Bool, true, false, ◌&&◌, ◌||◌, cond, List, [], ◌∷◌, ◌++◌, length, take, drop, get_or, Option, Some, None, refl, sym, ap, ◌∙◌, arith, length-append, length-drop, ◌==◌, pred, is_some, not, nat_lt, le-ltb, list_any, Item}
+use Rattle.kc_macro_lines.proofs.Common.{byte, escaped, reference, unterminated, item_bytes, reference_of, first_item, items, is_unterminated, is_reference, is_plain_dollar, inside_length, extent, first_item_of, rest_is}
 use Rattle.std.specs.Cmp.{first_so}
 use Rattle.kc_macros_model.specs.ExpansionRules.{begins_reference}
 

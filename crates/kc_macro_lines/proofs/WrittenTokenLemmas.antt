@@ -1,7 +1,6 @@
 -- How runs are written.
-use Rattle.kc_macro_lines.proofs.Common.{◌≡◌, ℕ, Bool, true, false, List, [], Some, refl, ap, ◌∙◌, ◌==◌, list_any, Place, Program, returns, ◌>>=◌, items,
-    is_reference, is_plain_dollar, Value, Bindings, text_value, Word, Other, WrittenToken, written_as, run_value, returned, Stop, RunState, ends, end_of_stop,
-    Runs, then_runs, stops_early, runs_nothing, returns_as, runs_same}
+use Rattle.kc_macro_lines.proofs.Common.{◌≡◌, ℕ, Bool, true, false, List, [], Some, refl, ap, ◌∙◌, ◌==◌, list_any, Place, Program, returns, ◌>>=◌, items, is_reference, is_plain_dollar, Value, Bindings, text_value, Word, Other, WrittenToken, written_as, run_value, returned, Stop, RunState, ends}
+use Rattle.kc_macro_lines.proofs.Common.{end_of_stop, Runs, then_runs, stops_early, runs_nothing, returns_as, runs_same}
 use Rattle.kc_macros_model.specs.WrittenTokens.{token_of_value, written_run}
 
 module _ (at : Place) (b : Bindings) (s : List ℕ) where

@@ -1,6 +1,5 @@
 -- The steps of an assignment.
-use Rattle.kc_macros.proofs.Common.{◌≡◌, ℕ, ◌<◌, List, [], ◌∷◌, Option, Some, refl, sym, ap, subst, MAX_TEXT_BYTES, Place, Program, returns, fails, ◌>>=◌, Value,
-    value_length, joined_values, simple, Bindings, with_variable, returned, Stop, RunState, RunEnd, ends, end_of_stop, Runs, spent, too_long}
+use Rattle.kc_macros.proofs.Common.{◌≡◌, ℕ, ◌<◌, List, [], ◌∷◌, Option, Some, refl, sym, ap, subst, MAX_TEXT_BYTES, Place, Program, returns, fails, ◌>>=◌, Value, value_length, joined_values, simple, Bindings, with_variable, returned, Stop, RunState, RunEnd, ends, end_of_stop, Runs, spent, too_long}
 use Rattle.kc_macros_model.specs.Variables.{Variable}
 use Rattle.kc_macros_model.specs.Expansion.{text_value}
 use Rattle.kc_macros_model.specs.declared.operator.Operator.{Operator}

@@ -1,6 +1,5 @@
 -- Variables by names, through the map that holds them.
-use Rattle.kc_macros.proofs.Common.{fun_ext, ◌≡◌, ℕ, Bool, true, false, cond, List, [], ◌∷◌, map, Option, Some, None, refl, ap, ◌∙◌, Vec, bytes_eq, option_map,
-    Global, Bor, with_variable, variable_of, entry_of, bindings_of}
+use Rattle.kc_macros.proofs.Common.{fun_ext, ◌≡◌, ℕ, Bool, true, false, cond, List, [], ◌∷◌, map, Option, Some, None, refl, ap, ◌∙◌, Vec, bytes_eq, option_map, Global, Bor, with_variable, variable_of, entry_of, bindings_of}
 use Rattle.indexmap.specs.IndexMap.{insert_entry}
 use Rattle.std.specs.Option.{option_copied}
 use Rattle.std.specs.Map.{lookup}

@@ -1,8 +1,6 @@
 -- The steps of a reference.
-use Rattle.kc_macros.proofs.Common.{◌≡◌, ℕ, suc, ◌+◌, ◌-◌, ◌<◌, ◌≤◌, Bool, true, false, List, [], ◌∷◌, ◌++◌, length, take, drop, get_or, Some, None, refl, sym,
-    ap, ◌∙◌, append_assoc, arith, bytes_eq, Bor, texts_of_slices, le-leb, lt-leb, append-nil, take_all, at_drop_more, Arguments, Place, Program, returns, fails,
-    ◌>>=◌, reference, pieces, Value, recursive, Bindings, item_value, piece_values, call_value, named_value, pieces_left, returned, Stop, RunState, ends,
-    end_of_stop, Runs, Leads}
+use Rattle.kc_macros.proofs.Common.{◌≡◌, ℕ, suc, ◌+◌, ◌-◌, ◌<◌, ◌≤◌, Bool, true, false, List, [], ◌∷◌, ◌++◌, length, take, drop, get_or, Some, None, refl, sym, ap, ◌∙◌, append_assoc, arith, bytes_eq, Bor, texts_of_slices, le-leb, lt-leb, append-nil, take_all, at_drop_more, Arguments, Place, Program}
+use Rattle.kc_macros.proofs.Common.{returns, fails, ◌>>=◌, reference, pieces, Value, recursive, Bindings, item_value, piece_values, call_value, named_value, pieces_left, returned, Stop, RunState, ends, end_of_stop, Runs, Leads}
 use Rattle.std.specs.Prelude.{◌||◌}
 use Rattle.std.specs.List.{list_any}
 use Rattle.kc_macros_model.specs.declared.fault.MacroKind.TheVariants.{Recursion}

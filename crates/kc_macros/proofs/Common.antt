@@ -1,6 +1,5 @@
 -- The names that most proofs of this crate cite, passed on from one place. Declares nothing.
-pub use Rattle.std.proofs.Common.{Bool, Err, List, None, Ok, Option, Result, Some, [], ap, append_assoc, arith, cond, drop, false, get_or, inl, inr, length,
-    length-append, map, refl, rules, subst, suc, sym, take, true, zero, ℕ, ◌&&◌, ◌*◌, ◌++◌, ◌+◌, ◌-◌, ◌<◌, ◌∙◌, ◌∷◌, ◌≡◌, ◌≤◌}
+pub use Rattle.std.proofs.Common.{Bool, Err, List, None, Ok, Option, Result, Some, [], ap, append_assoc, arith, cond, drop, false, get_or, inl, inr, length, length-append, map, refl, rules, subst, suc, sym, take, true, zero, ℕ, ◌&&◌, ◌*◌, ◌++◌, ◌+◌, ◌-◌, ◌<◌, ◌∙◌, ◌∷◌, ◌≡◌, ◌≤◌}
 pub use Rattle.std.proofs.lemmas.Bool.{le-leb, le-ltb, lt-leb, lt-ltb}
 pub use Rattle.std.proofs.lemmas.List.{append-nil, at_drop_all, at_drop_more, take_all}
 pub use Rattle.std.specs.Borrow.{Bor}
@@ -21,8 +20,7 @@ pub use Rattle.kc_macros.specs.checker.PartialValues.{known_bytes, too_long, val
 pub use Rattle.kc_macros.specs.checker.Pieces.{pieces_left}
 pub use Rattle.kc_macros.specs.checker.ProgramSteps.{Leads, Steps}
 pub use Rattle.kc_macros.specs.declared.stop.Stop.{Stop}
-pub use Rattle.kc_macros_model.specs.Expansion.{asked_value, built_in_value, call_value, item_value, item_values, named_value, piece_values, reported,
-    unless_too_long}
+pub use Rattle.kc_macros_model.specs.Expansion.{asked_value, built_in_value, call_value, item_value, item_values, named_value, piece_values, reported, unless_too_long}
 pub use Rattle.kc_macros_model.specs.Programs.{Fault, Notice, Place, Program, fails, returns, stops, ◌>>=◌}
 pub use Rattle.kc_macros_model.specs.References.{Item, byte, inside_length, items, pieces, reference}
 pub use Rattle.kc_macros_model.specs.Variables.{Bindings, Value, is_number, joined_values, recursive, simple, value_length, value_of_answer, with_variable}

@@ -1,7 +1,6 @@
 -- Runs of programs of one event.
-use Rattle.kc_macros.proofs.Common.{◌≡◌, ℕ, ◌-◌, ◌<◌, ◌≤◌, Bool, true, false, cond, List, [], ◌∷◌, ◌++◌, Option, Some, None, Ok, Err, refl, sym, ap, ◌∙◌, subst,
-    nat_lt, lt-ltb, le-ltb, append-nil, Place, Fault, Notice, Program, returns, fails, Value, value_of_answer, asked_value, reported, World, Ending, returned,
-    failed, Outcome, outcome, Stop, RunState, with_question, after_outcome, ends, end_of_stop, HasAnswers, Runs, cut_short, FailsWith, spent}
+use Rattle.kc_macros.proofs.Common.{◌≡◌, ℕ, ◌-◌, ◌<◌, ◌≤◌, Bool, true, false, cond, List, [], ◌∷◌, ◌++◌, Option, Some, None, Ok, Err, refl, sym, ap, ◌∙◌, subst, nat_lt, lt-ltb, le-ltb, append-nil, Place, Fault, Notice, Program, returns, fails, Value, value_of_answer, asked_value, reported, World}
+use Rattle.kc_macros.proofs.Common.{Ending, returned, failed, Outcome, outcome, Stop, RunState, with_question, after_outcome, ends, end_of_stop, HasAnswers, Runs, cut_short, FailsWith, spent}
 use Rattle.kc_tree_model.specs.Keywords.{keyword_in_table}
 use Rattle.kc_macros_model.specs.declared.fault.MacroKind.TheVariants.{Unanswered, TooMany}
 use Rattle.kc_macros_model.specs.declared.fault.MacroNoticeKind.{MacroNoticeKind}

@@ -1,8 +1,6 @@
 -- The steps of an expansion.
-use Rattle.kc_macros.proofs.Common.{◌≡◌, ℕ, suc, ◌+◌, ◌-◌, ◌<◌, ◌≤◌, Result, Ok, Err, Bool, true, false, ◌&&◌, List, [], ◌∷◌, ◌++◌, length, map, Some, sym, ap,
-    ◌∙◌, subst, arith, length-append, is_some, MAX_TEXT_BYTES, Place, Fault, Program, returns, fails, ◌>>=◌, Item, byte, items, Value, value_length, Bindings,
-    unless_too_long, item_value, item_values, returned, Stop, RunState, ends, end_of_stop, Runs, cut_short, FailsWith, spent, paid, known_bytes, value_if_known,
-    too_long, values_left, Leads, Steps}
+use Rattle.kc_macros.proofs.Common.{◌≡◌, ℕ, suc, ◌+◌, ◌-◌, ◌<◌, ◌≤◌, Result, Ok, Err, Bool, true, false, ◌&&◌, List, [], ◌∷◌, ◌++◌, length, map, Some, sym, ap, ◌∙◌, subst, arith, length-append, is_some, MAX_TEXT_BYTES, Place, Fault, Program, returns, fails, ◌>>=◌, Item, byte, items, Value}
+use Rattle.kc_macros.proofs.Common.{value_length, Bindings, unless_too_long, item_value, item_values, returned, Stop, RunState, ends, end_of_stop, Runs, cut_short, FailsWith, spent, paid, known_bytes, value_if_known, too_long, values_left, Leads, Steps}
 use Rattle.std.specs.Prelude.{OnOk, IfErr}
 use Rattle.kc_macros_model.specs.declared.fault.MacroKind.TheVariants.{TooDeep}
 use Rattle.kc_macros_model.specs.Expansion.{expanded}

@@ -1,7 +1,6 @@
 -- Numbers of texts of digits, digit by digit.
 use Rattle.std.proofs.Common.{◌^◌}
-use Rattle.kc_macros.proofs.Common.{◌≡◌, ℕ, zero, suc, ◌+◌, ◌*◌, ◌<◌, ◌≤◌, Bool, true, false, ◌&&◌, List, [], ◌∷◌, length, take, get_or, refl, ap, ◌∙◌, inl, inr,
-    arith, ◌⊎◌, nat_lt, list_all, is_digit, digits_value, is_number}
+use Rattle.kc_macros.proofs.Common.{◌≡◌, ℕ, zero, suc, ◌+◌, ◌*◌, ◌<◌, ◌≤◌, Bool, true, false, ◌&&◌, List, [], ◌∷◌, length, take, get_or, refl, ap, ◌∙◌, inl, inr, arith, ◌⊎◌, nat_lt, list_all, is_digit, digits_value, is_number}
 use Rattle.std.specs.Char.{digit_value}
 use Rattle.std.proofs.lemmas.Str.Parse.{digits_value-take-le}
 use Rattle.std.proofs.lemmas.Int.Digits.{digits_value_more}

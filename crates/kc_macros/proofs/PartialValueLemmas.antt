@@ -1,7 +1,6 @@
 -- The value of a text so far, item by item.
-use Rattle.kc_macros.proofs.Common.{◌≡◌, ℕ, ◌+◌, ◌<◌, ◌≤◌, Bool, true, false, ◌&&◌, List, [], ◌∷◌, ◌++◌, length, map, Some, None, refl, sym, ap, ◌∙◌,
-    append_assoc, arith, length-append, inl, inr, is_some, ◌⊎◌, append-nil, le-leb, lt-leb, MAX_TEXT_BYTES, Place, Program, returns, fails, ◌>>=◌, Item, byte,
-    Value, value_length, joined_values, unless_too_long, item_values, known_bytes, value_if_known, too_long, values_left}
+use Rattle.kc_macros.proofs.Common.{◌≡◌, ℕ, ◌+◌, ◌<◌, ◌≤◌, Bool, true, false, ◌&&◌, List, [], ◌∷◌, ◌++◌, length, map, Some, None, refl, sym, ap, ◌∙◌, append_assoc, arith, length-append, inl, inr, is_some, ◌⊎◌, append-nil, le-leb, lt-leb, MAX_TEXT_BYTES, Place, Program, returns, fails, ◌>>=◌, Item}
+use Rattle.kc_macros.proofs.Common.{byte, Value, value_length, joined_values, unless_too_long, item_values, known_bytes, value_if_known, too_long, values_left}
 use Rattle.std.specs.Prelude.{nat_le}
 use Rattle.std.proofs.lemmas.Bool.{cases_lt}
 use Rattle.kc_macros.proofs.ProgramLemmas.{then_returns, then_then, then_same}

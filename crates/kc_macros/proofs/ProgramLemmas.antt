@@ -1,6 +1,5 @@
 -- Programs one after another, as equations, and what is left of a run.
-use Rattle.kc_macros.proofs.Common.{fun_ext, ◌≡◌, Result, Ok, Err, refl, sym, ap, subst, IsErrAnd, Program, returns, fails, stops, ◌>>=◌, returned, Stop,
-    RunState, RunEnd, ends, end_of_stop, Runs, cut_short, Leads, Steps}
+use Rattle.kc_macros.proofs.Common.{fun_ext, ◌≡◌, Result, Ok, Err, refl, sym, ap, subst, IsErrAnd, Program, returns, fails, stops, ◌>>=◌, returned, Stop, RunState, RunEnd, ends, end_of_stop, Runs, cut_short, Leads, Steps}
 use Rattle.kc_macros_model.specs.Programs.{does}
 use Rattle.kc_macros.specs.declared.stop.Stop.TheVariants as kinds
 use Rattle.kc_macros.proofs.RunLemmas.{then_runs}

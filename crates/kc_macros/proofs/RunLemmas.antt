@@ -1,7 +1,6 @@
 -- Runs of programs one after another.
-use Rattle.kc_macros.proofs.Common.{◌≡◌, ℕ, List, [], ◌∷◌, ◌++◌, Result, Ok, Err, refl, sym, ap, ◌∙◌, subst, append_assoc, IsErrAnd, append-nil, Fault, Program,
-    returns, fails, stops, ◌>>=◌, World, Ending, returned, failed, Outcome, outcome, Stop, RunState, with_question, after_outcome, RunEnd, ends, end_of_stop,
-    end_of, HasAnswers, Runs, cut_short}
+use Rattle.kc_macros.proofs.Common.{◌≡◌, ℕ, List, [], ◌∷◌, ◌++◌, Result, Ok, Err, refl, sym, ap, ◌∙◌, subst, append_assoc, IsErrAnd, append-nil, Fault, Program, returns, fails, stops, ◌>>=◌, World, Ending, returned, failed, Outcome, outcome, Stop, RunState, with_question, after_outcome, RunEnd}
+use Rattle.kc_macros.proofs.Common.{ends, end_of_stop, end_of, HasAnswers, Runs, cut_short}
 use Rattle.kc_macros_model.specs.Worlds.{stopped}
 use Rattle.kc_macros_model.proofs.Outcomes.{continued_by, composed}
 use Rattle.kc_macros_model.specs.AnswerFiles.{RecordedAnswers}

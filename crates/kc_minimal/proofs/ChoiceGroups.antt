@@ -1,8 +1,7 @@
 -- Lines of members, grouped by the units of their choices.
 use Rattle.std.proofs.Common.{◌≢◌, ◌==◌, Result, IfOk}
-use Rattle.kc_minimal.proofs.Common.{◌≡◌, inl, inr, ℕ, zero, suc, ◌+◌, ◌<◌, ◌≤◌, Bool, true, false, cond, List, [], ◌∷◌, ◌++◌, length, map, take, drop, get_or,
-    Option, Some, None, refl, sym, ◌∙◌, ap, arith, Vec, IfOk-weaker, unwrap_or, slice_get, lines_at, by_group, filter_map, range_with_len, cons_option,
-    option_map, append-nil, map-append, filter-append, Tree, UnitValue, ChoiceLine, has_no_version, placed_from, lines_of, last_line, other_places, place_of}
+use Rattle.kc_minimal.proofs.Common.{◌≡◌, inl, inr, ℕ, zero, suc, ◌+◌, ◌<◌, ◌≤◌, Bool, true, false, cond, List, [], ◌∷◌, ◌++◌, length, map, take, drop, get_or, Option, Some, None, refl, sym, ◌∙◌, ap, arith, Vec, IfOk-weaker, unwrap_or, slice_get, lines_at, by_group, filter_map, range_with_len}
+use Rattle.kc_minimal.proofs.Common.{cons_option, option_map, append-nil, map-append, filter-append, Tree, UnitValue, ChoiceLine, has_no_version, placed_from, lines_of, last_line, other_places, place_of}
 use Rattle.std.specs.declared.alloc.AllocError.{AllocError}
 use Rattle.std.proofs.lemmas.Bool.{cases_eq}
 use Rattle.kc_minimal.specs.checker.LineGroups.{line_from}

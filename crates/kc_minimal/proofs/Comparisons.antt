@@ -1,7 +1,6 @@
 -- The differences of two configurations.
 use Rattle.std.proofs.Common.{◌↔◌, IsTrue}
-use Rattle.kc_minimal.proofs.Common.{◌≡◌, true, List, [], ◌∷◌, length, map, refl, sym, ◌∙◌, ap, subst, Tree, UniquelySolves, Profile, rule, UnitValue, Settled,
-    tree_of_settled, profile_of, FileFormat, is_name_prefix, Configured, tree_in, IsSolved, minimal_file, difference_view}
+use Rattle.kc_minimal.proofs.Common.{◌≡◌, true, List, [], ◌∷◌, length, map, refl, sym, ◌∙◌, ap, subst, Tree, UniquelySolves, Profile, rule, UnitValue, Settled, tree_of_settled, profile_of, FileFormat, is_name_prefix, Configured, tree_in, IsSolved, minimal_file, difference_view}
 use Rattle.kc_solver.specs.Solutions.{FitsUsers}
 use Rattle.kc_rules_model.specs.Shapes.{user_fits}
 use Rattle.kc_minimal_model.specs.Differences.{Difference, differences}

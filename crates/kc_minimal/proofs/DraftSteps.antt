@@ -8,8 +8,7 @@ use Rattle.std.proofs.lemmas.Option.{slice_get_within, unwrap_or-slice_get}
 use Rattle.std.proofs.Math.Seq.{drop-cons}
 use Rattle.kc_expr.specs.Expr.{Expr}
 use Rattle.kc_tree_model.specs.Trees.{Entry, definition, menu_begins, menu_ends, comment}
-use Rattle.kc_minimal.proofs.Common.{◌≡◌, inl, inr, ℕ, suc, ◌<◌, ◌+◌, Bool, true, false, not, ◌&&◌, cond, List, [], ◌∷◌, ◌++◌, length, drop, replicate, Some,
-    refl, sym, ◌∙◌, ap, arith, slice_get, unwrap_or, append-nil, Tree, UnitValue, is_written, ended_line, full_file, Draft, IsDraft, FileFormat}
+use Rattle.kc_minimal.proofs.Common.{◌≡◌, inl, inr, ℕ, suc, ◌<◌, ◌+◌, Bool, true, false, not, ◌&&◌, cond, List, [], ◌∷◌, ◌++◌, length, drop, replicate, Some, refl, sym, ◌∙◌, ap, arith, slice_get, unwrap_or, append-nil, Tree, UnitValue, is_written, ended_line, full_file, Draft, IsDraft, FileFormat}
 use Rattle.kc_minimal_model.specs.FullFile.{heading, end_line, applies}
 use Rattle.kc_minimal_model.specs.between.EntryTexts.{entry_texts}
 use Rattle.kc_minimal_model.proofs.EntryTexts.{full_file_by_entry}

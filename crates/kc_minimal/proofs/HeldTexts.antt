@@ -1,6 +1,5 @@
 -- The minimal and the full file of the values that a configuration has.
-use Rattle.kc_minimal.proofs.Common.{◌≡◌, ◌≤◌, ℕ, true, List, length, sym, ◌∙◌, ap, subst, UnitValue, Settled, tree_of_settled, profile_of, FileFormat,
-    is_name_prefix, Configured, tree_in, IsSolved, full_file, Loads, minimal_file, IsCanonicalText}
+use Rattle.kc_minimal.proofs.Common.{◌≡◌, ◌≤◌, ℕ, true, List, length, sym, ◌∙◌, ap, subst, UnitValue, Settled, tree_of_settled, profile_of, FileFormat, is_name_prefix, Configured, tree_in, IsSolved, full_file, Loads, minimal_file, IsCanonicalText}
 use Rattle.kc_dotconfig_model.specs.ConfigFiles.{file_lines}
 use Rattle.kc_value.specs.declared.limits.TheConstants.{MAX_CONFIG_BYTES, MAX_CONFIG_LINES}
 use Rattle.kc_minimal_model.specs.FileLimits.{ReadFilesAreAccepted}

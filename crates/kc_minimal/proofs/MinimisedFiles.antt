@@ -1,8 +1,7 @@
 -- A file that was read is minimised, whole or in part.
 use Rattle.std.proofs.Common.{◌^◌}
 use Rattle.std.specs.Io.KnownBytes.{Appends}
-use Rattle.kc_minimal.proofs.Common.{◌≡◌, ℕ, ◌<◌, ◌-◌, true, List, Option, length, take, subst, Tree, UniquelySolves, Profile, UnitValue, rule, FileFormat,
-    is_name_prefix, IsCanonicalText, Loads}
+use Rattle.kc_minimal.proofs.Common.{◌≡◌, ℕ, ◌<◌, ◌-◌, true, List, Option, length, take, subst, Tree, UniquelySolves, Profile, UnitValue, rule, FileFormat, is_name_prefix, IsCanonicalText, Loads}
 use Rattle.kc_dotconfig_model.proofs.AcceptedLines.{accepted_utf8}
 use Rattle.kc_dotconfig.specs.declared.fragment.Fragment.{Fragment}
 use Rattle.kc_dotconfig.specs.Fragments.{users_of}

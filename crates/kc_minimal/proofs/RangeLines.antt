@@ -1,6 +1,5 @@
 -- The lines of the symbols of a range.
-use Rattle.kc_minimal.proofs.Common.{◌≡◌, ℕ, zero, suc, ◌+◌, Bool, true, false, cond, List, [], ◌∷◌, ◌++◌, Option, Some, None, filter, map, refl, sym, ◌∙◌, ap,
-    arith, flat_map, filter_map, range_with_len, cons_option, filter-append, append-nil, map-append}
+use Rattle.kc_minimal.proofs.Common.{◌≡◌, ℕ, zero, suc, ◌+◌, Bool, true, false, cond, List, [], ◌∷◌, ◌++◌, Option, Some, None, filter, map, refl, sym, ◌∙◌, ap, arith, flat_map, filter_map, range_with_len, cons_option, filter-append, append-nil, map-append}
 use Rattle.std.specs.Prelude.{option_to_list}
 use Rattle.std.proofs.lemmas.Grind.{flat_map-append}
 use Rattle.std.proofs.lemmas.List.Elements.{filter_map-append}

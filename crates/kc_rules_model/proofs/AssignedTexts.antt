@@ -1,9 +1,8 @@
 -- A text or member that a unit wouldn't have without its user value is its user value.
 use Rattle.std.proofs.Common.{◌≢◌}
-use Rattle.kc_rules_model.proofs.Common.{◌≡◌, ℕ, Bool, true, false, ◌&&◌, cond, List, [], ◌∷◌, Option, Some, None, slice_get, refl, sym, ◌∙◌, ap, unwrap_or, pos,
-    option_map, option_and_then, true≢false, Kind, Tristate, Text, Int, Hex, Tree, Symbol, Choice, Profile, UnitValue, UserValue, is_linux_6_12, is_number,
-    number_of_text, rule_of_unit, rule_of_symbol, rule_of_choice, symbol_rule, string_rule, number_rule, choice_rule, is_visible, default_text, number_default,
-    user_number, is_within, active_range, is_shown, is_visible_member, default_member}
+use Rattle.kc_rules_model.proofs.Common.{◌≡◌, ℕ, Bool, true, false, ◌&&◌, cond, List, [], ◌∷◌, Option, Some, None, slice_get, refl, sym, ◌∙◌, ap, unwrap_or, pos, option_map, option_and_then, true≢false, Kind, Tristate, Text, Int, Hex, Tree, Symbol, Choice, Profile, UnitValue, UserValue}
+use Rattle.kc_rules_model.proofs.Common.{is_linux_6_12, is_number, number_of_text, rule_of_unit, rule_of_symbol, rule_of_choice, symbol_rule, string_rule, number_rule, choice_rule, is_visible, default_text, number_default, user_number, is_within, active_range, is_shown, is_visible_member}
+use Rattle.kc_rules_model.proofs.Common.{default_member}
 use Rattle.kc_value.specs.declared.value.Kind.TheVariants.{Bool as Boolean}
 use Rattle.kc_tree_model.specs.declared.ids.Unit.{Unit as TreeUnit}
 use Rattle.kc_tree_model.specs.declared.ids.Unit.TheVariants.{Symbol as of_symbol, Choice as of_choice}

@@ -1,13 +1,10 @@
 -- The value that a rule gives fits its unit, over a consistent tree.
 use Rattle.std.proofs.Common.{int_lt}
 use Rattle.std.specs.Prelude.{slice_get}
-use Rattle.kc_rules_model.proofs.Common.{◌≡◌, inl, inr, ℕ, ◌<◌, Bool, true, false, not, ◌&&◌, ◌||◌, ◌==◌, cond, IsTrue, IfSome, List, [], ◌∷◌, Option, Some,
-    None, ℤ, pos, find, length, unwrap_or, refl, sym, ◌∙◌, ap, arith, is_some, is_none, nat_lt, option_map, option_and_then, option_or, list_any, list_all,
-    false≢true, and_parts, and_from, or_cases, eqb-true, ltb-true, IsUtf8-nil, is_utf8-from_IsUtf8, Tri, N, M, Y, Kind, Tristate, Text, Int, Hex, number_of_text,
-    Expr, alone, both, shown, constant, named, quoted, Tree, Symbol, Choice, Default, IsConsistent, FitsValues, Profile, UnitValue, UserValue, MemberLine, is_n,
-    is_tristate, is_number, rule_of_unit, rule_of_symbol, rule_of_choice, symbol_rule, string_rule, number_rule, choice_rule, default_text, number_default,
-    user_number, default_member, active_range, is_within, is_visible, is_visible_member, is_shown, modules_value, unit_value_fits, symbol_value_fits, text_fits,
-    is_listed, last_y, first_listed, selected_without_y, selected_by_lines, is_linux_6_12}
+use Rattle.kc_rules_model.proofs.Common.{◌≡◌, inl, inr, ℕ, ◌<◌, Bool, true, false, not, ◌&&◌, ◌||◌, ◌==◌, cond, IsTrue, IfSome, List, [], ◌∷◌, Option, Some, None, ℤ, pos, find, length, unwrap_or, refl, sym, ◌∙◌, ap, arith, is_some, is_none, nat_lt, option_map, option_and_then, option_or, list_any}
+use Rattle.kc_rules_model.proofs.Common.{list_all, false≢true, and_parts, and_from, or_cases, eqb-true, ltb-true, IsUtf8-nil, is_utf8-from_IsUtf8, Tri, N, M, Y, Kind, Tristate, Text, Int, Hex, number_of_text, Expr, alone, both, shown, constant, named, quoted, Tree, Symbol, Choice, Default}
+use Rattle.kc_rules_model.proofs.Common.{IsConsistent, FitsValues, Profile, UnitValue, UserValue, MemberLine, is_n, is_tristate, is_number, rule_of_unit, rule_of_symbol, rule_of_choice, symbol_rule, string_rule, number_rule, choice_rule, default_text, number_default, user_number, default_member}
+use Rattle.kc_rules_model.proofs.Common.{active_range, is_within, is_visible, is_visible_member, is_shown, modules_value, unit_value_fits, symbol_value_fits, text_fits, is_listed, last_y, first_listed, selected_without_y, selected_by_lines, is_linux_6_12}
 use Rattle.std.proofs.lemmas.Bool.{eq-eqb, or_left, or_right}
 use Rattle.std.specs.Str.{IsUtf8, is_utf8}
 use Rattle.kc_value.proofs.UnquotedUtf8.{ascii_then}
@@ -25,8 +22,7 @@ use Rattle.kc_rules_model.specs.declared.values.UnitValue.TheVariants.{Tri as Tr
 use Rattle.kc_rules_model.specs.declared.values.UserValue.TheVariants.{Tri as TriUser, Text as TextUser, Member as MemberUser, Lines as LinesUser}
 use Rattle.kc_value.specs.Kinds.{is_tri_kind}
 use Rattle.kc_rules_model.specs.SymbolValues.{value_in_unit, tri_symbol_value, value_of_symbol, environment, condition, tri_of, text_of}
-use Rattle.kc_rules_model.specs.Rule.{rule, expression_text, clamped, bound, bound_text, is_upside_down, text_without_number, shown_choice_rule, assigned_lines,
-    active_default, assigned_text, assigned_member, leaves_no_m}
+use Rattle.kc_rules_model.specs.Rule.{rule, expression_text, clamped, bound, bound_text, is_upside_down, text_without_number, shown_choice_rule, assigned_lines, active_default, assigned_text, assigned_member, leaves_no_m}
 use Rattle.kc_rules_model.specs.Shapes.{user_fits, value_fits, unit_user_fits, symbol_user_fits, choice_user_fits, choice_value_fits, user_text_fits, is_line}
 use Rattle.kc_rules_model.specs.checker.RestoreLaw.{fits_promoted, given_again, last_passes, first_passes}
 use Rattle.kc_rules_model.specs.RuleLaws.{RulesFit}

@@ -1,8 +1,8 @@
 -- Texts of numbers have no white byte and no newline.
 use Rattle.std.proofs.Common.{◌-◌, ◌^◌}
 use Rattle.std.specs.Prelude.{neg_ℤ, option_map, nat_le}
-use Rattle.kc_rules_model.proofs.Common.{◌≡◌, inl, inr, ℕ, ◌<◌, ◌≤◌, Bool, true, false, ◌&&◌, ◌==◌, cond, List, [], ◌∷◌, Option, Some, None, ℤ, pos, length,
-    refl, sym, ◌∙◌, ap, arith, is_some, nat_lt, list_all, false≢true, eqb-true, and_parts, and_from, ltb-true, Kind, Tristate, Text, Int, Hex, number_of_text}
+use Rattle.kc_rules_model.proofs.Common.{◌≡◌, inl, inr, ℕ, ◌<◌, ◌≤◌, Bool, true, false, ◌&&◌, ◌==◌, cond, List, [], ◌∷◌, Option, Some, None, ℤ, pos, length, refl, sym, ◌∙◌, ap, arith, is_some, nat_lt, list_all, false≢true, eqb-true, and_parts, and_from, ltb-true, Kind, Tristate, Text, Int, Hex}
+use Rattle.kc_rules_model.proofs.Common.{number_of_text}
 use Rattle.std.specs.Char.{is_digit}
 use Rattle.std.specs.Str.Parse.{digits_value}
 use Rattle.std.proofs.lemmas.Bool.{cases_lt, lt-ltb}

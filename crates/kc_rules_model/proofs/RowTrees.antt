@@ -1,7 +1,7 @@
 -- Small trees, written by hand, on which the definitions are computed. In their comments / separates the lines of the Kconfig
 -- file.
-use Rattle.kc_rules_model.proofs.Common.{ℕ, true, false, List, [], ◌∷◌, Option, Some, None, length, map, codes, Tri, N, M, Y, Kind, Tristate, Text, Int, Strict,
-    Expr, alone, both, shown, constant, named, quoted, Tree, Symbol, Default, definition, choice_begins, user_of, Profile, UnitValue, UserValue}
+use Rattle.kc_rules_model.proofs.Common.{ℕ, true, false, List, [], ◌∷◌, Option, Some, None, length, map, codes, Tri, N, M, Y, Kind, Tristate, Text, Int, Strict, Expr, alone, both, shown, constant, named, quoted, Tree, Symbol, Default, definition, choice_begins, user_of, Profile, UnitValue}
+use Rattle.kc_rules_model.proofs.Common.{UserValue}
 use Rattle.std.specs.List.{range_with_len}
 use Rattle.kc_value.specs.declared.value.Kind.TheVariants.{Bool as Boolean}
 use Rattle.kc_tree_model.specs.Trees.{menu_begins, menu_ends, comment}

@@ -1,8 +1,7 @@
 -- What assignments of members select.
 use Rattle.std.proofs.Common.{◌++◌, filter}
-use Rattle.kc_rules_model.proofs.Common.{◌≡◌, inl, inr, ℕ, Bool, true, false, not, ◌&&◌, ◌||◌, ◌==◌, cond, List, [], ◌∷◌, Option, Some, None, find, refl, sym,
-    ◌∙◌, ap, option_map, option_and_then, option_or, list_any, list_all, false≢true, true≢false, cases_Bool, and_parts, and_from, or_cases, Tree, Choice,
-    MemberLine, UnitValue, is_listed, last_y, first_listed, selected_without_y, selected_by_lines, is_shown, is_visible_member, default_member}
+use Rattle.kc_rules_model.proofs.Common.{◌≡◌, inl, inr, ℕ, Bool, true, false, not, ◌&&◌, ◌||◌, ◌==◌, cond, List, [], ◌∷◌, Option, Some, None, find, refl, sym, ◌∙◌, ap, option_map, option_and_then, option_or, list_any, list_all, false≢true, true≢false, cases_Bool, and_parts, and_from, or_cases, Tree}
+use Rattle.kc_rules_model.proofs.Common.{Choice, MemberLine, UnitValue, is_listed, last_y, first_listed, selected_without_y, selected_by_lines, is_shown, is_visible_member, default_member}
 use Rattle.std.specs.List.{All}
 use Rattle.std.proofs.lemmas.List.Elements.{All-head, All-tail}
 use Rattle.kc_rules_model.specs.declared.values.UserValue.TheVariants.{Member as MemberUser}

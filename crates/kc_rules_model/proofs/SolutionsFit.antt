@@ -2,9 +2,8 @@
 use Rattle.std.proofs.Common.{zero, suc, ◌+◌, set, subst}
 use Rattle.std.proofs.lemmas.Option.{slice_get-map}
 use Rattle.std.proofs.lemmas.List.{length-map}
-use Rattle.kc_rules_model.proofs.Common.{◌≡◌, ℕ, ◌<◌, ◌≤◌, true, IsTrue, IfSome, List, [], Option, Some, None, length, map, refl, ◌∙◌, ap, arith, slice_get,
-    IsUtf8-nil, is_utf8-from_IsUtf8, option_map, N, Kind, Tristate, Text, Int, Hex, Tree, Symbol, user_of, FitsValues, Profile, UnitValue, UserValue,
-    unit_value_fits, symbol_value_fits, text_fits}
+use Rattle.kc_rules_model.proofs.Common.{◌≡◌, ℕ, ◌<◌, ◌≤◌, true, IsTrue, IfSome, List, [], Option, Some, None, length, map, refl, ◌∙◌, ap, arith, slice_get, IsUtf8-nil, is_utf8-from_IsUtf8, option_map, N, Kind, Tristate, Text, Int, Hex, Tree, Symbol, user_of, FitsValues, Profile, UnitValue}
+use Rattle.kc_rules_model.proofs.Common.{UserValue, unit_value_fits, symbol_value_fits, text_fits}
 use Rattle.kc_value.specs.declared.value.Kind.TheVariants.{Bool as Boolean}
 use Rattle.kc_tree_model.specs.declared.ids.Unit.{Unit as TreeUnit}
 use Rattle.kc_tree_model.specs.declared.ids.Unit.TheVariants.{Symbol as of_symbol, Choice as of_choice}

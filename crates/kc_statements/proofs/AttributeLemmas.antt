@@ -1,7 +1,6 @@
 -- Types and defaults, by their parts.
-use Rattle.kc_statements.proofs.Common.{◌≡◌, ◌+◌, ◌≤◌, ◌<◌, Bool, true, false, ◌==◌, ◌||◌, ◌&&◌, cond, List, [], ◌∷◌, length, drop, refl, ap, ◌∙◌, arith, Result,
-    Ok, Err, Lexeme, lexemes_of, ExprKind, Expr, extent, is_operand_kind, TreeKind, ParsedExpr, prompt_line, type_line, default_line, optional_if, kind_of_fault,
-    ◌>>=◌, Statement, Attribute, DefaultAttribute, attribute, typed_prompt}
+use Rattle.kc_statements.proofs.Common.{◌≡◌, ◌+◌, ◌≤◌, ◌<◌, Bool, true, false, ◌==◌, ◌||◌, ◌&&◌, cond, List, [], ◌∷◌, length, drop, refl, ap, ◌∙◌, arith, Result, Ok, Err, Lexeme, lexemes_of, ExprKind, Expr, extent, is_operand_kind, TreeKind, ParsedExpr, prompt_line, type_line, default_line}
+use Rattle.kc_statements.proofs.Common.{optional_if, kind_of_fault, ◌>>=◌, Statement, Attribute, DefaultAttribute, attribute, typed_prompt}
 use Rattle.kc_value.specs.declared.value.Kind.{Kind}
 use Rattle.kc_tokens.specs.declared.token.Token.{Token as CodeToken}
 use Rattle.kc_expr.specs.Grammar.{read_expr, is_close}

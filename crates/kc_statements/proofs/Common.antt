@@ -1,6 +1,5 @@
 -- The names that most proofs of this crate cite, passed on from one place. Declares nothing.
-pub use Rattle.std.proofs.Common.{Bool, Err, List, None, Ok, Option, Result, Some, [], ap, arith, cond, drop, false, get_or, inl, inr, length, length-drop, refl,
-    rules, suc, sym, take, true, ℕ, ◌&&◌, ◌++◌, ◌+◌, ◌<◌, ◌==◌, ◌||◌, ◌∙◌, ◌∷◌, ◌≡◌, ◌≤◌}
+pub use Rattle.std.proofs.Common.{Bool, Err, List, None, Ok, Option, Result, Some, [], ap, arith, cond, drop, false, get_or, inl, inr, length, length-drop, refl, rules, suc, sym, take, true, ℕ, ◌&&◌, ◌++◌, ◌+◌, ◌<◌, ◌==◌, ◌||◌, ◌∙◌, ◌∷◌, ◌≡◌, ◌≤◌}
 pub use Rattle.std.proofs.Math.Seq.{take-length}
 pub use Rattle.std.proofs.lemmas.Bool.{false≢true}
 pub use Rattle.std.proofs.lemmas.Bool.Decides.{nat_tests}
@@ -13,15 +12,13 @@ pub use Rattle.kc_expr.proofs.GrammarComplete.{expr_complete}
 pub use Rattle.kc_expr.specs.Expr.{Expr, Operand, alone}
 pub use Rattle.kc_expr.specs.Grammar.{extent, is_operand_kind, operand_of_kind, operand_of_lexeme}
 pub use Rattle.kc_expr.specs.between.Arena.{Exprs, Grows, node_expr}
-pub use Rattle.kc_statements.specs.between.StatementViews.{IfNodeExists, OperandNodeExists, ReturnsOrFails, default_in, if_in, operand_of_expr, operand_or_n,
-    target_in}
+pub use Rattle.kc_statements.specs.between.StatementViews.{IfNodeExists, OperandNodeExists, ReturnsOrFails, default_in, if_in, operand_of_expr, operand_or_n, target_in}
 pub use Rattle.kc_tokens.specs.QuotedTexts.{quoted_text}
 pub use Rattle.kc_tokens.specs.Token.{Lexeme, lexeme_of, lexemes_of}
 pub use Rattle.kc_tokens.specs.declared.fault.ExprKind.{ExprKind}
 pub use Rattle.kc_tokens.specs.declared.token.TokenKind.{TokenKind}
 pub use Rattle.kc_tokens.specs.declared.token.TokenKind.TheVariants.{And, Close, Not, Open, Or, Quoted, Relation, Word}
-pub use Rattle.kc_tree_model.specs.Forms.{ParsedExpr, condition_line, default_line, kind_of_fault, last_condition, no_more, optional_if, prompt_line, type_line,
-    ◌>>=◌}
+pub use Rattle.kc_tree_model.specs.Forms.{ParsedExpr, condition_line, default_line, kind_of_fault, last_condition, no_more, optional_if, prompt_line, type_line, ◌>>=◌}
 pub use Rattle.kc_tree_model.specs.Keywords.{is_the_word}
 pub use Rattle.kc_tree_model.specs.Placement.{is_glob_path}
 pub use Rattle.kc_tree_model.specs.Statements.{Attribute, DefaultAttribute, Statement, TargetAttribute, attribute, head, modules, range, typed_prompt}

@@ -2,9 +2,8 @@
 use Rattle.std.proofs.Common.{zero, ◌⊎◌, map}
 use Rattle.std.proofs.lemmas.List.{drop-map, drop_more}
 use Rattle.std.specs.Prelude.{take}
-use Rattle.kc_statements.proofs.Common.{◌≡◌, inl, inr, ℕ, suc, ◌+◌, ◌<◌, ◌≤◌, Bool, true, false, List, [], ◌∷◌, length, drop, refl, ap, sym, ◌∙◌, arith, rules,
-    Some, Result, Ok, Err, length-drop, ◌==◌, codes, slice_index_or, IfOk, false≢true, nat_tests, Lexeme, lexeme_of, lexemes_of, Word, Expr, extent, ExprKind,
-    TreeKind, Malformed, OutOfMemory, last_condition, optional_if, no_more, kind_of_fault, ParsedExpr, ◌>>=◌, is_the_word, Statement, ReturnsOrFails}
+use Rattle.kc_statements.proofs.Common.{◌≡◌, inl, inr, ℕ, suc, ◌+◌, ◌<◌, ◌≤◌, Bool, true, false, List, [], ◌∷◌, length, drop, refl, ap, sym, ◌∙◌, arith, rules, Some, Result, Ok, Err, length-drop, ◌==◌, codes, slice_index_or, IfOk, false≢true, nat_tests, Lexeme, lexeme_of, lexemes_of, Word, Expr}
+use Rattle.kc_statements.proofs.Common.{extent, ExprKind, TreeKind, Malformed, OutOfMemory, last_condition, optional_if, no_more, kind_of_fault, ParsedExpr, ◌>>=◌, is_the_word, Statement, ReturnsOrFails}
 use Rattle.kc_expr.specs.between.ParseResults.{RefusesExpr, expr_tokens, expr_end}
 use Rattle.kc_tokens.specs.declared.fault.ExprFault.{ExprFault}
 use Rattle.kc_tokens.specs.MemoryFaults.{IsOutOfMemory}

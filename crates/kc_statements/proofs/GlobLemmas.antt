@@ -1,8 +1,7 @@
 -- A quoted path is a pattern where its token's text has one of the bytes of patterns.
 use Rattle.std.proofs.Common.{◌-◌, nat_le}
-use Rattle.kc_statements.proofs.Common.{◌≡◌, ℕ, suc, ◌+◌, Bool, true, false, ◌==◌, ◌||◌, ◌&&◌, List, [], ◌∷◌, length, get_or, take, refl, ap, sym, ◌∙◌, arith,
-    rules, cond, list_any, take-length, false≢true, nat_tests, is_operand_kind, Lexeme, TokenKind, Word, Quoted, Relation, Not, And, Or, Open, Close,
-    is_glob_path}
+use Rattle.kc_statements.proofs.Common.{◌≡◌, ℕ, suc, ◌+◌, Bool, true, false, ◌==◌, ◌||◌, ◌&&◌, List, [], ◌∷◌, length, get_or, take, refl, ap, sym, ◌∙◌, arith, rules, cond, list_any, take-length, false≢true, nat_tests, is_operand_kind, Lexeme, TokenKind, Word, Quoted, Relation, Not, And, Or, Open}
+use Rattle.kc_statements.proofs.Common.{Close, is_glob_path}
 use Rattle.std.proofs.Math.Bool.{or-false}
 use Rattle.std.proofs.lemmas.List.Folds.{list_any_more}
 use Rattle.kc_value.specs.QuotedTexts.{unescaped}

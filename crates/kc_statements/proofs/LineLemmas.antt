@@ -1,8 +1,7 @@
 -- The definitions of lines, by their first tokens.
 use Rattle.std.proofs.Common.{not}
-use Rattle.kc_statements.proofs.Common.{◌≡◌, ℕ, ◌<◌, Bool, true, false, ◌==◌, List, [], ◌∷◌, length, drop, refl, ap, sym, ◌∙◌, arith, Option, Some, None, Result,
-    Ok, Err, slice_index_or, Exprs, Grows, Expr, Lexeme, lexeme_of, lexemes_of, TreeKind, Malformed, condition_line, prompt_line, last_condition, optional_if,
-    no_more, is_the_word, Attribute, TargetAttribute, Statement, attribute, head, if_in, target_in, IfNodeExists}
+use Rattle.kc_statements.proofs.Common.{◌≡◌, ℕ, ◌<◌, Bool, true, false, ◌==◌, List, [], ◌∷◌, length, drop, refl, ap, sym, ◌∙◌, arith, Option, Some, None, Result, Ok, Err, slice_index_or, Exprs, Grows, Expr, Lexeme, lexeme_of, lexemes_of, TreeKind, Malformed, condition_line, prompt_line}
+use Rattle.kc_statements.proofs.Common.{last_condition, optional_if, no_more, is_the_word, Attribute, TargetAttribute, Statement, attribute, head, if_in, target_in, IfNodeExists}
 use Rattle.std.specs.Bool.{if◌then◌else◌}
 use Rattle.kc_tokens.specs.declared.token.Token.{Token as CodeToken}
 use Rattle.kc_tree_model.specs.Forms.{target_line, config_line, source_line, path_of}

@@ -1,6 +1,5 @@
 -- The lines of options, by their tokens.
-use Rattle.kc_statements.proofs.Common.{◌≡◌, ◌<◌, true, List, [], ◌∷◌, length, drop, refl, arith, Option, Some, None, Err, codes, Operand, Lexeme, lexeme_of,
-    lexemes_of, Malformed, no_more, is_the_word, attribute, modules}
+use Rattle.kc_statements.proofs.Common.{◌≡◌, ◌<◌, true, List, [], ◌∷◌, length, drop, refl, arith, Option, Some, None, Err, codes, Operand, Lexeme, lexeme_of, lexemes_of, Malformed, no_more, is_the_word, attribute, modules}
 use Rattle.kc_tokens.specs.declared.token.Token.{Token as CodeToken}
 use Rattle.kc_tree_model.specs.Forms.{environment_of_operand, option_line}
 use Rattle.kc_statements.proofs.FormLemmas.{first_of}

@@ -1,7 +1,6 @@
 -- The line of a range, by its two operands and the tokens after them.
-use Rattle.kc_statements.proofs.Common.{◌≡◌, ℕ, ◌≤◌, false, List, [], ◌∷◌, length, drop, refl, ap, arith, Option, Some, None, Ok, Err, slice_index_or, lexeme_of,
-    lexemes_of, Expr, Operand, TokenKind, Word, Quoted, Relation, Not, And, Or, Open, Close, is_operand_kind, operand_of_kind, operand_of_lexeme, TreeKind,
-    Malformed, attribute, range, optional_if}
+use Rattle.kc_statements.proofs.Common.{◌≡◌, ℕ, ◌≤◌, false, List, [], ◌∷◌, length, drop, refl, ap, arith, Option, Some, None, Ok, Err, slice_index_or, lexeme_of, lexemes_of, Expr, Operand, TokenKind, Word, Quoted, Relation, Not, And, Or, Open, Close, is_operand_kind, operand_of_kind}
+use Rattle.kc_statements.proofs.Common.{operand_of_lexeme, TreeKind, Malformed, attribute, range, optional_if}
 use Rattle.kc_tokens.specs.declared.token.Token.{Token as CodeToken}
 use Rattle.kc_tree_model.specs.Forms.{range_line, range_of_operands}
 use Rattle.kc_statements.proofs.FormLemmas.{some_token}

@@ -1,6 +1,5 @@
 -- Titles.
-use Rattle.kc_statements.proofs.Common.{◌≡◌, ℕ, ◌<◌, arith, length, true, List, [], ◌∷◌, refl, ap, sym, ◌∙◌, inl, Result, Ok, Err, IfOk, false≢true, lexemes_of,
-    quoted_text, TreeKind, OutOfMemory, Statement, head, ReturnsOrFails}
+use Rattle.kc_statements.proofs.Common.{◌≡◌, ℕ, ◌<◌, arith, length, true, List, [], ◌∷◌, refl, ap, sym, ◌∙◌, inl, Result, Ok, Err, IfOk, false≢true, lexemes_of, quoted_text, TreeKind, OutOfMemory, Statement, head, ReturnsOrFails}
 use Rattle.std.specs.Prelude.{IfErr}
 use Rattle.kc_tokens.specs.declared.token.Token.{Token as CodeToken}
 use Rattle.kc_tree_model.specs.Forms.{titled_line}

@@ -1,8 +1,6 @@
 -- Values of defaults, and operands.
-use Rattle.kc_statements.proofs.Common.{◌≡◌, ℕ, ◌+◌, true, false, ◌==◌, List, [], ◌∷◌, length, drop, refl, ap, sym, ◌∙◌, arith, Option, Some, Result, Ok, Err,
-    false≢true, Exprs, node_expr, Grows, Expr, Operand, alone, quoted_text, extent, operand_of_lexeme, operand_of_kind, is_operand_kind, Lexeme, ExprKind,
-    TokenKind, Word, Quoted, Relation, Not, And, Or, Open, Close, TreeKind, default_line, optional_if, Statement, Attribute, DefaultAttribute, attribute, if_in,
-    operand_or_n, operand_of_expr, default_in, OperandNodeExists}
+use Rattle.kc_statements.proofs.Common.{◌≡◌, ℕ, ◌+◌, true, false, ◌==◌, List, [], ◌∷◌, length, drop, refl, ap, sym, ◌∙◌, arith, Option, Some, Result, Ok, Err, false≢true, Exprs, node_expr, Grows, Expr, Operand, alone, quoted_text, extent, operand_of_lexeme, operand_of_kind, is_operand_kind, Lexeme}
+use Rattle.kc_statements.proofs.Common.{ExprKind, TokenKind, Word, Quoted, Relation, Not, And, Or, Open, Close, TreeKind, default_line, optional_if, Statement, Attribute, DefaultAttribute, attribute, if_in, operand_or_n, operand_of_expr, default_in, OperandNodeExists}
 use Rattle.kc_expr.specs.between.Arena.{Represents}
 use Rattle.kc_expr.specs.Expr.{named, quoted}
 use Rattle.kc_expr.specs.Grammar.{read_expr, constant_or}

@@ -1,6 +1,5 @@
 -- What an attribute of the code is, by the definitions.
-use Rattle.kc_symbol_lines.proofs.Common.{◌≡◌, ℕ, ◌<◌, cond, length, Option, Some, None, refl, option_map, IfSome, Expr, Exprs, node_expr, attribute_in, if_in,
-    AttributeNodesExist, Attribute, TargetAttribute, Conjuncts, Dependencies, Visibles, ReverseKind, conjunct_given, prompt_given, is_given}
+use Rattle.kc_symbol_lines.proofs.Common.{◌≡◌, ℕ, ◌<◌, cond, length, Option, Some, None, refl, option_map, IfSome, Expr, Exprs, node_expr, attribute_in, if_in, AttributeNodesExist, Attribute, TargetAttribute, Conjuncts, Dependencies, Visibles, ReverseKind, conjunct_given, prompt_given, is_given}
 use Rattle.kc_statements.specs.between.StatementViews.{IfNodeExists}
 use Rattle.kc_statements.specs.declared.statement.Attribute.{Attribute as CodeAttribute}
 use Rattle.kc_statements.specs.declared.statement.Attribute.TheVariants as attributes

@@ -1,8 +1,7 @@
 -- The blocks around each group.
 use Rattle.std.proofs.Common.{below_more, length-append}
-use Rattle.kc_symbol_lines.proofs.Common.{◌≡◌, ℕ, zero, suc, ◌+◌, ◌<◌, List, [], ◌∷◌, ◌++◌, length, drop, map, Option, Some, None, refl, ap, sym, ◌∙◌, subst,
-    arith, slice_get, unwrap_or, option_map, IfSome, All, All-nil, All-cons, Exprs, RepresentsHead, Group, GroupHead, side_of, opening, closing, inside,
-    open_blocks, read_before, block_at, block_after, IsChain, open_numbers, HasBlocksTo}
+use Rattle.kc_symbol_lines.proofs.Common.{◌≡◌, ℕ, zero, suc, ◌+◌, ◌<◌, List, [], ◌∷◌, ◌++◌, length, drop, map, Option, Some, None, refl, ap, sym, ◌∙◌, subst, arith, slice_get, unwrap_or, option_map, IfSome, All, All-nil, All-cons, Exprs, RepresentsHead, Group, GroupHead, side_of, opening, closing}
+use Rattle.kc_symbol_lines.proofs.Common.{inside, open_blocks, read_before, block_at, block_after, IsChain, open_numbers, HasBlocksTo}
 use Rattle.kc_parser.specs.declared.listing.GroupHead.{GroupHead as CodeHead}
 use Rattle.kc_parser.specs.declared.listing.GroupHead.TheVariants as codes
 use Rattle.kc_tree_model.proofs.NestedTrees.OpenBlocks.{pushed, popped, open_inside}

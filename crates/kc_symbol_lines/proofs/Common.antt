@@ -1,6 +1,5 @@
 -- The names that most proofs of this crate cite, passed on from one place. Declares nothing.
-pub use Rattle.std.proofs.Common.{Bool, List, None, Option, Some, [], ap, append-nil, append_assoc, arith, cond, drop, false, get_or, inl, inr, length, map,
-    refl, subst, suc, sym, take, true, zero, ℕ, ◌++◌, ◌+◌, ◌<◌, ◌∙◌, ◌∷◌, ◌≡◌, ◌≤◌}
+pub use Rattle.std.proofs.Common.{Bool, List, None, Option, Some, [], ap, append-nil, append_assoc, arith, cond, drop, false, get_or, inl, inr, length, map, refl, subst, suc, sym, take, true, zero, ℕ, ◌++◌, ◌+◌, ◌<◌, ◌∙◌, ◌∷◌, ◌≡◌, ◌≤◌}
 pub use Rattle.std.proofs.lemmas.List.{get_or_read, length-map, map-append}
 pub use Rattle.std.proofs.lemmas.List.Elements.{All-cons, All-nil, All-take}
 pub use Rattle.std.specs.Global.{Vec}
@@ -24,8 +23,7 @@ pub use Rattle.kc_symbol_lines.specs.checker.Blocks.{HasBlocks, HasBlocksTo, IsC
 pub use Rattle.kc_symbol_lines.specs.checker.Contexts.{as_choice_part, inside_blocks, inside_choice, inside_head, inside_menu, lines_at, lists_of, shown_parts}
 pub use Rattle.kc_symbol_lines.specs.checker.Definitions.{AreDefinitionLines, defaults_at, dependency_at, prompts_at, ranges_at}
 pub use Rattle.kc_symbol_lines.specs.checker.Lists.{each_items}
-pub use Rattle.kc_symbol_lines.specs.checker.OwnLines.{EnclosingLists, dependency_parts, is_given, located_if, parts_in, places_in, position_at, prompt_at,
-    prompt_parts, prompts_in}
+pub use Rattle.kc_symbol_lines.specs.checker.OwnLines.{EnclosingLists, dependency_parts, is_given, located_if, parts_in, places_in, position_at, prompt_at, prompt_parts, prompts_in}
 pub use Rattle.kc_symbol_lines.specs.checker.Targets.{AreGathered, target_keys, target_places}
 pub use Rattle.kc_symbol_lines.specs.declared.located.LocatedExpr.{LocatedExpr}
 pub use Rattle.kc_symbol_lines.specs.declared.located.SymbolLines.{SymbolLines}

@@ -1,8 +1,7 @@
 -- The conditions that enclose what is inside blocks are those of the definitions.
-use Rattle.kc_symbol_lines.proofs.Common.{◌≡◌, inl, inr, ℕ, Bool, true, false, List, [], ◌∷◌, ◌++◌, map, Option, Some, None, refl, ap, sym, ◌∙◌, subst,
-    slice_get, option_map, unwrap_or, map-append, Exprs, node_expr, RepresentsHead, RepresentsGroup, line_in, Group, GroupHead, names_defined, Has,
-    LocatedContext, located_at, located_prompts, located_context, HasLines, TreeLines, Visibles, located_view, all_located, EnclosingLists, position_at,
-    located_if, parts_in, dependency_parts, prompts_in, as_choice_part, shown_parts, inside_menu, inside_choice, inside_head, inside_blocks}
+use Rattle.kc_symbol_lines.proofs.Common.{◌≡◌, inl, inr, ℕ, Bool, true, false, List, [], ◌∷◌, ◌++◌, map, Option, Some, None, refl, ap, sym, ◌∙◌, subst, slice_get, option_map, unwrap_or, map-append, Exprs, node_expr, RepresentsHead, RepresentsGroup, line_in, Group, GroupHead, names_defined, Has}
+use Rattle.kc_symbol_lines.proofs.Common.{LocatedContext, located_at, located_prompts, located_context, HasLines, TreeLines, Visibles, located_view, all_located, EnclosingLists, position_at, located_if, parts_in, dependency_parts, prompts_in, as_choice_part, shown_parts, inside_menu, inside_choice}
+use Rattle.kc_symbol_lines.proofs.Common.{inside_head, inside_blocks}
 use Rattle.std.proofs.lemmas.Option.{slice_get-map}
 use Rattle.kc_value.specs.declared.tri.Tri.TheVariants.{N}
 use Rattle.kc_expr.specs.Expr.{alone, constant}

@@ -1,10 +1,8 @@
 -- The lines that the index finds are those of a symbol.
-use Rattle.kc_symbol_lines.proofs.Common.{◌≡◌, inl, inr, ℕ, zero, suc, ◌+◌, ◌<◌, Bool, true, false, cond, List, [], ◌∷◌, ◌++◌, length, map, take, Option, Some,
-    None, refl, ap, sym, subst, ◌∙◌, arith, slice_get, flat_map, is_some, All, Vec, map-append, length-map, All-nil, All-cons, All-take, Exprs, Language,
-    is_linux_6_12, Tree, Symbol, Group, Position, open_blocks, GroupInContext, groups_in_context, Contents, contents_of, definitions_of, symbol_of,
-    names_defined, Has, get_below, located_context, located_prompts, located_dependencies, attribute_positions, TreeModel, read_before, group_at, HasLines,
-    TreeLines, LocatedExpr, SymbolLines, DefinitionLines, GatheredLines, position_view, all_located, IsHeld, AreHeld, HasBlocks, open_numbers, lines_at,
-    AreDefinitionLines, prompts_at, dependency_at, defaults_at, ranges_at, each_items, AreGathered}
+use Rattle.kc_symbol_lines.proofs.Common.{◌≡◌, inl, inr, ℕ, zero, suc, ◌+◌, ◌<◌, Bool, true, false, cond, List, [], ◌∷◌, ◌++◌, length, map, take, Option, Some, None, refl, ap, sym, subst, ◌∙◌, arith, slice_get, flat_map, is_some, All, Vec, map-append, length-map, All-nil, All-cons, All-take, Exprs}
+use Rattle.kc_symbol_lines.proofs.Common.{Language, is_linux_6_12, Tree, Symbol, Group, Position, open_blocks, GroupInContext, groups_in_context, Contents, contents_of, definitions_of, symbol_of, names_defined, Has, get_below, located_context, located_prompts, located_dependencies}
+use Rattle.kc_symbol_lines.proofs.Common.{attribute_positions, TreeModel, read_before, group_at, HasLines, TreeLines, LocatedExpr, SymbolLines, DefinitionLines, GatheredLines, position_view, all_located, IsHeld, AreHeld, HasBlocks, open_numbers, lines_at, AreDefinitionLines, prompts_at}
+use Rattle.kc_symbol_lines.proofs.Common.{dependency_at, defaults_at, ranges_at, each_items, AreGathered}
 use Rattle.std.proofs.lemmas.List.{take-map}
 use Rattle.kc_tree_model.specs.Statements as model
 use Rattle.kc_tree_model.specs.Contents.{defines, choice_of_symbol, own_dependencies, tree_of_groups}

@@ -1,9 +1,8 @@
 -- The groups that were read, by their numbers.
 use Rattle.std.proofs.Common.{◌-◌, reverse}
 use Rattle.std.specs.Prelude.{Some}
-use Rattle.kc_symbol_lines.proofs.Common.{◌≡◌, inl, inr, ℕ, zero, suc, ◌+◌, ◌<◌, List, [], ◌∷◌, length, drop, refl, ap, sym, subst, ◌∙◌, arith, slice_get, Exprs,
-    Group, side_of, opening, closing, inside, open_blocks, GroupInContext, group_in_context, groups_in_context, names_defined, Has, get_below, RepresentsGroup,
-    read_before, group_at, shown_at, count_is, HasLines, TreeLines, lines_at}
+use Rattle.kc_symbol_lines.proofs.Common.{◌≡◌, inl, inr, ℕ, zero, suc, ◌+◌, ◌<◌, List, [], ◌∷◌, length, drop, refl, ap, sym, subst, ◌∙◌, arith, slice_get, Exprs, Group, side_of, opening, closing, inside, open_blocks, GroupInContext, group_in_context, groups_in_context, names_defined, Has, get_below}
+use Rattle.kc_symbol_lines.proofs.Common.{RepresentsGroup, read_before, group_at, shown_at, count_is, HasLines, TreeLines, lines_at}
 use Rattle.kc_tree_model.specs.Blocks.{Side}
 use Rattle.kc_tree_model.proofs.Consistency.Lists.{at-has}
 use Rattle.kc_checks.proofs.GroupPlaces.{placed_count, place_numbered}

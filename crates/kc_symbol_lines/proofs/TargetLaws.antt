@@ -3,12 +3,10 @@ use Rattle.std.proofs.Common.{◌==◌, not}
 use Rattle.std.specs.Prelude.{slice_index_or, option_and_then, bytes_eq, nat_lt}
 use Rattle.std.specs.List.{position_or_len}
 use Rattle.std.proofs.lemmas.Bool.{eqb-true, eq-eqb}
-use Rattle.kc_symbol_lines.proofs.Common.{◌≡◌, inl, inr, ℕ, zero, suc, ◌+◌, ◌<◌, Bool, true, false, cond, List, [], ◌∷◌, ◌++◌, length, map, Option, Some, None,
-    refl, ap, sym, ◌∙◌, subst, arith, slice_get, filter_map, flat_map, option_map, option_to_list, unwrap_or, All, IfSome, cons_option, map-append, length-map,
-    All-nil, All-cons, Exprs, Language, attribute_in, AttributeNodesExist, RepresentsHead, LineNodesExist, line_in, Tree, Symbol, Attribute, TargetAttribute,
-    Group, Line, Position, open_blocks, GroupInContext, group_in_context, groups_in_context, Contents, contents_of, definitions_of, symbol_of, names_defined,
-    Has, get_below, position_of, attribute_positions, TreeModel, HasLines, TreeLines, shown_at, all_before, read_before, group_at, ReverseKind, GatheredLines,
-    position_view, position_at, target_keys, target_places, AreGathered, lines_at}
+use Rattle.kc_symbol_lines.proofs.Common.{◌≡◌, inl, inr, ℕ, zero, suc, ◌+◌, ◌<◌, Bool, true, false, cond, List, [], ◌∷◌, ◌++◌, length, map, Option, Some, None, refl, ap, sym, ◌∙◌, subst, arith, slice_get, filter_map, flat_map, option_map, option_to_list, unwrap_or, All, IfSome, cons_option}
+use Rattle.kc_symbol_lines.proofs.Common.{map-append, length-map, All-nil, All-cons, Exprs, Language, attribute_in, AttributeNodesExist, RepresentsHead, LineNodesExist, line_in, Tree, Symbol, Attribute, TargetAttribute, Group, Line, Position, open_blocks, GroupInContext, group_in_context}
+use Rattle.kc_symbol_lines.proofs.Common.{groups_in_context, Contents, contents_of, definitions_of, symbol_of, names_defined, Has, get_below, position_of, attribute_positions, TreeModel, HasLines, TreeLines, shown_at, all_before, read_before, group_at, ReverseKind, GatheredLines, position_view}
+use Rattle.kc_symbol_lines.proofs.Common.{position_at, target_keys, target_places, AreGathered, lines_at}
 use Rattle.std.proofs.lemmas.Option.{slice_get-get_or}
 use Rattle.kc_expr.specs.Lookup.{index_of_name}
 use Rattle.kc_statements.specs.declared.statement.Attribute.{Attribute as CodeAttribute}

@@ -1,7 +1,6 @@
 -- What is read of a line is its tokens or its first fault, and no other.
-use Rattle.kc_tokens.proofs.Common.{◌≡◌, ℕ, zero, suc, ◌+◌, ◌≤◌, ◌<◌, ◌⊎◌, inl, inr, true, List, [], ◌∷◌, ◌++◌, length, Result, Ok, Err, refl, ap, sym, ◌∙◌,
-    subst, length-append, arith, ExprFault, Language, NextToken, White, Comment, Token, Fault, TokenKind, Lexeme, with_front, is_white_byte, lexemes_of,
-    lexemes_from, IsToken, IsLongest, IsCut, ends, comment, white, token}
+use Rattle.kc_tokens.proofs.Common.{◌≡◌, ℕ, zero, suc, ◌+◌, ◌≤◌, ◌<◌, ◌⊎◌, inl, inr, true, List, [], ◌∷◌, ◌++◌, length, Result, Ok, Err, refl, ap, sym, ◌∙◌, subst, length-append, arith, ExprFault, Language, NextToken, White, Comment, Token, Fault, TokenKind, Lexeme, with_front, is_white_byte}
+use Rattle.kc_tokens.proofs.Common.{lexemes_of, lexemes_from, IsToken, IsLongest, IsCut, ends, comment, white, token}
 use Rattle.kc_tokens.specs.MemoryFaults.{IsOutOfMemory}
 use Rattle.kc_tokens.specs.declared.token.Token.{Token as CodeToken}
 use Rattle.kc_tokens.specs.Token.{next_token}

@@ -3,8 +3,8 @@ use Rattle.std.proofs.Common.{ltb}
 use Rattle.std.specs.Prelude.{position}
 use Rattle.std.specs.List.{position_or_len}
 use Rattle.std.proofs.lemmas.Bool.{le-ltb, lt-ltb, ltb-true}
-use Rattle.kc_tokens.proofs.Common.{◌≡◌, ℕ, suc, ◌+◌, ◌<◌, Bool, true, false, eqb, cond, List, [], ◌∷◌, ◌++◌, length, Option, Some, None, refl, ap, sym, ◌∙◌,
-    append_assoc, length-append, arith, option_map, list_any, or_parts, eqb-true, further, IsBody, Language, Strict, Linux, bare_dollar, dollar_left_out}
+use Rattle.kc_tokens.proofs.Common.{◌≡◌, ℕ, suc, ◌+◌, ◌<◌, Bool, true, false, eqb, cond, List, [], ◌∷◌, ◌++◌, length, Option, Some, None, refl, ap, sym, ◌∙◌, append_assoc, length-append, arith, option_map, list_any, or_parts, eqb-true, further, IsBody, Language, Strict, Linux, bare_dollar}
+use Rattle.kc_tokens.proofs.Common.{dollar_left_out}
 use Rattle.kc_value.specs.QuotedTexts.{none, plain, pair}
 use Rattle.kc_tokens.specs.declared.language.LinuxVersion.{LinuxVersion}
 use Rattle.kc_tokens.specs.TokenGrammar.{HasDollarsInPairs, empty, other, paired, HasDollarsOf}

@@ -1,7 +1,6 @@
 -- Quoted texts without a backslash and a `$`.
-use Rattle.kc_tokens.proofs.Common.{◌≡◌, ℕ, zero, suc, ◌+◌, ◌<◌, ◌≤◌, Bool, true, false, ◌||◌, eqb, List, [], ◌∷◌, length, take, drop, get_or, Some, None, refl,
-    ap, sym, ◌∙◌, inl, inr, subst, ◌-◌, arith, option_map, list_any, or_parts, eqb-true, closing, Language, Strict, Linux, Token, Quoted, is_quote,
-    dollar_left_out, quoted_up_to, quoted_or_left_out}
+use Rattle.kc_tokens.proofs.Common.{◌≡◌, ℕ, zero, suc, ◌+◌, ◌<◌, ◌≤◌, Bool, true, false, ◌||◌, eqb, List, [], ◌∷◌, length, take, drop, get_or, Some, None, refl, ap, sym, ◌∙◌, inl, inr, subst, ◌-◌, arith, option_map, list_any, or_parts, eqb-true, closing, Language, Strict, Linux, Token, Quoted}
+use Rattle.kc_tokens.proofs.Common.{is_quote, dollar_left_out, quoted_up_to, quoted_or_left_out}
 use Rattle.std.proofs.lemmas.Bool.{eq-eqb, cases_eq}
 use Rattle.kc_tokens.specs.Token.{next_quoted}
 use Rattle.kc_tokens.specs.checker.TokenEnds.{Reaches}

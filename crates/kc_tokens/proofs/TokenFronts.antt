@@ -1,9 +1,7 @@
 -- What begins bytes: a white byte, a comment, the longest token, or nothing.
-use Rattle.kc_tokens.proofs.Common.{◌≡◌, ℕ, suc, ◌+◌, ◌<◌, ◌≤◌, Bool, true, false, ◌&&◌, ◌||◌, eqb, cond, List, [], ◌∷◌, ◌++◌, length, take, drop, get_or,
-    Option, Some, None, refl, ap, sym, ◌∙◌, subst, append_assoc, length-append, arith, take_while, list_all, and_parts, eqb-true, take-append_seam, IsBody,
-    closing, body_closes, ExprKind, Language, NextToken, White, Comment, Token, Fault, Equal, NotEqual, Less, Greater, LessEqual, GreaterEqual, TokenKind, Word,
-    Quoted, Relation, Not, And, Or, Open, Close, is_quote, is_white_byte, is_word_byte, dollar_left_out, quoted_up_to, quoted_or_left_out, IsQuotedToken,
-    IsToken, IsLongest}
+use Rattle.kc_tokens.proofs.Common.{◌≡◌, ℕ, suc, ◌+◌, ◌<◌, ◌≤◌, Bool, true, false, ◌&&◌, ◌||◌, eqb, cond, List, [], ◌∷◌, ◌++◌, length, take, drop, get_or, Option, Some, None, refl, ap, sym, ◌∙◌, subst, append_assoc, length-append, arith, take_while, list_all, and_parts, eqb-true, take-append_seam}
+use Rattle.kc_tokens.proofs.Common.{IsBody, closing, body_closes, ExprKind, Language, NextToken, White, Comment, Token, Fault, Equal, NotEqual, Less, Greater, LessEqual, GreaterEqual, TokenKind, Word, Quoted, Relation, Not, And, Or, Open, Close, is_quote, is_white_byte, is_word_byte}
+use Rattle.kc_tokens.proofs.Common.{dollar_left_out, quoted_up_to, quoted_or_left_out, IsQuotedToken, IsToken, IsLongest}
 use Rattle.std.proofs.lemmas.Bool.{both_ways}
 use Rattle.kc_value.specs.QuotedTexts.{unescaped}
 use Rattle.kc_value.proofs.QuotedLaws.{closed, IsClosed}

@@ -1,9 +1,7 @@
 -- The tokens of a line are those of the token language.
-use Rattle.kc_tokens.proofs.Common.{◌≡◌, ℕ, suc, ◌+◌, ◌<◌, ◌≤◌, ◌⊎◌, inl, inr, Bool, true, false, eqb, cond, List, [], ◌∷◌, ◌++◌, length, take, drop, get_or,
-    Some, None, Ok, refl, ap, sym, ◌∙◌, subst, append_assoc, length-append, arith, take_while, list_all, and_parts, eqb-true, nat_tests, take_while-cons,
-    take-append_seam, closing, body_closes, Language, White, Comment, Token, Equal, NotEqual, Less, Greater, LessEqual, GreaterEqual, TokenKind, Word, Quoted,
-    Relation, Not, And, Or, Open, Close, with_front, is_quote, Lexeme, is_white_byte, is_word_byte, dollar_left_out, quoted_up_to, quoted_or_left_out,
-    lexemes_from, IsQuotedToken, IsToken, IsLongest, IsCut, ends, comment, white, token}
+use Rattle.kc_tokens.proofs.Common.{◌≡◌, ℕ, suc, ◌+◌, ◌<◌, ◌≤◌, ◌⊎◌, inl, inr, Bool, true, false, eqb, cond, List, [], ◌∷◌, ◌++◌, length, take, drop, get_or, Some, None, Ok, refl, ap, sym, ◌∙◌, subst, append_assoc, length-append, arith, take_while, list_all, and_parts, eqb-true, nat_tests}
+use Rattle.kc_tokens.proofs.Common.{take_while-cons, take-append_seam, closing, body_closes, Language, White, Comment, Token, Equal, NotEqual, Less, Greater, LessEqual, GreaterEqual, TokenKind, Word, Quoted, Relation, Not, And, Or, Open, Close, with_front, is_quote, Lexeme, is_white_byte}
+use Rattle.kc_tokens.proofs.Common.{is_word_byte, dollar_left_out, quoted_up_to, quoted_or_left_out, lexemes_from, IsQuotedToken, IsToken, IsLongest, IsCut, ends, comment, white, token}
 use Rattle.std.proofs.lemmas.Bool.{or_cases}
 use Rattle.std.proofs.Math.Seq.{drop-append_seam}
 use Rattle.kc_tokens.specs.Token.{next_token}

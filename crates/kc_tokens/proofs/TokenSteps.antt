@@ -1,10 +1,8 @@
 -- Steps of reading a line.
 use Rattle.std.proofs.Common.{sub-one, add-suc, add-one, get_or-drop, drop-drop}
 use Rattle.std.proofs.Math.ListN.{drop_of_length-le}
-use Rattle.kc_tokens.proofs.Common.{◌≡◌, ℕ, suc, zero, ◌+◌, ◌≤◌, ◌<◌, Bool, true, false, List, [], ◌∷◌, ◌++◌, length, drop, take, refl, ap, sym, ◌∙◌, arith,
-    cond, Result, Ok, Err, get_or, ◌-◌, append_assoc, length-drop, drop_more, IsCharBoundary-after_ascii, take-length, take_while-cons, take_while,
-    IsCharBoundary, Language, lexemes_from, Lexeme, is_word_byte, lexemes_of, White, Comment, Token, Fault, TokenKind, ExprKind, nat_tests, with_front,
-    ExprFault}
+use Rattle.kc_tokens.proofs.Common.{◌≡◌, ℕ, suc, zero, ◌+◌, ◌≤◌, ◌<◌, Bool, true, false, List, [], ◌∷◌, ◌++◌, length, drop, take, refl, ap, sym, ◌∙◌, arith, cond, Result, Ok, Err, get_or, ◌-◌, append_assoc, length-drop, drop_more, IsCharBoundary-after_ascii, take-length, take_while-cons, take_while}
+use Rattle.kc_tokens.proofs.Common.{IsCharBoundary, Language, lexemes_from, Lexeme, is_word_byte, lexemes_of, White, Comment, Token, Fault, TokenKind, ExprKind, nat_tests, with_front, ExprFault}
 use Rattle.std.specs.Prelude.{IsUtf8}
 use Rattle.kc_tokens.specs.Token.{next_token, lexeme_of}
 use Rattle.kc_tokens.specs.declared.token.Token.{Token as CodeToken}

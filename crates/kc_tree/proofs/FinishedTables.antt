@@ -1,9 +1,7 @@
 -- The tree of the collected lists.
-use Rattle.kc_tree.proofs.Common.{◌≡◌, ℕ, suc, ◌+◌, ◌<◌, List, [], ◌∷◌, length, map, get_or, Option, Some, None, refl, ap, sym, subst, ◌∙◌, arith, cond, Bool,
-    true, false, All, Contains, slice_get, slice_index, bytes_eq, position_or_len, ltb-true, slice_get_within, get_or_from_slice_get, length-map, get_or-map,
-    index_of_name, Tree, IsConsistent, unit_of, index_of_unit, symbol_named, DefaultFits, RangeFits, HasOperands, ReverseDependencyFits, MemberDefaultFits,
-    gathered_tree, symbol_gathered, choice_gathered, AreSoundParts, IsTable, tree_from_rows, symbol_from_row, choice_from_row, from_rows, HasUnits, SymbolRow,
-    Parts, TreeLists}
+use Rattle.kc_tree.proofs.Common.{◌≡◌, ℕ, suc, ◌+◌, ◌<◌, List, [], ◌∷◌, length, map, get_or, Option, Some, None, refl, ap, sym, subst, ◌∙◌, arith, cond, Bool, true, false, All, Contains, slice_get, slice_index, bytes_eq, position_or_len, ltb-true, slice_get_within, get_or_from_slice_get, length-map}
+use Rattle.kc_tree.proofs.Common.{get_or-map, index_of_name, Tree, IsConsistent, unit_of, index_of_unit, symbol_named, DefaultFits, RangeFits, HasOperands, ReverseDependencyFits, MemberDefaultFits, gathered_tree, symbol_gathered, choice_gathered, AreSoundParts, IsTable, tree_from_rows}
+use Rattle.kc_tree.proofs.Common.{symbol_from_row, choice_from_row, from_rows, HasUnits, SymbolRow, Parts, TreeLists}
 use Rattle.std.specs.Prelude.{IfSome, slice_index_or}
 use Rattle.std.proofs.lemmas.List.{ext_get_or}
 use Rattle.std.proofs.lemmas.List.Elements.{All-weaker, All-contains}

@@ -1,6 +1,5 @@
 -- The symbols and choices that the rows of a tree represent, by their places.
-use Rattle.kc_tree.proofs.Common.{◌≡◌, ℕ, zero, suc, ◌+◌, ◌-◌, List, [], ◌∷◌, length, map, drop, Option, Some, None, refl, ap, sym, arith, All, slice_get,
-    slice_index, length-map, take-map, items_at, from_rows, tree_from_rows, symbol_from_row, choice_from_row, entry_from_row, Parts}
+use Rattle.kc_tree.proofs.Common.{◌≡◌, ℕ, zero, suc, ◌+◌, ◌-◌, List, [], ◌∷◌, length, map, drop, Option, Some, None, refl, ap, sym, arith, All, slice_get, slice_index, length-map, take-map, items_at, from_rows, tree_from_rows, symbol_from_row, choice_from_row, entry_from_row, Parts}
 use Rattle.std.proofs.lemmas.List.Elements.{All-take, All-drop}
 use Rattle.kc_tree_model.specs.Contents.{own_dependencies}
 

@@ -1,8 +1,7 @@
 -- The symbols of names.
 use Rattle.std.proofs.Common.{ltb, IfSome}
 use Rattle.std.specs.Prelude.{option_and_then}
-use Rattle.kc_tree.proofs.Common.{◌≡◌, ℕ, ◌<◌, ◌≤◌, Bool, true, false, cond, List, [], length, map, get_or, Option, Some, None, refl, sym, ap, subst, ◌∙◌, arith,
-    slice_get, bytes_eq, position_or_len, ltb-true, length-map, get_or-map, slice_get-get_or, index_of_name, Tree, symbol_named}
+use Rattle.kc_tree.proofs.Common.{◌≡◌, ℕ, ◌<◌, ◌≤◌, Bool, true, false, cond, List, [], length, map, get_or, Option, Some, None, refl, sym, ap, subst, ◌∙◌, arith, slice_get, bytes_eq, position_or_len, ltb-true, length-map, get_or-map, slice_get-get_or, index_of_name, Tree, symbol_named}
 use Rattle.std.proofs.lemmas.Option.{slice_get_past}
 use Rattle.kc_expr.proofs.Places.{place_there}
 use Rattle.kc_tree_model.specs.Trees.{Symbol}

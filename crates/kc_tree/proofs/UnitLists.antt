@@ -1,7 +1,6 @@
 -- The units of the collected lists.
-use Rattle.kc_tree.proofs.Common.{◌≡◌, ℕ, zero, suc, ◌<◌, List, [], ◌∷◌, length, Option, Some, None, refl, ap, sym, subst, ◌∙◌, arith, All, slice_get,
-    slice_index, slice_get_within, get_or_from_slice_get, IsConsistent, unit_of, index_of_unit, gathered_tree, symbol_gathered, choice_gathered, AreNumbered,
-    own_or_choice, HasUnits, SymbolRow, TreeLists}
+use Rattle.kc_tree.proofs.Common.{◌≡◌, ℕ, zero, suc, ◌<◌, List, [], ◌∷◌, length, Option, Some, None, refl, ap, sym, subst, ◌∙◌, arith, All, slice_get, slice_index, slice_get_within, get_or_from_slice_get, IsConsistent, unit_of, index_of_unit, gathered_tree, symbol_gathered, choice_gathered}
+use Rattle.kc_tree.proofs.Common.{AreNumbered, own_or_choice, HasUnits, SymbolRow, TreeLists}
 use Rattle.kc_tree_model.specs.declared.ids.Unit.{Unit as TreeUnit}
 use Rattle.kc_tree_model.specs.declared.ids.Unit.TheVariants.{Symbol as of_symbol, Choice as of_choice}
 use Rattle.kc_tree_model.proofs.Lookups.{place_is, unit_is}

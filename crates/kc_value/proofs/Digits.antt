@@ -1,6 +1,5 @@
 -- Digits read one after another.
-use Rattle.kc_value.proofs.Common.{◌≡◌, ℕ, ◌+◌, ◌*◌, ◌<◌, ◌≤◌, Bool, true, false, ◌&&◌, cond, List, [], ◌∷◌, Option, refl, arith, le-ltb, ltb-false, lt-ltb,
-    ltb-true, is_digit, digit_value, list_all}
+use Rattle.kc_value.proofs.Common.{◌≡◌, ℕ, ◌+◌, ◌*◌, ◌<◌, ◌≤◌, Bool, true, false, ◌&&◌, cond, List, [], ◌∷◌, Option, refl, arith, le-ltb, ltb-false, lt-ltb, ltb-true, is_digit, digit_value, list_all}
 use Rattle.std.proofs.Math.Nat.{mul-le-mul_left}
 use Rattle.std.specs.Prelude.{nat_lt, Some, None, if◌then◌else◌}
 use Rattle.std.specs.Str.Parse.{digits_value_after}

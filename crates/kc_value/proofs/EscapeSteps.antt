@@ -1,8 +1,7 @@
 -- Escapes, character by character.
 use lib.Utf8.{encode as encode_utf8, encodes as encode_utf8_all, next}
-use Rattle.kc_value.proofs.Common.{◌≡◌, ℕ, ◌+◌, ◌/◌, ◌≤◌, ◌<◌, Bool, true, false, ltb, eqb, ◌⊎◌, inl, inr, List, [], ◌∷◌, ◌++◌, length, drop, get_or,
-    append_assoc, append-nil, refl, ap, sym, ◌∙◌, arith, le-ltb, ltb-false, ltb-true, ne_eqb, drop_more, drop_of_length-le, encode_ascii, IsUtf8, chars,
-    unescaped}
+use Rattle.kc_value.proofs.Common.{◌≡◌, ℕ, ◌+◌, ◌/◌, ◌≤◌, ◌<◌, Bool, true, false, ltb, eqb, ◌⊎◌, inl, inr, List, [], ◌∷◌, ◌++◌, length, drop, get_or, append_assoc, append-nil, refl, ap, sym, ◌∙◌, arith, le-ltb, ltb-false, ltb-true, ne_eqb, drop_more, drop_of_length-le, encode_ascii, IsUtf8, chars}
+use Rattle.kc_value.proofs.Common.{unescaped}
 use Rattle.std.proofs.lemmas.Str.{chars-encodes}
 
 -- all bytes are 128 or more

@@ -1,6 +1,5 @@
 -- The bytes appended while a text is spelled in quotes.
-use Rattle.kc_value.proofs.Common.{◌≡◌, ℕ, ◌+◌, ◌<◌, ◌≤◌, ◌||◌, true, false, get_or, List, [], ◌∷◌, ◌++◌, length, take, append_assoc, refl, ap, sym, ◌∙◌, ◌==◌,
-    flat_map, ne_eqb, take_all, take-append_seam, escaped_byte, quoted}
+use Rattle.kc_value.proofs.Common.{◌≡◌, ℕ, ◌+◌, ◌<◌, ◌≤◌, ◌||◌, true, false, get_or, List, [], ◌∷◌, ◌++◌, length, take, append_assoc, refl, ap, sym, ◌∙◌, ◌==◌, flat_map, ne_eqb, take_all, take-append_seam, escaped_byte, quoted}
 use Rattle.std.proofs.lemmas.List.{flat_map_more, take_more}
 
 -- bytes stay at the front when others are appended

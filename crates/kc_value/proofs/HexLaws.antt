@@ -1,7 +1,6 @@
 -- The readings of hex and loose number texts are their grammars.
-use Rattle.kc_value.proofs.Common.{◌≡◌, ℕ, ◌^◌, ◌<◌, ◌≤◌, ℤ, pos, Bool, true, false, ◌&&◌, ◌⊎◌, inl, inr, ltb, leb, eqb, List, [], ◌∷◌, length, Some, refl, ap,
-    sym, ◌∙◌, subst, arith, option_map, digit_value, and_parts, lt-ltb, le-ltb, leb-true, le-leb, eqb-true, magnitude, Writes, IsInt, decimal, negative,
-    prefixed}
+use Rattle.kc_value.proofs.Common.{◌≡◌, ℕ, ◌^◌, ◌<◌, ◌≤◌, ℤ, pos, Bool, true, false, ◌&&◌, ◌⊎◌, inl, inr, ltb, leb, eqb, List, [], ◌∷◌, length, Some, refl, ap, sym, ◌∙◌, subst, arith, option_map, digit_value, and_parts, lt-ltb, le-ltb, leb-true, le-leb, eqb-true, magnitude, Writes, IsInt, decimal}
+use Rattle.kc_value.proofs.Common.{negative, prefixed}
 use Rattle.kc_value.specs.Number.{without_prefix, hex_text, loose_number}
 use Rattle.kc_value.specs.NumberGrammar.{IsPrefixed, IsHex, bare, IsLoose, int, hex}
 use Rattle.kc_value.proofs.NumberLaws.{magnitude_writes, writes_magnitude, under, mapped, int_sound, int_complete}

@@ -1,8 +1,7 @@
 -- The readings of number texts are their grammars.
 use Rattle.std.proofs.Common.{neg_ℤ}
-use Rattle.kc_value.proofs.Common.{◌≡◌, ℕ, ◌^◌, ◌<◌, ◌≤◌, ℤ, pos, Bool, true, false, ◌&&◌, ltb, leb, eqb, cond, List, [], ◌∷◌, length, Option, Some, None, refl,
-    ap, sym, ◌∙◌, arith, option_map, is_digit, digit_value, list_all, and_parts, ltb-true, lt-ltb, leb-true, le-leb, eqb-true, ne_eqb, magnitude, Writes, IsInt,
-    decimal, negative}
+use Rattle.kc_value.proofs.Common.{◌≡◌, ℕ, ◌^◌, ◌<◌, ◌≤◌, ℤ, pos, Bool, true, false, ◌&&◌, ltb, leb, eqb, cond, List, [], ◌∷◌, length, Option, Some, None, refl, ap, sym, ◌∙◌, arith, option_map, is_digit, digit_value, list_all, and_parts, ltb-true, lt-ltb, leb-true, le-leb, eqb-true, ne_eqb}
+use Rattle.kc_value.proofs.Common.{magnitude, Writes, IsInt, decimal, negative}
 use Rattle.std.specs.Str.Parse.{AllDigits, digits_value}
 use Rattle.kc_value.specs.Number.{signed_text, int_text}
 

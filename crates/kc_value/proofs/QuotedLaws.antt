@@ -1,8 +1,7 @@
 -- Quoted spellings, and the texts between quotes.
 use Rattle.std.proofs.Common.{length-drop, get_or-drop}
-use Rattle.kc_value.proofs.Common.{◌≡◌, ℕ, suc, ◌+◌, ◌≤◌, ◌<◌, Bool, true, false, ◌||◌, cond, eqb, ◌-◌, drop, take, get_or, length-append, List, [], ◌∷◌, ◌++◌,
-    length, Option, Some, None, refl, ap, sym, ◌∙◌, subst, arith, option_map, flat_map, eqb-true, eq-eqb, take-append_seam, take-length, IsUtf8, escaped_byte,
-    quoted, IsBody, none, plain, pair, IsQuoted, closing, unescaped}
+use Rattle.kc_value.proofs.Common.{◌≡◌, ℕ, suc, ◌+◌, ◌≤◌, ◌<◌, Bool, true, false, ◌||◌, cond, eqb, ◌-◌, drop, take, get_or, length-append, List, [], ◌∷◌, ◌++◌, length, Option, Some, None, refl, ap, sym, ◌∙◌, subst, arith, option_map, flat_map, eqb-true, eq-eqb, take-append_seam, take-length, IsUtf8}
+use Rattle.kc_value.proofs.Common.{escaped_byte, quoted, IsBody, none, plain, pair, IsQuoted, closing, unescaped}
 use Rattle.std.proofs.lemmas.Bool.{or_parts}
 use Rattle.std.proofs.lemmas.List.{append_cancel_right}
 use Rattle.std.proofs.lemmas.Str.{IsCharBoundary-after_ascii, IsCharBoundary-before_ascii}

@@ -1,7 +1,6 @@
 -- The texts of lines of configuration files, by the lines that files keep.
-use Rattle.kmin_explain.proofs.Common.{◌≡◌, ℕ, zero, suc, ◌+◌, List, [], ◌∷◌, ◌++◌, map, Option, Some, None, refl, sym, subst, ◌∙◌, ap, append_assoc, arith,
-    flat_map, option_map, slice_get, Tree, unit_of, LineMeaning, Case, assigning_place, Overridden, SourcesModel, asked_line, asked_lines, line_in,
-    overridden_text}
+use Rattle.kmin_explain.proofs.Common.{◌≡◌, ℕ, zero, suc, ◌+◌, List, [], ◌∷◌, ◌++◌, map, Option, Some, None, refl, sym, subst, ◌∙◌, ap, append_assoc, arith, flat_map, option_map, slice_get, Tree, unit_of, LineMeaning, Case, assigning_place, Overridden, SourcesModel, asked_line, asked_lines, line_in}
+use Rattle.kmin_explain.proofs.Common.{overridden_text}
 use Rattle.std.specs.Prelude.{All}
 use Rattle.std.specs.List.{AllZip}
 use Rattle.std.proofs.lemmas.List.Elements.{All-head, All-tail}

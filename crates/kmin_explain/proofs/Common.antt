@@ -1,6 +1,5 @@
 -- The names that most proofs of this crate cite, passed on from one place. Declares nothing.
-pub use Rattle.std.proofs.Common.{All, Bool, List, None, Option, Some, [], ap, append-nil, append_assoc, arith, cond, drop, false, get_or, length, map, not,
-    refl, subst, suc, sym, take, true, zero, ℕ, ◌++◌, ◌+◌, ◌<◌, ◌∙◌, ◌∷◌, ◌≡◌, ◌≤◌}
+pub use Rattle.std.proofs.Common.{All, Bool, List, None, Option, Some, [], ap, append-nil, append_assoc, arith, cond, drop, false, get_or, length, map, not, refl, subst, suc, sym, take, true, zero, ℕ, ◌++◌, ◌+◌, ◌<◌, ◌∙◌, ◌∷◌, ◌≡◌, ◌≤◌}
 pub use Rattle.std.proofs.lemmas.List.{at_drop_more}
 pub use Rattle.std.proofs.lemmas.List.Elements.{All-cons, All-nil}
 pub use Rattle.std.proofs.lemmas.Result.{IfOk-weaker, on_ok_weaker}
@@ -35,8 +34,7 @@ pub use Rattle.kc_tree_model.specs.TreeLookup.{symbol_named, unit_of}
 pub use Rattle.kc_tree_model.specs.Trees.{Symbol, Tree}
 pub use Rattle.kc_value.specs.declared.tri.Tri.{Tri}
 pub use Rattle.kmin_explain.specs.Deep.{blamed_in, blamed_of, next_of}
-pub use Rattle.kmin_explain.specs.Explanations.{SourcesModel, asked_line, asked_lines, explained_at, explained_by, explained_in, is_hindered_at, listed_reasons,
-    reason_places, reasons_of}
+pub use Rattle.kmin_explain.specs.Explanations.{SourcesModel, asked_line, asked_lines, explained_at, explained_by, explained_in, is_hindered_at, listed_reasons, reason_places, reasons_of}
 pub use Rattle.kmin_explain.specs.Names.{each_once, each_once_after, is_unknown, symbol_meant}
 pub use Rattle.kmin_explain.specs.between.Sources.{AreSourcesOf, config_of, sources_model}
 pub use Rattle.kmin_explain.specs.checker.BlamedWalk.{blamed_in_reverse}

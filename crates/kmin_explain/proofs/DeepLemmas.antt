@@ -1,6 +1,6 @@
 -- The symbols to go on with, found one after the other.
-use Rattle.kmin_explain.proofs.Common.{◌≡◌, ℕ, ◌+◌, ◌<◌, List, [], ◌∷◌, ◌++◌, length, map, drop, get_or, Some, sym, ◌∙◌, ap, refl, flat_map, slice_get,
-    option_map, unwrap_or, at_drop_more, Tree, Symbol, UnitValue, environment, PlainReasons, each_once_after, SourcesModel, reasons_of, blamed_in, next_of}
+use Rattle.kmin_explain.proofs.Common.{◌≡◌, ℕ, ◌+◌, ◌<◌, List, [], ◌∷◌, ◌++◌, length, map, drop, get_or, Some, sym, ◌∙◌, ap, refl, flat_map, slice_get, option_map, unwrap_or, at_drop_more, Tree, Symbol, UnitValue, environment, PlainReasons, each_once_after, SourcesModel, reasons_of, blamed_in}
+use Rattle.kmin_explain.proofs.Common.{next_of}
 use Rattle.kmin_explain.specs.Deep.{next_by}
 use Rattle.kmin_explain.proofs.OnceLemmas.{after_both}
 

@@ -1,6 +1,5 @@
 -- Symbols that are found each once.
-use Rattle.kmin_explain.proofs.Common.{◌≡◌, ℕ, zero, suc, ◌+◌, ◌<◌, ◌≤◌, List, [], ◌∷◌, ◌++◌, Option, Some, None, refl, sym, ◌∙◌, ap, arith, filter_map,
-    cons_option, range_with_len, All-nil, All-cons, each_once_after, with_meant}
+use Rattle.kmin_explain.proofs.Common.{◌≡◌, ℕ, zero, suc, ◌+◌, ◌<◌, ◌≤◌, List, [], ◌∷◌, ◌++◌, Option, Some, None, refl, sym, ◌∙◌, ap, arith, filter_map, cons_option, range_with_len, All-nil, All-cons, each_once_after, with_meant}
 use Rattle.std.specs.Prelude.{All}
 
 -- what is found after one more name

@@ -1,6 +1,5 @@
 -- The names of a list, and those of symbols.
-use Rattle.kmin_explain.proofs.Common.{◌≡◌, ℕ, ◌+◌, ◌<◌, Bool, true, false, not, cond, List, [], ◌∷◌, length, map, drop, get_or, Option, Some, sym, ◌∙◌, ap,
-    arith, All, find, IsAscii, Bor, filter_map, at_drop_more, All-nil, All-cons, Tree, is_unknown, each_once_after, with_meant}
+use Rattle.kmin_explain.proofs.Common.{◌≡◌, ℕ, ◌+◌, ◌<◌, Bool, true, false, not, cond, List, [], ◌∷◌, length, map, drop, get_or, Option, Some, sym, ◌∙◌, ap, arith, All, find, IsAscii, Bor, filter_map, at_drop_more, All-nil, All-cons, Tree, is_unknown, each_once_after, with_meant}
 use Rattle.std.specs.List.{list_all}
 use Rattle.std.proofs.lemmas.Str.Ascii.{IsAscii-from_all}
 use Rattle.std.proofs.lemmas.Bool.{and_parts}

@@ -1,7 +1,6 @@
 -- The text for a symbol, as the code makes it.
-use Rattle.kmin_explain.proofs.Common.{◌≡◌, ℕ, List, ◌++◌, Option, Some, subst, ◌∙◌, ap, option_map, slice_get, Tri, Exprs, Tree, Symbol, symbol_view, UnitValue,
-    environment, Case, wanted_by, SymbolLines, reasons_view, symbol_lines_view, ReasonPlaces, located_first_line, located_details_at, SourcesModel, asked_lines,
-    reason_places, explained_by}
+use Rattle.kmin_explain.proofs.Common.{◌≡◌, ℕ, List, ◌++◌, Option, Some, subst, ◌∙◌, ap, option_map, slice_get, Tri, Exprs, Tree, Symbol, symbol_view, UnitValue, environment, Case, wanted_by, SymbolLines, reasons_view, symbol_lines_view, ReasonPlaces, located_first_line, located_details_at}
+use Rattle.kmin_explain.proofs.Common.{SourcesModel, asked_lines, reason_places, explained_by}
 use Rattle.kc_tree.specs.declared.symbol.Symbol.{Symbol as CodeSymbol}
 use Rattle.kc_reasons.specs.declared.reasons.SymbolReasons.{SymbolReasons}
 use Rattle.kc_symbol_lines.specs.declared.located.SymbolLines.{SymbolLines as CodeLines}

@@ -1,9 +1,8 @@
 -- The text for a symbol, by its parts.
 use Rattle.std.proofs.Common.{◌&&◌, ◌||◌, Result, IfOk}
-use Rattle.kmin_explain.proofs.Common.{◌≡◌, ℕ, zero, suc, ◌+◌, ◌<◌, ◌≤◌, Bool, true, false, List, [], ◌∷◌, ◌++◌, length, Option, Some, None, refl, sym, subst,
-    ◌∙◌, ap, append_assoc, append-nil, drop, get_or, arith, flat_map, option_map, unwrap_or, slice_get, is_some, list_any, at_drop_more, Tree, Symbol, Group,
-    UnitValue, TreeModel, symbol_view, PlainReasons, assigning_place, SymbolLines, ReasonPlaces, located_first_line, located_details_at, symbol_lines_view,
-    SourcesModel, reasons_of, is_hindered_at, asked_lines, reason_places, listed_reasons, explained_by, explained_at}
+use Rattle.kmin_explain.proofs.Common.{◌≡◌, ℕ, zero, suc, ◌+◌, ◌<◌, ◌≤◌, Bool, true, false, List, [], ◌∷◌, ◌++◌, length, Option, Some, None, refl, sym, subst, ◌∙◌, ap, append_assoc, append-nil, drop, get_or, arith, flat_map, option_map, unwrap_or, slice_get, is_some, list_any, at_drop_more, Tree}
+use Rattle.kmin_explain.proofs.Common.{Symbol, Group, UnitValue, TreeModel, symbol_view, PlainReasons, assigning_place, SymbolLines, ReasonPlaces, located_first_line, located_details_at, symbol_lines_view, SourcesModel, reasons_of, is_hindered_at, asked_lines, reason_places, listed_reasons}
+use Rattle.kmin_explain.proofs.Common.{explained_by, explained_at}
 use Rattle.std.proofs.Math.ListN.{drop_of_length-le}
 use Rattle.std.proofs.lemmas.Option.{slice_get_within}
 use Rattle.kc_tree_model.specs.Contents.{contents_of, symbol_of, tree_of_groups}

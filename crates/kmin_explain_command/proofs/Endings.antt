@@ -1,7 +1,6 @@
 -- `explain` as a whole: its output with all lines of standard error, or where it ends.
-use Rattle.kmin_explain_command.proofs.Common.{◌≡◌, ℕ, List, [], ◌∷◌, ◌++◌, Option, Result, Ok, Err, IfOk, IfErr, inl, inr, refl, sym, subst, append_assoc,
-    append-nil, tree_of_settled, ErrorLine, refused_line, SpelledBytes, TakesLines, RunError, status_of, lines_append, TreeTexts, IsLinedTree, LinedTree,
-    JobOutput, StopsOverTree, task_of, AnswersOver, StopsOver}
+use Rattle.kmin_explain_command.proofs.Common.{◌≡◌, ℕ, List, [], ◌∷◌, ◌++◌, Option, Result, Ok, Err, IfOk, IfErr, inl, inr, refl, sym, subst, append_assoc, append-nil, tree_of_settled, ErrorLine, refused_line, SpelledBytes, TakesLines, RunError, status_of, lines_append, TreeTexts, IsLinedTree}
+use Rattle.kmin_explain_command.proofs.Common.{LinedTree, JobOutput, StopsOverTree, task_of, AnswersOver, StopsOver}
 use Rattle.kmin_options.specs.Jobs.{ExplainJob}
 use Rattle.kmin_inputs.specs.FileContents.{Surroundings}
 use Rattle.kmin_report.specs.Reports.{last_lines, output_line}

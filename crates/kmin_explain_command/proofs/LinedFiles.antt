@@ -1,7 +1,6 @@
 -- Configuration files with their last lines, one after another.
-use Rattle.kmin_explain_command.proofs.Common.{◌≡◌, ℕ, Bool, true, List, [], ◌∷◌, ◌++◌, Option, map, length, sym, ap, ◌∙◌, subst, append_assoc, append-nil,
-    AllZip, Bor, Tree, FileFormat, LineMeaning, notice_pair, Fragment, FileContent, KeepsLines, FileLines, SpelledBytes, TakesLines, AllowsNotices, IsLinedFile,
-    AreLined}
+use Rattle.kmin_explain_command.proofs.Common.{◌≡◌, ℕ, Bool, true, List, [], ◌∷◌, ◌++◌, Option, map, length, sym, ap, ◌∙◌, subst, append_assoc, append-nil, AllZip, Bor, Tree, FileFormat, LineMeaning, notice_pair, Fragment, FileContent, KeepsLines, FileLines, SpelledBytes, TakesLines, AllowsNotices}
+use Rattle.kmin_explain_command.proofs.Common.{IsLinedFile, AreLined}
 use Rattle.std.proofs.lemmas.List.{nil_from_length}
 use Rattle.kc_rules_model.specs.declared.values.UserValue.{UserValue}
 use Rattle.kc_dotconfig_model.specs.PrefixGrammar.{is_name_prefix}

@@ -1,8 +1,7 @@
 -- The output of `explain` over its tree, or its end, once its files were read.
-use Rattle.kmin_explain_command.proofs.Common.{◌≡◌, ℕ, List, [], ◌∷◌, ◌++◌, Option, Result, Ok, Err, IfOk, IfErr, inl, refl, sym, subst, arith, Group, Settled,
-    tree_of_settled, profile_of, empty_assignment, LineMeaning, other_choices, file_format, IsSolved, tree_in, FileContent, explain_job_view, settings_view,
-    ExplainJob, ErrorLine, refused_line, SpelledBytes, TakesLines, RunError, status_of, lines_append, LinedTree, StopsAmongFiles, JobOutput, AreNoticed,
-    lists_of, StopsOverTree, IsExplained, task_of, AnswersOver, StopsOver, AreLined, AreOfSources, StopsAfterFiles, paths_of_job, sources_of, LinedFiles}
+use Rattle.kmin_explain_command.proofs.Common.{◌≡◌, ℕ, List, [], ◌∷◌, ◌++◌, Option, Result, Ok, Err, IfOk, IfErr, inl, refl, sym, subst, arith, Group, Settled, tree_of_settled, profile_of, empty_assignment, LineMeaning, other_choices, file_format, IsSolved, tree_in, FileContent, explain_job_view}
+use Rattle.kmin_explain_command.proofs.Common.{settings_view, ExplainJob, ErrorLine, refused_line, SpelledBytes, TakesLines, RunError, status_of, lines_append, LinedTree, StopsAmongFiles, JobOutput, AreNoticed, lists_of, StopsOverTree, IsExplained, task_of, AnswersOver, StopsOver, AreLined}
+use Rattle.kmin_explain_command.proofs.Common.{AreOfSources, StopsAfterFiles, paths_of_job, sources_of, LinedFiles}
 use Rattle.kmin_options.specs.declared.job.Verb.TheVariants.{Min}
 use Rattle.kmin_report.specs.Reports.{notice_lines, choice_notice_lines}
 use Rattle.kmin_outputs.proofs.ReadFailures.{noticing_unfailed}

@@ -1,6 +1,5 @@
 -- Configuration files that aren't accepted: what ends a run there.
-use Rattle.kmin_explain_command.proofs.Common.{◌≡◌, ℕ, Bool, List, [], refl, sym, subst, arith, Tree, FileFormat, FileContent, ErrorLine, SpelledBytes,
-    TakesLines, StopsAmongFiles, StopsAtPath, load_lines}
+use Rattle.kmin_explain_command.proofs.Common.{◌≡◌, ℕ, Bool, List, [], refl, sym, subst, arith, Tree, FileFormat, FileContent, ErrorLine, SpelledBytes, TakesLines, StopsAmongFiles, StopsAtPath, load_lines}
 use Rattle.kc_dotconfig_model.specs.LoadFaults.{IsFirstFault, complete, OccursAt}
 use Rattle.kc_dotconfig_model.specs.declared.fault.LoadKind.{LoadKind}
 use Rattle.kc_dotconfig_model.specs.declared.fault.LoadKind.TheVariants.{Malformed, NotUtf8, LineTooLong, TooManyLines, Read, OutOfMemory, TooLarge}

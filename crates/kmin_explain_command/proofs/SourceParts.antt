@@ -1,8 +1,6 @@
 -- What symbols are explained by: the tree with its lines, and the files with theirs.
-use Rattle.kmin_explain_command.proofs.Common.{◌≡◌, ℕ, List, [], ◌++◌, Option, map, refl, sym, ap, ◌∙◌, subst, AllZip, TreeModel, Tree, Group, Settled,
-    tree_model_of, tree_of_settled, profile_of, empty_assignment, LineMeaning, other_choices, file_format, IsSolved, tree_in, FileContent, KeepsLines, FileLines,
-    explain_job_view, settings_view, ExplainJob, SpelledBytes, TreeTexts, IsLinedTree, LinedTree, AllowsNotices, AreNoticed, lists_of, AreLined, AreOfSources,
-    paths_of_job, sources_of, LinedFiles}
+use Rattle.kmin_explain_command.proofs.Common.{◌≡◌, ℕ, List, [], ◌++◌, Option, map, refl, sym, ap, ◌∙◌, subst, AllZip, TreeModel, Tree, Group, Settled, tree_model_of, tree_of_settled, profile_of, empty_assignment, LineMeaning, other_choices, file_format, IsSolved, tree_in, FileContent, KeepsLines}
+use Rattle.kmin_explain_command.proofs.Common.{FileLines, explain_job_view, settings_view, ExplainJob, SpelledBytes, TreeTexts, IsLinedTree, LinedTree, AllowsNotices, AreNoticed, lists_of, AreLined, AreOfSources, paths_of_job, sources_of, LinedFiles}
 use Rattle.kc_tree_model.specs.TreeFiles.{Files}
 use Rattle.kc_tree_model.specs.Contents.{tree_of_groups}
 use Rattle.kc_dotconfig_model.specs.ConfigFiles.{files_assignment}

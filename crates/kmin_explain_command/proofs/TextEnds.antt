@@ -1,8 +1,7 @@
 -- The text of a command that gives reasons, for a configuration whose files were read, or its end there.
 use Rattle.std.proofs.Common.{Vec, Some, if◌then◌else◌}
-use Rattle.kmin_explain_command.proofs.Common.{◌≡◌, ◌≤◌, ℕ, Bool, true, false, List, [], ◌∷◌, Option, None, refl, sym, ap, subst, ◌∙◌, arith, Bor, Group, Tree,
-    LineMeaning, tree_in, config_of, sources_model, explain_job_view, question_view, ExplainJob, SpelledBytes, TakesLines, LinedTree, AreNoticed, JobOutput,
-    lines_kept, explained_text, IsExplained, symbols_in, unknown_for, AreOfSources, StopsAfterFiles, paths_of_job, sources_of, StopsAtName, LinedFiles}
+use Rattle.kmin_explain_command.proofs.Common.{◌≡◌, ◌≤◌, ℕ, Bool, true, false, List, [], ◌∷◌, Option, None, refl, sym, ap, subst, ◌∙◌, arith, Bor, Group, Tree, LineMeaning, tree_in, config_of, sources_model, explain_job_view, question_view, ExplainJob, SpelledBytes, TakesLines, LinedTree}
+use Rattle.kmin_explain_command.proofs.Common.{AreNoticed, JobOutput, lines_kept, explained_text, IsExplained, symbols_in, unknown_for, AreOfSources, StopsAfterFiles, paths_of_job, sources_of, StopsAtName, LinedFiles}
 use Rattle.std.specs.declared.alloc.AllocError.{AllocError}
 use Rattle.std.specs.declared.alloc.Global.{Global}
 use Rattle.std.specs.Prelude.{option_map, IfOk, Result, Ok, Err}

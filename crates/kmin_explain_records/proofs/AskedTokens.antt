@@ -4,9 +4,8 @@ use Rattle.std.specs.Prelude.{All}
 use Rattle.std.specs.List.{AllZip}
 use Rattle.std.proofs.lemmas.List.Elements.{All-head, All-tail}
 use Rattle.json.specs.Token.{Token, begin_array, end_array}
-use Rattle.kmin_explain_records.proofs.Common.{◌≡◌, ℕ, List, [], ◌∷◌, ◌++◌, map, Option, Some, refl, ◌∙◌, ap, flat_map, json_tokens, Kind, unit_of, Case,
-    Hindrance, AssigningPlace, assigning_place, places_of, overridden, Overridden, line_view, file_numbers, SourcesModel, array_of, overridden_json,
-    deciding_json, asked_list, line_in, overridden_place, overridden_tokens}
+use Rattle.kmin_explain_records.proofs.Common.{◌≡◌, ℕ, List, [], ◌∷◌, ◌++◌, map, Option, Some, refl, ◌∙◌, ap, flat_map, json_tokens, Kind, unit_of, Case, Hindrance, AssigningPlace, assigning_place, places_of, overridden, Overridden, line_view, file_numbers, SourcesModel, array_of, overridden_json}
+use Rattle.kmin_explain_records.proofs.Common.{deciding_json, asked_list, line_in, overridden_place, overridden_tokens}
 use Rattle.kc_reasons_model.specs.OverriddenLines.{OverriddenPlace, IsOverridden}
 use Rattle.kc_reasons_model.proofs.OverriddenLaws.{listed_overridden}
 use Rattle.kc_config_reasons.specs.declared.file_lines.FileLines.{FileLines}

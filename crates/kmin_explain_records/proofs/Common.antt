@@ -1,6 +1,5 @@
 -- The names that most proofs of this crate cite, passed on from one place. Declares nothing.
-pub use Rattle.std.proofs.Common.{All, Bool, List, None, Option, Some, [], ap, arith, false, length, map, refl, subst, sym, take, true, ℕ, ◌++◌, ◌<◌, ◌||◌, ◌∙◌,
-    ◌∷◌, ◌≡◌, ◌≤◌}
+pub use Rattle.std.proofs.Common.{All, Bool, List, None, Option, Some, [], ap, arith, false, length, map, refl, subst, sym, take, true, ℕ, ◌++◌, ◌<◌, ◌||◌, ◌∙◌, ◌∷◌, ◌≡◌, ◌≤◌}
 pub use Rattle.std.proofs.lemmas.List.{length-map}
 pub use Rattle.std.proofs.lemmas.Result.{IfOk-weaker}
 pub use Rattle.std.specs.Global.{Vec}
@@ -40,9 +39,8 @@ pub use Rattle.kmin_explain.specs.Explanations.{SourcesModel, reason_places}
 pub use Rattle.kmin_explain.specs.between.Sources.{AreSourcesOf, config_of, sources_model}
 pub use Rattle.kmin_explain.specs.checker.FileLineTexts.{line_in}
 pub use Rattle.kmin_explain_records.specs.ListedMissed.{is_listed, is_overridden}
-pub use Rattle.kmin_explain_records.specs.SymbolRecords.{alternatives_json, asked_json, asked_list, asked_members, deciding_json, explained_as_json_at,
-    forcing_json, forcing_list, forcing_members, given_members, lacking_members, needs_json, overridden_json, part_json, parts_json, place_if, position_members,
-    record_members, records_in}
+pub use Rattle.kmin_explain_records.specs.SymbolRecords.{alternatives_json, asked_json, asked_list, asked_members, deciding_json, explained_as_json_at, forcing_json, forcing_list, forcing_members, given_members, lacking_members, needs_json, overridden_json, part_json, parts_json, place_if}
+pub use Rattle.kmin_explain_records.specs.SymbolRecords.{position_members, record_members, records_in}
 pub use Rattle.kmin_explain_records.specs.checker.LineTokens.{overridden_place, overridden_tokens}
 pub use Rattle.kmin_messages.proofs.WriterSteps.{and_last, and_then, wrote}
 pub use Rattle.kmin_messages.specs.between.MessageViews.{AppendsTokens}

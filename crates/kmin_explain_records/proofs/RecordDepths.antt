@@ -1,9 +1,8 @@
 -- How deep the JSON of a symbol nests.
 use Rattle.std.proofs.Common.{lit≤}
-use Rattle.kmin_explain_records.proofs.Common.{ℕ, ◌≤◌, Bool, true, false, List, [], ◌∷◌, ◌++◌, map, Option, Some, None, arith, flat_map, slice_get, Json, string,
-    Kind, Tree, Symbol, ReverseDependency, UnitValue, environment, Case, Hindrance, AssigningPlace, assigning_place, places_of, overridden, PlainReasons,
-    SymbolLines, name_of_symbol, is_without_prompt, SourcesModel, reason_places, array_of, or_null, object_of, position_members, overridden_json, deciding_json,
-    asked_list, part_json, parts_json, alternatives_json, needs_json, forcing_json, forcing_list, record_members}
+use Rattle.kmin_explain_records.proofs.Common.{ℕ, ◌≤◌, Bool, true, false, List, [], ◌∷◌, ◌++◌, map, Option, Some, None, arith, flat_map, slice_get, Json, string, Kind, Tree, Symbol, ReverseDependency, UnitValue, environment, Case, Hindrance, AssigningPlace, assigning_place, places_of, overridden}
+use Rattle.kmin_explain_records.proofs.Common.{PlainReasons, SymbolLines, name_of_symbol, is_without_prompt, SourcesModel, reason_places, array_of, or_null, object_of, position_members, overridden_json, deciding_json, asked_list, part_json, parts_json, alternatives_json, needs_json, forcing_json}
+use Rattle.kmin_explain_records.proofs.Common.{forcing_list, record_members}
 use Rattle.json.specs.Json.{max_depth}
 use Rattle.json.specs.Tree.{depth, items_depth}
 use Rattle.kc_expr.specs.Expr.{Environment}

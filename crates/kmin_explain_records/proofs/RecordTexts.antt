@@ -1,7 +1,6 @@
 -- The line of JSON for a symbol, as the code makes it.
-use Rattle.kmin_explain_records.proofs.Common.{◌≡◌, ℕ, List, [], ◌++◌, Some, subst, ◌∙◌, ap, option_map, slice_get, Json, Tree, Symbol, symbol_view, UnitValue,
-    PlainReasons, wanted_by, SymbolLines, reasons_view, symbol_lines_view, places_view, SourcesModel, reason_places, given_members, asked_members,
-    lacking_members, forcing_members, record_members, explained_as_json_at}
+use Rattle.kmin_explain_records.proofs.Common.{◌≡◌, ℕ, List, [], ◌++◌, Some, subst, ◌∙◌, ap, option_map, slice_get, Json, Tree, Symbol, symbol_view, UnitValue, PlainReasons, wanted_by, SymbolLines, reasons_view, symbol_lines_view, places_view, SourcesModel, reason_places, given_members}
+use Rattle.kmin_explain_records.proofs.Common.{asked_members, lacking_members, forcing_members, record_members, explained_as_json_at}
 use Rattle.std.specs.Prelude.{unwrap_or}
 use Rattle.kc_value.specs.declared.tri.Tri.{Tri}
 use Rattle.kc_expr.specs.between.Arena.{Exprs}

@@ -1,8 +1,7 @@
 -- The definition whose line is nearest to a place, statement by statement.
 use Rattle.std.proofs.Common.{get_or}
-use Rattle.kmin_faults.proofs.Common.{◌≡◌, inl, inr, ℕ, ◌+◌, ◌<◌, ◌≤◌, Bool, true, false, cond, ◌&&◌, ◌==◌, List, [], ◌∷◌, Option, Some, take, length, reverse,
-    refl, ap, sym, subst, ◌∙◌, arith, find, nat_le, option_and_then, cases_Bool, eq-eqb, ne_eqb, false≢true, reverse-append, later, TextPlace, begins_before,
-    defined_by, definition_at, last_line}
+use Rattle.kmin_faults.proofs.Common.{◌≡◌, inl, inr, ℕ, ◌+◌, ◌<◌, ◌≤◌, Bool, true, false, cond, ◌&&◌, ◌==◌, List, [], ◌∷◌, Option, Some, take, length, reverse, refl, ap, sym, subst, ◌∙◌, arith, find, nat_le, option_and_then, cases_Bool, eq-eqb, ne_eqb, false≢true, reverse-append, later, TextPlace}
+use Rattle.kmin_faults.proofs.Common.{begins_before, defined_by, definition_at, last_line}
 use Rattle.std.proofs.lemmas.Bool.{leb-false}
 use Rattle.std.proofs.lemmas.List.{take_all, take_more}
 use Rattle.kc_parser.specs.declared.listing.Group.{Group}

@@ -1,6 +1,5 @@
 -- The names that most proofs of this crate cite, passed on from one place. Declares nothing.
-pub use Rattle.std.proofs.Common.{Bool, Err, List, None, Ok, OnOk, Option, Result, Some, [], ap, arith, false, get_or, inl, inr, length, map, refl, rules, subst,
-    suc, sym, take, true, ℕ, ◌++◌, ◌+◌, ◌<◌, ◌∙◌, ◌∷◌, ◌≡◌, ◌≤◌, ◌⊎◌}
+pub use Rattle.std.proofs.Common.{Bool, Err, List, None, Ok, OnOk, Option, Result, Some, [], ap, arith, false, get_or, inl, inr, length, map, refl, rules, subst, suc, sym, take, true, ℕ, ◌++◌, ◌+◌, ◌<◌, ◌∙◌, ◌∷◌, ◌≡◌, ◌≤◌, ◌⊎◌}
 pub use Rattle.std.proofs.lemmas.List.{map-append, take_all}
 pub use Rattle.std.specs.Borrow.{Bor}
 pub use Rattle.std.specs.Option.{option_or}
@@ -12,8 +11,7 @@ pub use Rattle.kc_macros_model.specs.AnswerFiles.{RecordedAnswers, complete, cut
 pub use Rattle.kc_macros_model.specs.Programs.{Answer}
 pub use Rattle.kc_macros_model.specs.declared.fault.AnswersFault.{AnswersFault}
 pub use Rattle.kc_macros_model.specs.declared.fault.AnswersKind.{AnswersKind}
-pub use Rattle.kc_macros_model.specs.declared.fault.AnswersKind.TheVariants.{LineTooLong, Malformed, NotUtf8, OutOfMemory, Read, TooLarge, TooManyLines,
-    TwoAnswers}
+pub use Rattle.kc_macros_model.specs.declared.fault.AnswersKind.TheVariants.{LineTooLong, Malformed, NotUtf8, OutOfMemory, Read, TooLarge, TooManyLines, TwoAnswers}
 pub use Rattle.kc_tree_model.specs.Keywords.{keyword_in_table}
 pub use Rattle.kmin_cli.specs.Inputs.{inputs_named}
 pub use Rattle.kmin_disk.specs.Contents.{OpensAs}

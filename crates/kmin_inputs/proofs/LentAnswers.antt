@@ -1,7 +1,6 @@
 -- Answers from definitions, answer files and the environment, one after another.
-use Rattle.kmin_inputs.proofs.Common.{◌≡◌, ℕ, suc, ◌+◌, ◌<◌, Bool, true, false, List, [], ◌∷◌, ◌++◌, length, map, take, get_or, Option, Some, None, refl, sym,
-    ap, ◌∙◌, subst, arith, map-append, option_or, bytes_eq, is_some, if◌then◌else◌, keyword_in_table, Answer, RecordedAnswers, FileContent, definition_view,
-    VariableContent, defined_answer, FilesRecord, AreLent}
+use Rattle.kmin_inputs.proofs.Common.{◌≡◌, ℕ, suc, ◌+◌, ◌<◌, Bool, true, false, List, [], ◌∷◌, ◌++◌, length, map, take, get_or, Option, Some, None, refl, sym, ap, ◌∙◌, subst, arith, map-append, option_or, bytes_eq, is_some, if◌then◌else◌, keyword_in_table, Answer, RecordedAnswers, FileContent}
+use Rattle.kmin_inputs.proofs.Common.{definition_view, VariableContent, defined_answer, FilesRecord, AreLent}
 use Rattle.std.proofs.Math.Seq.{take-suc}
 use Rattle.std.specs.Prelude.{◌||◌}
 use Rattle.std.proofs.lemmas.Slice.Eq.{bytes_eq-Decides}

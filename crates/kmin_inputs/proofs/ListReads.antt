@@ -1,8 +1,7 @@
 -- Files that are read whole, by what is known of them.
 use Rattle.std.proofs.Common.{codes, option_map}
-use Rattle.kmin_inputs.proofs.Common.{◌≡◌, Bool, Result, Ok, Err, OnOk, ℕ, ◌+◌, ◌≤◌, inl, inr, true, false, List, [], ◌∷◌, ◌++◌, Option, Some, None, refl, sym,
-    ap, ◌∙◌, subst, arith, bytes_eq, FileContent, OpensAs, SpelledBytes, TakesLines, ErrorLine, lines_append, inputs_named, list_content, AreFilesRead,
-    for_memory}
+use Rattle.kmin_inputs.proofs.Common.{◌≡◌, Bool, Result, Ok, Err, OnOk, ℕ, ◌+◌, ◌≤◌, inl, inr, true, false, List, [], ◌∷◌, ◌++◌, Option, Some, None, refl, sym, ap, ◌∙◌, subst, arith, bytes_eq, FileContent, OpensAs, SpelledBytes, TakesLines, ErrorLine, lines_append, inputs_named, list_content}
+use Rattle.kmin_inputs.proofs.Common.{AreFilesRead, for_memory}
 use Rattle.std.proofs.lemmas.List.Sums.{sum_by-append}
 use Rattle.std.proofs.lemmas.Bool.{cases_Bool, false≢true}
 use Rattle.kmin_report.specs.Reports.{last_lines}

@@ -1,8 +1,7 @@
 -- The counts of a bag of lines after one line is added or taken away.
 use Rattle.std.proofs.Common.{◌≤◌}
 use Rattle.std.specs.Prelude.{unwrap_or}
-use Rattle.kmin_lines.proofs.Common.{◌≡◌, ℕ, ◌+◌, ◌-◌, ◌<◌, ◌==◌, Bool, true, false, cond, List, [], ◌∷◌, ◌++◌, Option, Some, length, refl, sym, ap, ◌∙◌, arith,
-    bytes_eq, onto_first, pieces, without_one, lines_of, without_carriage_return, times_among}
+use Rattle.kmin_lines.proofs.Common.{◌≡◌, ℕ, ◌+◌, ◌-◌, ◌<◌, ◌==◌, Bool, true, false, cond, List, [], ◌∷◌, ◌++◌, Option, Some, length, refl, sym, ap, ◌∙◌, arith, bytes_eq, onto_first, pieces, without_one, lines_of, without_carriage_return, times_among}
 use Rattle.std.proofs.lemmas.Slice.Eq.{bytes_eq-Decides}
 use Rattle.std.proofs.lemmas.List.{length-map}
 

@@ -1,6 +1,5 @@
 -- The names that most proofs of this crate cite, passed on from one place. Declares nothing.
-pub use Rattle.std.proofs.Common.{Bool, List, Option, Some, [], ap, arith, cond, drop, false, get_or, length, length-append, map, refl, rules, suc, sym, take,
-    true, ℕ, ◌&&◌, ◌++◌, ◌+◌, ◌-◌, ◌<◌, ◌==◌, ◌∙◌, ◌∷◌, ◌≡◌}
+pub use Rattle.std.proofs.Common.{Bool, List, Option, Some, [], ap, arith, cond, drop, false, get_or, length, length-append, map, refl, rules, suc, sym, take, true, ℕ, ◌&&◌, ◌++◌, ◌+◌, ◌-◌, ◌<◌, ◌==◌, ◌∙◌, ◌∷◌, ◌≡◌}
 pub use Rattle.std.proofs.lemmas.Bool.{eqb-true, false_from_ne_true}
 pub use Rattle.std.proofs.lemmas.Map.Text.{hash_map_updates_str}
 pub use Rattle.std.proofs.lemmas.Str.{is_utf8-from_IsUtf8}

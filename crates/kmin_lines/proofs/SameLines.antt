@@ -1,6 +1,5 @@
 -- Texts of which one has no line.
-use Rattle.kmin_lines.proofs.Common.{◌≡◌, ℕ, suc, Bool, true, false, cond, ◌==◌, List, [], ◌∷◌, map, length, refl, sym, ◌∙◌, arith, false_from_ne_true, eqb-true,
-    onto_first, pieces, have_same_lines, without_carriage_return}
+use Rattle.kmin_lines.proofs.Common.{◌≡◌, ℕ, suc, Bool, true, false, cond, ◌==◌, List, [], ◌∷◌, map, length, refl, sym, ◌∙◌, arith, false_from_ne_true, eqb-true, onto_first, pieces, have_same_lines, without_carriage_return}
 use Rattle.kmin_lines.specs.Lines.{are_same}
 
 -- a text that isn't empty has a line, so it hasn't the lines of an empty text

@@ -2,8 +2,7 @@
 use Rattle.std.proofs.Common.{◌≢◌, None, option_map, MatchOption, add-one, drop-cons, take-append-drop}
 use Rattle.std.specs.Borrow.{Bor}
 use Rattle.std.specs.Global.{Vec}
-use Rattle.kmin_lines.proofs.Common.{◌≡◌, ℕ, suc, ◌+◌, ◌<◌, ◌==◌, true, false, List, [], ◌∷◌, ◌++◌, Option, Some, length, map, take, drop, get_or, refl, ap, sym,
-    ◌∙◌, list_all, false_from_ne_true, eqb-true, is_utf8, are_utf8, words_in, with_lists, files_view, lists_view, words_view}
+use Rattle.kmin_lines.proofs.Common.{◌≡◌, ℕ, suc, ◌+◌, ◌<◌, ◌==◌, true, false, List, [], ◌∷◌, ◌++◌, Option, Some, length, map, take, drop, get_or, refl, ap, sym, ◌∙◌, list_all, false_from_ne_true, eqb-true, is_utf8, are_utf8, words_in, with_lists, files_view, lists_view, words_view}
 use Rattle.std.proofs.lemmas.List.{map-append, drop-map}
 use Rattle.kmin_lines.specs.WordFiles.{ends_options, file_of}
 use Rattle.kmin_lines.proofs.PathLemmas.{one_fails}

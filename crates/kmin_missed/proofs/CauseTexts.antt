@@ -1,7 +1,6 @@
 -- What keeps a symbol from its assigned value, and what selects it against its dependencies, as the code finds it.
-use Rattle.kmin_missed.proofs.Common.{◌≡◌, ℕ, List, [], ◌++◌, Some, subst, ◌∙◌, ap, append_assoc, slice_get, option_map, unwrap_or, codes, pieces, Exprs, Tree,
-    Symbol, symbol_view, UnitValue, value_of_symbol, PlainReasons, wanted_by, value_text, SymbolLines, SymbolReasons, reasons_view, symbol_lines_view,
-    SourcesModel, in_one_line, cause_at, cause_by}
+use Rattle.kmin_missed.proofs.Common.{◌≡◌, ℕ, List, [], ◌++◌, Some, subst, ◌∙◌, ap, append_assoc, slice_get, option_map, unwrap_or, codes, pieces, Exprs, Tree, Symbol, symbol_view, UnitValue, value_of_symbol, PlainReasons, wanted_by, value_text, SymbolLines, SymbolReasons, reasons_view}
+use Rattle.kmin_missed.proofs.Common.{symbol_lines_view, SourcesModel, in_one_line, cause_at, cause_by}
 use Rattle.kc_value.specs.declared.tri.Tri.{Tri}
 use Rattle.kc_tree.specs.declared.symbol.Symbol.{Symbol as CodeSymbol}
 use Rattle.kc_symbol_lines.specs.declared.located.SymbolLines.{SymbolLines as CodeLines}

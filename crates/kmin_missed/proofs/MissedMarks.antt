@@ -1,7 +1,6 @@
 -- Marks of the symbols that are missed.
-use Rattle.kmin_missed.proofs.Common.{◌≡◌, ℕ, ◌<◌, ◌+◌, ◌==◌, Bool, true, false, cond, ◌||◌, List, [], ◌∷◌, ◌++◌, length, All, refl, sym, subst, ◌∙◌, ap,
-    append-nil, arith, list_any, range_with_len, slice_get, flat_map, option_map, unwrap_or, flat_map-append, Tree, Symbol, UnitValue, missed, Option,
-    SourcesModel, missed_rows, missed_rows_at, range_more, symbol_there}
+use Rattle.kmin_missed.proofs.Common.{◌≡◌, ℕ, ◌<◌, ◌+◌, ◌==◌, Bool, true, false, cond, ◌||◌, List, [], ◌∷◌, ◌++◌, length, All, refl, sym, subst, ◌∙◌, ap, append-nil, arith, list_any, range_with_len, slice_get, flat_map, option_map, unwrap_or, flat_map-append, Tree, Symbol, UnitValue, missed, Option}
+use Rattle.kmin_missed.proofs.Common.{SourcesModel, missed_rows, missed_rows_at, range_more, symbol_there}
 use Rattle.std.specs.List.{slice_index_or}
 use Rattle.std.proofs.lemmas.List.Elements.{All-filter}
 use Rattle.std.specs.Prelude.{Some}

@@ -1,6 +1,5 @@
 -- The rows of lines that later files override, by the lines that files keep.
-use Rattle.kmin_missed.proofs.Common.{◌≡◌, ℕ, List, [], ◌∷◌, ◌++◌, map, Some, refl, sym, ◌∙◌, ap, append-nil, Bool, true, false, append_assoc, flat_map, Option,
-    Symbol, unit_of, assigning_place, Overridden, joined_three, SourcesModel, missed_row, missed_rows, line_in, overridden_row_text}
+use Rattle.kmin_missed.proofs.Common.{◌≡◌, ℕ, List, [], ◌∷◌, ◌++◌, map, Some, refl, sym, ◌∙◌, ap, append-nil, Bool, true, false, append_assoc, flat_map, Option, Symbol, unit_of, assigning_place, Overridden, joined_three, SourcesModel, missed_row, missed_rows, line_in, overridden_row_text}
 use Rattle.std.specs.Prelude.{All}
 use Rattle.std.specs.List.{AllZip}
 use Rattle.std.proofs.lemmas.List.Elements.{All-head, All-tail}

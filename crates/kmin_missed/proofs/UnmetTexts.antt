@@ -1,7 +1,6 @@
 -- What selects a symbol against its dependencies, and what is unmet, as the code finds it.
-use Rattle.kmin_missed.proofs.Common.{◌≡◌, ℕ, List, [], ◌∷◌, ◌++◌, Some, subst, ◌∙◌, ap, append_assoc, slice_get, option_map, unwrap_or, codes, pieces, Exprs,
-    Tree, Symbol, UnitValue, value_of_symbol, PlainReasons, value_text, SymbolLines, SymbolReasons, reasons_view, symbol_lines_view, place_text, SourcesModel,
-    in_one_line, first_place, unmet_row_at, unmet_row_by}
+use Rattle.kmin_missed.proofs.Common.{◌≡◌, ℕ, List, [], ◌∷◌, ◌++◌, Some, subst, ◌∙◌, ap, append_assoc, slice_get, option_map, unwrap_or, codes, pieces, Exprs, Tree, Symbol, UnitValue, value_of_symbol, PlainReasons, value_text, SymbolLines, SymbolReasons, reasons_view, symbol_lines_view, place_text}
+use Rattle.kmin_missed.proofs.Common.{SourcesModel, in_one_line, first_place, unmet_row_at, unmet_row_by}
 use Rattle.kc_reasons_model.specs.Reasons.{name_of_symbol}
 use Rattle.kc_symbol_lines.specs.declared.located.SymbolLines.{SymbolLines as CodeLines}
 use Rattle.kc_located_reasons.specs.LocatedNeeds.{LocatedPart, dependencies_lack_at}

@@ -1,6 +1,5 @@
 -- The listing of questions: its end at a write, and its last lines.
-use Rattle.kmin_run.proofs.Common.{◌≡◌, ℕ, List, [], ◌∷◌, ◌++◌, Ok, Vec, refl, sym, ap, subst, flat_map, Global, items_of, Questions, RunError, Surroundings,
-    ErrorLine, last_lines, output_line, SpelledBytes, TakesLines, AreAsked, StopsWanting, question_line, questions_text, status_of, lines_append}
+use Rattle.kmin_run.proofs.Common.{◌≡◌, ℕ, List, [], ◌∷◌, ◌++◌, Ok, Vec, refl, sym, ap, subst, flat_map, Global, items_of, Questions, RunError, Surroundings, ErrorLine, last_lines, output_line, SpelledBytes, TakesLines, AreAsked, StopsWanting, question_line, questions_text, status_of, lines_append}
 use Rattle.kmin_expansions.specs.WantedQuestions.{at_write}
 
 -- a run of `wants` that failed to write its output, and reported that, ends as `StopsWanting` defines, with all these lines

@@ -1,10 +1,8 @@
 -- Ends of runs, from what the parts of a run ensure.
 use Rattle.std.proofs.Common.{eqb-true, true≢false}
 use Rattle.std.proofs.lemmas.Bool.Decides.{eqb_tells}
-use Rattle.kmin_run.proofs.Common.{◌≡◌, ◌≢◌, ◌≤◌, ◌==◌, map, Bool, false, ◌⊎◌, ℕ, true, List, [], ◌∷◌, ◌++◌, Option, Ok, length, inl, inr, refl, subst, arith,
-    None, ap, sym, ◌∙◌, length-append, Appends, ErrorLine, last_lines, SpelledBytes, TakesLine, TakesLines, none, lines_append, lines_one, malformed_line,
-    Represent, RunError, Tree, Configuration, Failed, Memory, status_of, Settings, Questions, Task, AreReadAs, Surroundings, TreeTexts, AreTextsOfJob, AreAsked,
-    StopsWanting, questions_text, Answer, Outputs, BundleEnds, Input}
+use Rattle.kmin_run.proofs.Common.{◌≡◌, ◌≢◌, ◌≤◌, ◌==◌, map, Bool, false, ◌⊎◌, ℕ, true, List, [], ◌∷◌, ◌++◌, Option, Ok, length, inl, inr, refl, subst, arith, None, ap, sym, ◌∙◌, length-append, Appends, ErrorLine, last_lines, SpelledBytes, TakesLine, TakesLines, none, lines_append, lines_one}
+use Rattle.kmin_run.proofs.Common.{malformed_line, Represent, RunError, Tree, Configuration, Failed, Memory, status_of, Settings, Questions, Task, AreReadAs, Surroundings, TreeTexts, AreTextsOfJob, AreAsked, StopsWanting, questions_text, Answer, Outputs, BundleEnds, Input}
 use Rattle.kmin_report.specs.StandardError.{one_more}
 use Rattle.kmin_texts.specs.KnownLines.{KnownLines}
 use Rattle.kmin_texts.specs.Spellings.{AskedForm, as_asked}
@@ -27,8 +25,7 @@ use Rattle.kmin_run.specs.PartialOutputs.{AnswersInPart}
 use Rattle.kmin_outputs.specs.Statuses.{status_of_list}
 use Rattle.kmin_outputs.specs.Stops.{Stops}
 use Rattle.kmin_run.specs.Runs as runs
-use Rattle.kmin_run.specs.Runs.{AreReadForChanges, AreReadForTidying, AskForChanges, AskForTidying, Ends, ExplainEnds, JobEnds, MayChangeFiles, QuestionsEnd,
-    ReadEnd, WordsEnd, IsOfFault, IsTidying}
+use Rattle.kmin_run.specs.Runs.{AreReadForChanges, AreReadForTidying, AskForChanges, AskForTidying, Ends, ExplainEnds, JobEnds, MayChangeFiles, QuestionsEnd, ReadEnd, WordsEnd, IsOfFault, IsTidying}
 
 -- a status is 0 or 1, or it is another one
 zero_or_one : (status : ℕ) → ((status ≡ 0) ⊎ (status ≡ 1)) ⊎ ((status ≢ 0) × (status ≢ 1))

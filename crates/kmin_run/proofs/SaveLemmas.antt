@@ -1,6 +1,5 @@
 -- Ends of commands with an output file.
-use Rattle.kmin_run.proofs.Common.{◌≡◌, ℕ, List, ◌++◌, refl, sym, ◌∙◌, subst, Disk, Settings, Task, Surroundings, TreeTexts, AreTextsOfJob, Answer, ErrorLine,
-    last_lines, SpelledBytes, TakesLines, RunError, status_of, lines_append}
+use Rattle.kmin_run.proofs.Common.{◌≡◌, ℕ, List, ◌++◌, refl, sym, ◌∙◌, subst, Disk, Settings, Task, Surroundings, TreeTexts, AreTextsOfJob, Answer, ErrorLine, last_lines, SpelledBytes, TakesLines, RunError, status_of, lines_append}
 use Rattle.kmin_disk.specs.declared.fault.UpdateFault.{UpdateFault}
 use Rattle.kmin_outputs.specs.Stops.{StopsBefore}
 use Rattle.kmin_run.specs.Saves.{IsUnsaved, SaveEnds, at_file, before_answer, update_lines, update_status}

@@ -2,17 +2,15 @@
 use Rattle.std.proofs.Common.{max}
 use Rattle.std.specs.Prelude.{bytes_eq, Bool, true, false}
 use Rattle.kmin_tidy.specs.Options.{TidySettings, settings_of}
-use Rattle.kmin_run.proofs.Common.{◌≡◌, ◌≢◌, ℕ, ◌≤◌, ◌⊎◌, inl, inr, List, [], ◌∷◌, ◌++◌, Option, Some, None, refl, sym, ap, ◌∙◌, subst, arith, codes, option_map,
-    Disk, Appends, SpelledBytes, TakesLine, TakesLines, Surroundings, ErrorLine, last_lines, AreAccepted, TreeTexts, AreTextsOfJob, at_list, Outputs,
-    malformed_line, RunError, lines_append, lines_one, Settled, tree_of_settled, profile_of}
+use Rattle.kmin_run.proofs.Common.{◌≡◌, ◌≢◌, ℕ, ◌≤◌, ◌⊎◌, inl, inr, List, [], ◌∷◌, ◌++◌, Option, Some, None, refl, sym, ap, ◌∙◌, subst, arith, codes, option_map, Disk, Appends, SpelledBytes, TakesLine, TakesLines, Surroundings, ErrorLine, last_lines, AreAccepted, TreeTexts, AreTextsOfJob, at_list}
+use Rattle.kmin_run.proofs.Common.{Outputs, malformed_line, RunError, lines_append, lines_one, Settled, tree_of_settled, profile_of}
 use Rattle.kmin_tidy.specs.Runs.{DoneFile, status_of, status_with}
 use Rattle.kmin_tidy.specs.Ends.{Ends, whole, part, stopped, Stops, before_write, at_write, at_left}
 use Rattle.kmin_tidy.specs.declared.outcome.FileOutcome.{FileOutcome}
 use Rattle.kmin_tidy.specs.declared.outcome.FileOutcome.TheVariants.{Minimal, NotMinimal, Refused, Failed}
 use Rattle.kmin_tidy.specs.Promises.{IsKeptOrLeft, AreTidy}
 use Rattle.kmin_trees.specs.Stops.{StopsAtTree}
-use Rattle.kmin_run.specs.TidyRuns.{AreListBytes, AreNamed, AreMalformed, StopsAtList, malformed, PathsEnd, at_tree, over_files, GoesOver, TidyEnds, over_paths,
-    is_ended_by_nul, listed_paths, options_of, run_settings}
+use Rattle.kmin_run.specs.TidyRuns.{AreListBytes, AreNamed, AreMalformed, StopsAtList, malformed, PathsEnd, at_tree, over_files, GoesOver, TidyEnds, over_paths, is_ended_by_nul, listed_paths, options_of, run_settings}
 use Rattle.kmin_report.specs.between.RunErrors as errors
 use Rattle.kmin_lines.specs.Lists.{paths_in}
 use Rattle.kmin_tidy.specs.declared.options.TidyOptions.{TidyOptions}

@@ -1,8 +1,7 @@
 -- The details of faults, by their lines.
 use Rattle.std.proofs.Common.{Result, IfOk}
-use Rattle.kmin_texts.proofs.Common.{◌≡◌, inl, inr, ℕ, Bool, true, false, ◌||◌, ◌==◌, cond, List, [], ◌∷◌, Option, Some, None, Ok, Err, refl, sym, ap, subst,
-    flat_map, TooMany, Detail, KnownFile, is_given, is_of_macro_fault, is_of_missing, is_one_of, never, no_detail, of_line, on_expanded_line, sourced_on, unread,
-    line_at, Unreadable, FailedRead, MayBe, kept_detail}
+use Rattle.kmin_texts.proofs.Common.{◌≡◌, inl, inr, ℕ, Bool, true, false, ◌||◌, ◌==◌, cond, List, [], ◌∷◌, Option, Some, None, Ok, Err, refl, sym, ap, subst, flat_map, TooMany, Detail, KnownFile, is_given, is_of_macro_fault, is_of_missing, is_one_of, never, no_detail, of_line, on_expanded_line}
+use Rattle.kmin_texts.proofs.Common.{sourced_on, unread, line_at, Unreadable, FailedRead, MayBe, kept_detail}
 use Rattle.std.specs.Str.Lossy.{utf8_lossy}
 use Rattle.kc_tokens.specs.declared.language.Language.{Language}
 use Rattle.kc_macros_model.specs.Programs.{Fault}

@@ -1,5 +1,4 @@
-use Rattle.kc_conditions.proofs.Common.{◌≡◌, ◌-◌, length, get_or, drop, map, ap, sym, subst, ◌∙◌, arith, common_steps, All, slice_range, get_or_read,
-    LineNodesExist, RepresentsHead, line_in, GroupHeadNodesExist, read_before, HasWalked, grows_on}
+use Rattle.kc_conditions.proofs.Common.{◌≡◌, ◌-◌, length, get_or, drop, map, ap, sym, subst, ◌∙◌, arith, common_steps, All, slice_range, get_or_read, LineNodesExist, RepresentsHead, line_in, GroupHeadNodesExist, read_before, HasWalked, grows_on}
 use Rattle.std.proofs.lemmas.List.Elements.{All-take, All-drop}
 use Rattle.kc_parser.specs.declared.listing.Group.{Group as CodeGroup}
 use Rattle.kc_parser.proofs.ListingGrowth.{lines_held}

@@ -1,5 +1,4 @@
-use Rattle.kc_config.proofs.Common.{◌≡◌, ◌++◌, ◌∷◌, ◌∙◌, ℕ, [], Some, length, take, sym, ap, append_assoc, arith, take-length, map-append, take_more, UserValue,
-    changes_of}
+use Rattle.kc_config.proofs.Common.{◌≡◌, ◌++◌, ◌∷◌, ◌∙◌, ℕ, [], Some, length, take, sym, ap, append_assoc, arith, take-length, map-append, take_more, UserValue, changes_of}
 use Rattle.kc_config.proofs.changes.push_users.Goals as goal
 
 pub loop-unit-preserved : goal.loop-unit-preserved

@@ -1,6 +1,5 @@
 use Rattle.std.proofs.Common.{slice_set}
-use Rattle.kc_config.proofs.Common.{◌++◌, ◌∷◌, [], List, Option, None, Some, replicate, take, sym, ap, ◌∙◌, arith, common_steps, elements, take_more, length-set,
-    changed_users, UserValue, changes_of}
+use Rattle.kc_config.proofs.Common.{◌++◌, ◌∷◌, [], List, Option, None, Some, replicate, take, sym, ap, ◌∙◌, arith, common_steps, elements, take_more, length-set, changed_users, UserValue, changes_of}
 use Rattle.kc_config.proofs.UserValueUnits.{assigned_push}
 use Rattle.kc_config.proofs.changes.users_assigned.Goals as goal
 

@@ -1,5 +1,4 @@
-use Rattle.kc_config.proofs.Common.{◌≡◌, ◌++◌, ◌∷◌, ◌∙◌, [], Some, length, take, sym, ap, append_assoc, arith, take-length, take_more, user_of, over, changes_of,
-    overs}
+use Rattle.kc_config.proofs.Common.{◌≡◌, ◌++◌, ◌∷◌, ◌∙◌, [], Some, length, take, sym, ap, append_assoc, arith, take-length, take_more, user_of, over, changes_of, overs}
 use Rattle.kc_config.proofs.MergedValues.{overs_push}
 use Rattle.kc_config.proofs.overlaid.push_overs.Goals as goal
 

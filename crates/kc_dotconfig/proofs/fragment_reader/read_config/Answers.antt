@@ -1,5 +1,4 @@
-use Rattle.kc_dotconfig.proofs.Common.{inr, ◌≡◌, ◌<◌, ◌≤◌, length, take, refl, ◌∙◌, sym, arith, common_steps, tree_of_settled, MAX_CONFIG_BLOCK_BYTES,
-    MAX_CONFIG_LINES, file_format}
+use Rattle.kc_dotconfig.proofs.Common.{inr, ◌≡◌, ◌<◌, ◌≤◌, length, take, refl, ◌∙◌, sym, arith, common_steps, tree_of_settled, MAX_CONFIG_BLOCK_BYTES, MAX_CONFIG_LINES, file_format}
 use Rattle.kc_dotconfig.proofs.WholeReads.{has_read_none, has_read_more, read_cut_short, rises, one_read, on_any_ok, if_any_err, reports_cut_short, reports_refused, refused_in, block_fault, whole_read, whole_fits, end_fault}
 use Rattle.kc_dotconfig.proofs.fragment_reader.read_config.Goals as goal
 

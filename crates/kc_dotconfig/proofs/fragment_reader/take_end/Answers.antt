@@ -1,5 +1,4 @@
-use Rattle.kc_dotconfig.proofs.Common.{◌≡◌, List, ℕ, [], length, ◌<◌, ◌∙◌, ap, sym, subst, inl, inr, arith, elements, tree_of_settled, MAX_CONFIG_LINES,
-    file_format, EndsWell}
+use Rattle.kc_dotconfig.proofs.Common.{◌≡◌, List, ℕ, [], length, ◌<◌, ◌∙◌, ap, sym, subst, inl, inr, arith, elements, tree_of_settled, MAX_CONFIG_LINES, file_format, EndsWell}
 use Rattle.kc_dotconfig.proofs.ReadingSteps.{none_of, some_of, ends_empty, result_ends, result_ends_badly, lines_bound}
 use Rattle.kc_dotconfig.proofs.fragment_reader.take_end.Goals as goal
 

@@ -1,5 +1,4 @@
-use Rattle.kc_dotconfig.proofs.Common.{◌≡◌, ◌+◌, ◌∷◌, subst, inr, List, ℕ, [], ◌++◌, length, ◌<◌, ◌≤◌, ◌∙◌, ap, sym, refl, arith, common_steps, Err,
-    err_from_is_err_and, tree_of_settled, LineTooLong, MAX_CONFIG_LINES, MAX_LINE_BYTES, file_format, AcceptsBytes}
+use Rattle.kc_dotconfig.proofs.Common.{◌≡◌, ◌+◌, ◌∷◌, subst, inr, List, ℕ, [], ◌++◌, length, ◌<◌, ◌≤◌, ◌∙◌, ap, sym, refl, arith, common_steps, Err, err_from_is_err_and, tree_of_settled, LineTooLong, MAX_CONFIG_LINES, MAX_LINE_BYTES, file_format, AcceptsBytes}
 use Rattle.kc_dotconfig.proofs.ReadingSteps.{none_of, line_taken, many_refuses, long_stops, stops_refuses, result_refused, result_taken, push_refused, lines_bound}
 use Rattle.kc_dotconfig.proofs.fragment_reader.take_ended.Goals as goal
 

@@ -1,5 +1,4 @@
-use Rattle.kc_explanation.proofs.Common.{◌++◌, ap, map, ◌∙◌, codes, on_ok_weaker, symbol_view, position_view, located_forcing_lines, exprs_of, tree_of,
-    values_of}
+use Rattle.kc_explanation.proofs.Common.{◌++◌, ap, map, ◌∙◌, codes, on_ok_weaker, symbol_view, position_view, located_forcing_lines, exprs_of, tree_of, values_of}
 use Rattle.kc_explanation.proofs.ExplanationLemmas.{joined_two}
 use Rattle.kc_explanation.proofs.located_explanation.push_forces.Goals as goal
 

@@ -1,5 +1,4 @@
-use Rattle.kc_explanation.proofs.Common.{◌++◌, ap, sym, map, ◌∙◌, on_ok_weaker, symbol_view, valuation_tree, valuation_exprs, valuation_values, reasons_view,
-    position_view, symbol_lines_view, places_view}
+use Rattle.kc_explanation.proofs.Common.{◌++◌, ap, sym, map, ◌∙◌, on_ok_weaker, symbol_view, valuation_tree, valuation_exprs, valuation_values, reasons_view, position_view, symbol_lines_view, places_view}
 use Rattle.kc_explanation.proofs.PartLines.{placed_details, placed_details_are}
 use Rattle.kc_explanation.proofs.ExplanationLemmas.{located_details_is}
 use Rattle.kc_explanation.proofs.located_explanation.push_located_details.Goals as goal

@@ -1,5 +1,4 @@
-use Rattle.kc_explanation.proofs.Common.{◌++◌, ap, sym, ◌∙◌, on_ok_weaker, valuation_tree, valuation_exprs, valuation_values, reasons_view, symbol_lines_view,
-    places_view}
+use Rattle.kc_explanation.proofs.Common.{◌++◌, ap, sym, ◌∙◌, on_ok_weaker, valuation_tree, valuation_exprs, valuation_values, reasons_view, symbol_lines_view, places_view}
 use Rattle.kc_explanation.proofs.ExplanationLemmas.{located_explained_at_is, joined_three}
 use Rattle.kc_explanation.proofs.located_explanation.push_located_explanation.Goals as goal
 

@@ -1,5 +1,4 @@
-use Rattle.kc_explanation.proofs.Common.{◌++◌, ap, sym, map, ◌∙◌, codes, on_ok_weaker, symbol_view, valuation_tree, valuation_exprs, valuation_values,
-    environment, position_view, located_alternatives_view}
+use Rattle.kc_explanation.proofs.Common.{◌++◌, ap, sym, map, ◌∙◌, codes, on_ok_weaker, symbol_view, valuation_tree, valuation_exprs, valuation_values, environment, position_view, located_alternatives_view}
 use Rattle.kc_explanation.proofs.PartLines.{located_lines}
 use Rattle.kc_explanation.proofs.ExplanationLemmas.{located_unmet_is, joined_two}
 use Rattle.kc_explanation.proofs.located_explanation.push_located_unmet.Goals as goal

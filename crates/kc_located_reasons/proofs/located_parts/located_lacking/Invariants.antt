@@ -1,5 +1,4 @@
-use Rattle.kc_located_reasons.proofs.Common.{◌≡◌, ◌++◌, drop, valuation_tree, valuation_exprs, valuation_values, environment, all_located, located_lacking,
-    located_parts_view, IsPartThere}
+use Rattle.kc_located_reasons.proofs.Common.{◌≡◌, ◌++◌, drop, valuation_tree, valuation_exprs, valuation_values, environment, all_located, located_lacking, located_parts_view, IsPartThere}
 use Rattle.std.specs.List.{All}
 use Rattle.kc_located_reasons.proofs.located_parts.located_lacking.Given as goal
 

@@ -1,5 +1,4 @@
-use Rattle.kc_located_reasons.proofs.Common.{map, ap, sym, ◌∙◌, valuation_tree, valuation_exprs, valuation_values, environment, each_located, located_lacking,
-    LocatedPart, located_part_view, IsPartThere}
+use Rattle.kc_located_reasons.proofs.Common.{map, ap, sym, ◌∙◌, valuation_tree, valuation_exprs, valuation_values, environment, each_located, located_lacking, LocatedPart, located_part_view, IsPartThere}
 use Rattle.std.specs.Global.{Vec}
 use Rattle.std.specs.List.{All}
 use Rattle.kc_reasons.proofs.EmptyLists.{unless_empty, all_kept}

@@ -1,5 +1,4 @@
-use Rattle.kc_macro_lines.proofs.Common.{◌∙◌, ◌<◌, ◌∷◌, ◌++◌, [], length, sym, ap, arith, line_tokens, assigned, place_of, bindings_of, tokens_of, assigned_of,
-    steps_stopped, steps_out}
+use Rattle.kc_macro_lines.proofs.Common.{◌∙◌, ◌<◌, ◌∷◌, ◌++◌, [], length, sym, ap, arith, line_tokens, assigned, place_of, bindings_of, tokens_of, assigned_of, steps_stopped, steps_out}
 use Rattle.kc_macro_lines.proofs.FrontLemmas.{none_of, some_of}
 use Rattle.kc_macro_lines.proofs.LineContentLemmas.{tokens_pushed, name_stopped, name_unknown, name_empty, name_assigned}
 use Rattle.kc_macro_lines.proofs.line_content.assigned_or_gap.Goals as goal

@@ -1,5 +1,4 @@
-use Rattle.kc_macro_lines.proofs.Common.{◌∙◌, ◌+◌, true, length, take, drop, get_or, refl, sym, byte, escaped, unterminated, items, place_of, bindings_of,
-    body_of_code, steps_stopped, steps_out}
+use Rattle.kc_macro_lines.proofs.Common.{◌∙◌, ◌+◌, true, length, take, drop, get_or, refl, sym, byte, escaped, unterminated, items, place_of, bindings_of, body_of_code, steps_stopped, steps_out}
 use Rattle.kc_macro_lines.proofs.TokenLemmas.{pair_front, byte_front}
 use Rattle.kc_macro_lines.proofs.BodyLemmas.{item_fails, value_stopped, value_written, item_written}
 use Rattle.kc_macro_lines.proofs.quoted_tokens.next_item.Goals as goal

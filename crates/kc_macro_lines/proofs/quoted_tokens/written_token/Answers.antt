@@ -1,5 +1,4 @@
-use Rattle.kc_macro_lines.proofs.Common.{◌∙◌, sym, ap, written_token, place_of, bindings_of, token_view, token_of, body_of_code, quoted_written, runs_out,
-    passes_on, runs_same, fails_so, returns_so}
+use Rattle.kc_macro_lines.proofs.Common.{◌∙◌, sym, ap, written_token, place_of, bindings_of, token_view, token_of, body_of_code, quoted_written, runs_out, passes_on, runs_same, fails_so, returns_so}
 use Rattle.kc_macros_model.specs.Programs.{returns as returns_value}
 use Rattle.kc_macro_lines.proofs.BodyLemmas.{quoted_stopped, quoted_returned}
 use Rattle.kc_macro_lines.proofs.quoted_tokens.written_token.Goals as goal

@@ -1,5 +1,4 @@
-use Rattle.kc_macro_lines.proofs.Common.{◌≡◌, ◌∙◌, ◌||◌, ◌-◌, false, [], length, take, drop, sym, ap, rules, list_any, items, is_reference, is_plain_dollar,
-    no_element, first_item_of}
+use Rattle.kc_macro_lines.proofs.Common.{◌≡◌, ◌∙◌, ◌||◌, ◌-◌, false, [], length, take, drop, sym, ap, rules, list_any, items, is_reference, is_plain_dollar, no_element, first_item_of}
 use Rattle.kc_macro_lines.proofs.TokenLemmas.{item_here, item_later, item_either}
 use Rattle.kc_macro_lines.proofs.token_values.run_content.Goals as goal
 use Rattle.kc_macro_lines.proofs.token_values.run_content.Goals.{then-has_reference, else-has_reference}

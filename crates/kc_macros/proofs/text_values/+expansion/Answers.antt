@@ -1,6 +1,5 @@
-use Rattle.kc_macros.proofs.Common.{◌∙◌, ◌-◌, false, [], ◌∷◌, Some, length, take, drop, sym, ap, arith, rules, at_drop_all, returned, variable_of, pieces_left,
-    reference, items, call_value, named_value, piece_values, ends, end_of, end_of_stop, texts_of_slices, values_left, paid, frame_items, frame_place,
-    frame_bindings, frame_names, frame_expander, frame_item, frame_value}
+use Rattle.kc_macros.proofs.Common.{◌∙◌, ◌-◌, false, [], ◌∷◌, Some, length, take, drop, sym, ap, arith, rules, at_drop_all, returned, variable_of, pieces_left, reference, items, call_value, named_value, piece_values, ends, end_of, end_of_stop, texts_of_slices, values_left, paid, frame_items}
+use Rattle.kc_macros.proofs.Common.{frame_place, frame_bindings, frame_names, frame_expander, frame_item, frame_value}
 use Rattle.kc_macros.specs.declared.variable.Variable.TheVariants.{Recursive}
 use Rattle.kc_macros.specs.checker.PartialValues.{items_from}
 use Rattle.kc_macros.proofs.RunLemmas.{runs_out, passes_on, then_runs, stops_early}

@@ -1,5 +1,4 @@
-use Rattle.kc_macros.proofs.Common.{◌≤◌, ◌+◌, ◌*◌, false, length, drop, MAX_TEXT_BYTES, items, piece_values, texts_of_slices, values_left, pieces_left, Leads,
-    frame_place, frame_item, frame_value, frame_items}
+use Rattle.kc_macros.proofs.Common.{◌≤◌, ◌+◌, ◌*◌, false, length, drop, MAX_TEXT_BYTES, items, piece_values, texts_of_slices, values_left, pieces_left, Leads, frame_place, frame_item, frame_value, frame_items}
 use Rattle.kc_macros.proofs.text_values.+expansion.Given as goal
 
 abbrev pub decreases-expanded : goal.decreases-expanded

@@ -1,5 +1,4 @@
-use Rattle.kc_minimal.proofs.Common.{◌≡◌, ◌<◌, ◌≤◌, ◌+◌, ◌∙◌, false, length, drop, replicate, refl, ap, subst, arith, IfOk-from_err, tree_of_settled,
-    tree_model_of, file_format, Draft, IsDraft}
+use Rattle.kc_minimal.proofs.Common.{◌≡◌, ◌<◌, ◌≤◌, ◌+◌, ◌∙◌, false, length, drop, replicate, refl, ap, subst, arith, IfOk-from_err, tree_of_settled, tree_model_of, file_format, Draft, IsDraft}
 use Rattle.std.proofs.Math.ListN.{drop_of_length-le}
 use Rattle.std.proofs.lemmas.List.{length-replicate}
 use Rattle.kc_tree.specs.between.Views.{entry_view}

@@ -1,5 +1,4 @@
-use Rattle.kc_statements.proofs.Common.{inr, ap, sym, ◌∙◌, length, drop, arith, common_steps, elements, lexemes_of, node_expr, condition_line, last_condition,
-    attribute}
+use Rattle.kc_statements.proofs.Common.{inr, ap, sym, ◌∙◌, length, drop, arith, common_steps, elements, lexemes_of, node_expr, condition_line, last_condition, attribute}
 use Rattle.kc_statements.proofs.FormLemmas.{along, given_on, none_there, there, stepped}
 use Rattle.kc_statements.proofs.ArenaGrowth.{grows_none}
 use Rattle.kc_statements.proofs.LineLemmas.{worded_is, worded_other}

@@ -1,5 +1,4 @@
-use Rattle.kc_symbol_lines.proofs.Common.{◌≡◌, ◌++◌, List, map, drop, flat_map, Exprs, is_linux_6_12, Group, HasLines, HasBlocks, prompts_at, dependency_at,
-    defaults_at, ranges_at, each_items}
+use Rattle.kc_symbol_lines.proofs.Common.{◌≡◌, ◌++◌, List, map, drop, flat_map, Exprs, is_linux_6_12, Group, HasLines, HasBlocks, prompts_at, dependency_at, defaults_at, ranges_at, each_items}
 use Rattle.kc_symbol_lines.proofs.symbol.definition_lines.Given as goal
 
 abbrev pub invariant-loop-number : goal.invariant-loop-number

@@ -1,5 +1,5 @@
-use Rattle.kc_tree.proofs.Common.{◌≡◌, ◌≢◌, ◌⊎◌, inl, inr, ℕ, ◌+◌, ◌<◌, ◌≤◌, Bool, true, false, List, length, get_or, Option, Some, None, refl, ap, sym, subst,
-    ◌∙◌, arith, slice_get, set, cases_lt, get_or-set_at, common_steps, elements, get_or-set_other, length-set, slice_get_read, IsTable, SymbolRow}
+use Rattle.kc_tree.proofs.Common.{◌≡◌, ◌≢◌, ◌⊎◌, inl, inr, ℕ, ◌+◌, ◌<◌, ◌≤◌, Bool, true, false, List, length, get_or, Option, Some, None, refl, ap, sym, subst, ◌∙◌, arith, slice_get, set, cases_lt, get_or-set_at, common_steps, elements, get_or-set_other, length-set, slice_get_read, IsTable}
+use Rattle.kc_tree.proofs.Common.{SymbolRow}
 use Rattle.std.specs.Prelude.{◌==◌}
 use Rattle.std.proofs.lemmas.Bool.{eq-eqb, eqb-true}
 use Rattle.kc_tree.proofs.names.symbols_of_names.Goals as goal

@@ -1,5 +1,4 @@
-use Rattle.kc_tree.proofs.Common.{◌≡◌, ◌≢◌, ◌⊎◌, inl, inr, ℕ, ◌+◌, ◌<◌, ◌≤◌, List, length, get_or, Some, ap, sym, subst, ◌∙◌, arith, slice_get, set, cases_lt,
-    get_or-set_at, common_steps, elements, get_or-set_other, length-set, slice_get-get_or, AreNumbered}
+use Rattle.kc_tree.proofs.Common.{◌≡◌, ◌≢◌, ◌⊎◌, inl, inr, ℕ, ◌+◌, ◌<◌, ◌≤◌, List, length, get_or, Some, ap, sym, subst, ◌∙◌, arith, slice_get, set, cases_lt, get_or-set_at, common_steps, elements, get_or-set_other, length-set, slice_get-get_or, AreNumbered}
 use Rattle.kc_tree_model.specs.declared.ids.Unit.{Unit as TreeUnit}
 use Rattle.kc_tree_model.specs.declared.ids.Unit.TheVariants.{Symbol as SymbolUnit, Choice as ChoiceUnit}
 use Rattle.kc_tree.proofs.unit_numbers.number_units.Goals as goal

@@ -1,5 +1,4 @@
-use Rattle.kmin_explain.proofs.Common.{List, ◌∙◌, ap, flat_map, Vec, valuation_tree, valuation_exprs, valuation_values, environment, LowPart, parts_view,
-    each_once_after, blamed_of}
+use Rattle.kmin_explain.proofs.Common.{List, ◌∙◌, ap, flat_map, Vec, valuation_tree, valuation_exprs, valuation_values, environment, LowPart, parts_view, each_once_after, blamed_of}
 use Rattle.kc_reasons_model.specs.Conjuncts.{Part}
 use Rattle.kmin_explain.proofs.DeepLemmas.{one_more_viewed}
 use Rattle.kmin_explain.proofs.blame.add_all_blamed.Goals as goal

@@ -1,5 +1,4 @@
-use Rattle.kmin_explain.proofs.Common.{◌≡◌, length, drop, valuation_tree, valuation_exprs, valuation_values, environment, alternatives_view, each_once_after,
-    blamed_in, AreMarked}
+use Rattle.kmin_explain.proofs.Common.{◌≡◌, length, drop, valuation_tree, valuation_exprs, valuation_values, environment, alternatives_view, each_once_after, blamed_in, AreMarked}
 use Rattle.kmin_explain.proofs.blame.add_all_blamed.Given as goal
 
 abbrev pub invariant-loop-parts : goal.invariant-loop-parts

@@ -1,5 +1,4 @@
-use Rattle.kmin_explain.proofs.Common.{◌<◌, length, List, ℕ, All, sym, subst, ◌∙◌, ap, on_ok_weaker, node_expr, valuation_tree, valuation_exprs,
-    valuation_values, environment, blamed, each_once_after, symbol_named}
+use Rattle.kmin_explain.proofs.Common.{◌<◌, length, List, ℕ, All, sym, subst, ◌∙◌, ap, on_ok_weaker, node_expr, valuation_tree, valuation_exprs, valuation_values, environment, blamed, each_once_after, symbol_named}
 use Rattle.kmin_explain.proofs.BlamedLemmas.{found_turned, all_there}
 use Rattle.kmin_explain.proofs.blame.add_blamed.Goals as goal
 use Rattle.std.specs.Prelude.{false, filter_map}

@@ -1,5 +1,4 @@
-use Rattle.kmin_explain.proofs.Common.{◌≡◌, length, drop, flat_map, valuation_tree, valuation_exprs, valuation_values, environment, parts_view, each_once_after,
-    blamed_of, AreMarked}
+use Rattle.kmin_explain.proofs.Common.{◌≡◌, length, drop, flat_map, valuation_tree, valuation_exprs, valuation_values, environment, parts_view, each_once_after, blamed_of, AreMarked}
 use Rattle.kmin_explain.proofs.blame.add_parts.Given as goal
 
 abbrev pub invariant-loop-part : goal.invariant-loop-part

@@ -1,5 +1,4 @@
-use Rattle.kmin_explain.proofs.Common.{List, length, sym, subst, ◌∙◌, ap, Vec, on_ok_weaker, Exprs, Tree, environment, valuation_tree, valuation_exprs,
-    valuation_values, LowPart, alternatives_view, reasons_view, each_once_after, blamed_in, sources_model}
+use Rattle.kmin_explain.proofs.Common.{List, length, sym, subst, ◌∙◌, ap, Vec, on_ok_weaker, Exprs, Tree, environment, valuation_tree, valuation_exprs, valuation_values, LowPart, alternatives_view, reasons_view, each_once_after, blamed_in, sources_model}
 use Rattle.kc_reasons.specs.between.Parts.{AreThere}
 use Rattle.kmin_explain.proofs.SymbolTexts.{symbol_there}
 use Rattle.kmin_explain.proofs.DeepLemmas.{next_added}

@@ -1,5 +1,4 @@
-use Rattle.kmin_explain.proofs.Common.{◌≡◌, ℕ, ◌<◌, [], length, get_or, All, sym, subst, ◌∙◌, ap, arith, TreeModel, tree_model_of, tree_in, each_once_after,
-    next_of, config_of, sources_model}
+use Rattle.kmin_explain.proofs.Common.{◌≡◌, ℕ, ◌<◌, [], length, get_or, All, sym, subst, ◌∙◌, ap, arith, TreeModel, tree_model_of, tree_in, each_once_after, next_of, config_of, sources_model}
 use Rattle.std.proofs.lemmas.List.{get_or_read}
 use Rattle.kmin_explain.proofs.OnceLemmas.{longer, deep_begin, deep_more, deep_end}
 use Rattle.kmin_explain.proofs.MarkLemmas.{few_found, all_below, one_below}

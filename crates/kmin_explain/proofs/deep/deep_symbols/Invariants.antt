@@ -1,6 +1,5 @@
 use Rattle.std.proofs.Common.{◌-◌}
-use Rattle.kmin_explain.proofs.Common.{◌≡◌, ◌≤◌, ◌++◌, List, length, take, flat_map, Group, LineMeaning, tree_in, each_once, next_of, config_of, sources_model,
-    AreMarked}
+use Rattle.kmin_explain.proofs.Common.{◌≡◌, ◌≤◌, ◌++◌, List, length, take, flat_map, Group, LineMeaning, tree_in, each_once, next_of, config_of, sources_model, AreMarked}
 use Rattle.kmin_explain.proofs.deep.deep_symbols.Given as goal
 
 abbrev pub invariant-loop-i : goal.invariant-loop-i

@@ -1,5 +1,4 @@
-use Rattle.kmin_explain.proofs.Common.{◌≡◌, ℕ, ◌<◌, List, length, All, sym, subst, ◌∙◌, ap, arith, range_with_len, IfOk-weaker, TreeModel, tree_model_of,
-    tree_in, explained_in, config_of, sources_model}
+use Rattle.kmin_explain.proofs.Common.{◌≡◌, ℕ, ◌<◌, List, length, All, sym, subst, ◌∙◌, ap, arith, range_with_len, IfOk-weaker, TreeModel, tree_model_of, tree_in, explained_in, config_of, sources_model}
 use Rattle.kmin_explain.specs.Explanations.{all_symbols}
 use Rattle.kmin_explain.proofs.EachOnce.{range_below}
 use Rattle.kmin_explain.proofs.explanations.explanation_of_all.Goals as goal

@@ -1,5 +1,4 @@
-use Rattle.kmin_explain.proofs.Common.{true, not, sym, ◌∙◌, ap, is_some, TreeModel, unit_of, tree_model_of, assigning_place, PlainReasons, place_view,
-    sources_model}
+use Rattle.kmin_explain.proofs.Common.{true, not, sym, ◌∙◌, ap, is_some, TreeModel, unit_of, tree_model_of, assigning_place, PlainReasons, place_view, sources_model}
 use Rattle.kmin_explain.proofs.SymbolTexts.{symbol_there, without_line, hindered_by, some_mapped}
 use Rattle.kmin_explain.proofs.explanations.is_hindered.Goals as goal
 

@@ -1,5 +1,4 @@
-use Rattle.kmin_explain.proofs.Common.{◌∙◌, ap, on_ok_weaker, unit_of, symbol_view, tree_model_of, valuation_tree, valuation_exprs, valuation_values, wanted_by,
-    sources_model}
+use Rattle.kmin_explain.proofs.Common.{◌∙◌, ap, on_ok_weaker, unit_of, symbol_view, tree_model_of, valuation_tree, valuation_exprs, valuation_values, wanted_by, sources_model}
 use Rattle.kc_solver.specs.Solutions.{user_of}
 use Rattle.kmin_explain.proofs.ReasonTexts.{reasons_text_is, same_at}
 use Rattle.kmin_explain.proofs.explanations.push_by_reasons.Goals as goal

@@ -1,5 +1,4 @@
-use Rattle.kmin_explain.proofs.Common.{◌++◌, sym, ◌∙◌, ap, on_ok_weaker, tree_model_of, symbol_lines_view, explained_by, listed_reasons, reasons_of,
-    sources_model}
+use Rattle.kmin_explain.proofs.Common.{◌++◌, sym, ◌∙◌, ap, on_ok_weaker, tree_model_of, symbol_lines_view, explained_by, listed_reasons, reasons_of, sources_model}
 use Rattle.kmin_explain.proofs.SymbolTexts.{explained_is, symbol_there}
 use Rattle.kmin_explain.proofs.explanations.push_explained.Goals as goal
 

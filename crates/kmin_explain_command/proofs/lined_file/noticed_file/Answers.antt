@@ -1,5 +1,4 @@
-use Rattle.kmin_explain_command.proofs.Common.{◌≡◌, [], ◌∷◌, refl, sym, subst, arith, notice_pair, Fragment, file_format, tree_of_settled, memory_err, no_value,
-    with_error, stopped_path, stopped_for_memory, IsLinedFile}
+use Rattle.kmin_explain_command.proofs.Common.{◌≡◌, [], ◌∷◌, refl, sym, subst, arith, notice_pair, Fragment, file_format, tree_of_settled, memory_err, no_value, with_error, stopped_path, stopped_for_memory, IsLinedFile}
 use Rattle.kc_dotconfig.specs.Fragments.{FitsTree}
 use Rattle.kmin_outputs.proofs.Sequences.{loaded_one, stopped_noticed}
 use Rattle.kmin_explain_command.proofs.LinedFiles.{loaded_of, lined_whole}

@@ -1,6 +1,5 @@
 use Rattle.std.proofs.Common.{suc, get_or, drop}
-use Rattle.kmin_explain_command.proofs.Common.{◌≡◌, ◌∷◌, [], ℕ, List, refl, ◌∙◌, map, take, arith, rules, Bor, tree_of_settled, rises_later, memory_err,
-    no_value, with_error}
+use Rattle.kmin_explain_command.proofs.Common.{◌≡◌, ◌∷◌, [], ℕ, List, refl, ◌∙◌, map, take, arith, rules, Bor, tree_of_settled, rises_later, memory_err, no_value, with_error}
 use Rattle.std.proofs.lemmas.List.{take_all}
 use Rattle.kmin_outputs.proofs.Sequences.{stopped_more, stopped_later}
 use Rattle.kmin_explain_command.proofs.LinedFiles.{lined_none, lined_append}

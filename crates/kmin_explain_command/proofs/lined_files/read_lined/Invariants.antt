@@ -1,5 +1,4 @@
-use Rattle.kmin_explain_command.proofs.Common.{◌≡◌, ◌≤◌, ℕ, List, [], map, take, Bor, tree_of_settled, IsSolved, file_format, empty_assignment, lists_of,
-    AreLined}
+use Rattle.kmin_explain_command.proofs.Common.{◌≡◌, ◌≤◌, ℕ, List, [], map, take, Bor, tree_of_settled, IsSolved, file_format, empty_assignment, lists_of, AreLined}
 use Rattle.kmin_explain_command.proofs.lined_files.read_lined.Given as goal
 
 abbrev pub invariant-loop-path : goal.invariant-loop-path

@@ -1,5 +1,4 @@
-use Rattle.kmin_explain_command.proofs.Common.{◌≡◌, None, ◌∙◌, ap, sym, subst, TreeModel, tree_model_of, tree_in, Tree, AreNoticed, no_value, with_error,
-    explain_job_view, memory_err, status_of, unknown_for, paths_of_job, StopsAtName}
+use Rattle.kmin_explain_command.proofs.Common.{◌≡◌, None, ◌∙◌, ap, sym, subst, TreeModel, tree_model_of, tree_in, Tree, AreNoticed, no_value, with_error, explain_job_view, memory_err, status_of, unknown_for, paths_of_job, StopsAtName}
 use Rattle.kmin_explain_command.specs.between.Texts.{at_choices, for_memory}
 use Rattle.kmin_explain_command.proofs.TextEnds.{noticed_alone, name_stops_in, explained_by}
 use Rattle.kmin_explain_command.proofs.texts.explained_files.Goals as goal

@@ -1,5 +1,4 @@
-use Rattle.kmin_explain_records.proofs.Common.{ℕ, List, [], ◌∷◌, ◌++◌, ap, codes, json_tokens, tree_in, asked_value, wrote, and_then, and_last, config_of,
-    text_json, object_of, place_members, last_write, as_last}
+use Rattle.kmin_explain_records.proofs.Common.{ℕ, List, [], ◌∷◌, ◌++◌, ap, codes, json_tokens, tree_in, asked_value, wrote, and_then, and_last, config_of, text_json, object_of, place_members, last_write, as_last}
 use Rattle.kmin_explain_records.proofs.asked_members.write_asked.Goals as goal
 
 pub returns : goal.returns

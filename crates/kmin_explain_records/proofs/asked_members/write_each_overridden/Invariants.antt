@@ -1,5 +1,4 @@
-use Rattle.kmin_explain_records.proofs.Common.{List, take, flat_map, Group, LineMeaning, Overridden, AppendsTokens, sources_model, line_in, overridden_place,
-    overridden_tokens}
+use Rattle.kmin_explain_records.proofs.Common.{List, take, flat_map, Group, LineMeaning, Overridden, AppendsTokens, sources_model, line_in, overridden_place, overridden_tokens}
 use Rattle.kmin_explain_records.proofs.asked_members.write_each_overridden.Given as goal
 
 abbrev pub invariant-loop-one : goal.invariant-loop-one

@@ -1,5 +1,4 @@
-use Rattle.kmin_explain_records.proofs.Common.{[], Some, None, sym, ◌∙◌, ap, sources_model, line_in, as_tokens, as_last, nothing_more, overridden_place,
-    overridden_tokens}
+use Rattle.kmin_explain_records.proofs.Common.{[], Some, None, sym, ◌∙◌, ap, sources_model, line_in, as_tokens, as_last, nothing_more, overridden_place, overridden_tokens}
 use Rattle.std.specs.Option.{option_copied}
 use Rattle.kmin_explain_records.proofs.asked_members.write_overridden.Goals as goal
 

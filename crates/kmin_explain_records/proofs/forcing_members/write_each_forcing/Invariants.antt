@@ -1,5 +1,4 @@
-use Rattle.kmin_explain_records.proofs.Common.{take, map, flat_map, slice_get, json_tokens, reverse_dependency_view, valuation_tree, valuation_exprs,
-    valuation_values, position_view, AppendsTokens, forcing_json}
+use Rattle.kmin_explain_records.proofs.Common.{take, map, flat_map, slice_get, json_tokens, reverse_dependency_view, valuation_tree, valuation_exprs, valuation_values, position_view, AppendsTokens, forcing_json}
 use Rattle.std.specs.Prelude.{ℕ}
 use Rattle.kmin_explain_records.proofs.forcing_members.write_each_forcing.Given as goal
 

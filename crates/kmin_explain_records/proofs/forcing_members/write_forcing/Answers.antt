@@ -1,5 +1,4 @@
-use Rattle.kmin_explain_records.proofs.Common.{[], ◌∷◌, codes, option_map, string, valuation_tree, valuation_values, value_of_symbol, name_of_symbol, value_text,
-    position_view, wrote, and_then, and_last, text_json, place_if, last_write, as_last}
+use Rattle.kmin_explain_records.proofs.Common.{[], ◌∷◌, codes, option_map, string, valuation_tree, valuation_values, value_of_symbol, name_of_symbol, value_text, position_view, wrote, and_then, and_last, text_json, place_if, last_write, as_last}
 use Rattle.kmin_records.proofs.JsonLists.{object_in_parts}
 use Rattle.kmin_explain_records.proofs.forcing_members.write_forcing.Goals as goal
 

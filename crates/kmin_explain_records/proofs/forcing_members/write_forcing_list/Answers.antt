@@ -1,5 +1,4 @@
-use Rattle.kmin_explain_records.proofs.Common.{map, slice_get, reverse_dependency_view, valuation_tree, valuation_exprs, valuation_values, position_view, wrote,
-    and_then, and_last, forcing_json, last_write, as_last}
+use Rattle.kmin_explain_records.proofs.Common.{map, slice_get, reverse_dependency_view, valuation_tree, valuation_exprs, valuation_values, position_view, wrote, and_then, and_last, forcing_json, last_write, as_last}
 use Rattle.std.specs.Prelude.{ℕ}
 use Rattle.kmin_records.proofs.JsonLists.{each_array}
 use Rattle.kmin_explain_records.proofs.forcing_members.write_forcing_list.Goals as goal

@@ -1,5 +1,4 @@
-use Rattle.kmin_explain_records.proofs.Common.{◌≡◌, ◌≤◌, [], Option, None, map, sym, subst, ap, flat_map, slice_get, length-map, json_tokens, ReverseDependency,
-    reverse_dependency_view, valuation_tree, valuation_exprs, valuation_values, position_view, as_tokens, nothing_more, forcing_json}
+use Rattle.kmin_explain_records.proofs.Common.{◌≡◌, ◌≤◌, [], Option, None, map, sym, subst, ap, flat_map, slice_get, length-map, json_tokens, ReverseDependency, reverse_dependency_view, valuation_tree, valuation_exprs, valuation_values, position_view, as_tokens, nothing_more, forcing_json}
 use Rattle.std.proofs.lemmas.Option.{slice_get_past}
 use Rattle.kmin_explain_records.proofs.forcing_members.write_numbered.Goals as goal
 

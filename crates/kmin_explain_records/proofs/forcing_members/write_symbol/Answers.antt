@@ -1,5 +1,4 @@
-use Rattle.kmin_explain_records.proofs.Common.{ℕ, List, [], ◌∷◌, ◌++◌, ap, ◌∙◌, codes, string, valuation_tree, valuation_values, value_of_symbol, name_of_symbol,
-    value_text, and_last, text_json, list_tokens, as_last}
+use Rattle.kmin_explain_records.proofs.Common.{ℕ, List, [], ◌∷◌, ◌++◌, ap, ◌∙◌, codes, string, valuation_tree, valuation_values, value_of_symbol, name_of_symbol, value_text, and_last, text_json, list_tokens, as_last}
 use Rattle.kmin_explain_records.proofs.forcing_members.write_symbol.Goals as goal
 
 pub returns : goal.returns

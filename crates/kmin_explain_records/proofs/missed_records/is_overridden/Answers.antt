@@ -1,6 +1,5 @@
 use Rattle.std.proofs.Common.{nat_lt}
-use Rattle.kmin_explain_records.proofs.Common.{length, ◌∙◌, ap, length-map, TreeModel, unit_of, tree_model_of, places_of, overridden, file_numbers,
-    sources_model}
+use Rattle.kmin_explain_records.proofs.Common.{length, ◌∙◌, ap, length-map, TreeModel, unit_of, tree_model_of, places_of, overridden, file_numbers, sources_model}
 use Rattle.kmin_explain_records.proofs.missed_records.is_overridden.Goals as goal
 
 pub returns : goal.returns

@@ -1,7 +1,6 @@
 use Rattle.std.proofs.Common.{◌==◌}
 use Rattle.std.specs.List.{list_any}
-use Rattle.kmin_explain_records.proofs.Common.{◌≡◌, ℕ, ◌<◌, ◌||◌, List, All, length, sym, subst, ◌∙◌, ap, arith, filter, range_with_len, TreeModel,
-    tree_model_of, tree_in, config_of, sources_model, is_listed, is_overridden}
+use Rattle.kmin_explain_records.proofs.Common.{◌≡◌, ℕ, ◌<◌, ◌||◌, List, All, length, sym, subst, ◌∙◌, ap, arith, filter, range_with_len, TreeModel, tree_model_of, tree_in, config_of, sources_model, is_listed, is_overridden}
 use Rattle.kc_dotconfig_model.specs.MissedAssignments.{missed}
 use Rattle.kmin_missed.proofs.MissedMarks.{missed_below}
 use Rattle.kmin_explain_records.proofs.ListedSymbols.{one_more_listed}

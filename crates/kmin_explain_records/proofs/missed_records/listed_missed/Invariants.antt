@@ -1,5 +1,4 @@
-use Rattle.kmin_explain_records.proofs.Common.{◌≡◌, ◌<◌, List, All, length, filter, range_with_len, Group, LineMeaning, tree_in, AreSourcesOf, config_of,
-    sources_model, is_listed}
+use Rattle.kmin_explain_records.proofs.Common.{◌≡◌, ◌<◌, List, All, length, filter, range_with_len, Group, LineMeaning, tree_in, AreSourcesOf, config_of, sources_model, is_listed}
 use Rattle.kmin_explain_records.proofs.missed_records.listed_missed.Given as goal
 
 abbrev pub invariant-loop-s : goal.invariant-loop-s

@@ -1,5 +1,4 @@
-use Rattle.kmin_explain_records.proofs.Common.{ℕ, List, [], ◌∷◌, ◌++◌, ap, ◌∙◌, codes, node_expr, valuation_tree, valuation_exprs, valuation_values, environment,
-    spelled_with_values, wrote, and_last, text_json, list_tokens, as_last}
+use Rattle.kmin_explain_records.proofs.Common.{ℕ, List, [], ◌∷◌, ◌++◌, ap, ◌∙◌, codes, node_expr, valuation_tree, valuation_exprs, valuation_values, environment, spelled_with_values, wrote, and_last, text_json, list_tokens, as_last}
 use Rattle.json.specs.Token.{begin_object}
 use Rattle.kmin_explain_records.proofs.needed_members.begin_part.Goals as goal
 

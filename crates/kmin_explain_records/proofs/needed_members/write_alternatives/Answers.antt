@@ -1,5 +1,4 @@
-use Rattle.kmin_explain_records.proofs.Common.{Vec, valuation_tree, valuation_exprs, valuation_values, environment, LocatedPart, located_parts_view, wrote,
-    and_then, and_last, parts_json, last_write, as_last, viewed_array}
+use Rattle.kmin_explain_records.proofs.Common.{Vec, valuation_tree, valuation_exprs, valuation_values, environment, LocatedPart, located_parts_view, wrote, and_then, and_last, parts_json, last_write, as_last, viewed_array}
 use Rattle.kmin_explain_records.proofs.needed_members.write_alternatives.Goals as goal
 
 pub returns : goal.returns

@@ -1,5 +1,4 @@
-use Rattle.kmin_explain_records.proofs.Common.{List, ap, ◌∙◌, Vec, json_tokens, valuation_tree, valuation_exprs, valuation_values, environment, LocatedPart,
-    located_parts_view, parts_json, as_tokens, one_more_written, all_written}
+use Rattle.kmin_explain_records.proofs.Common.{List, ap, ◌∙◌, Vec, json_tokens, valuation_tree, valuation_exprs, valuation_values, environment, LocatedPart, located_parts_view, parts_json, as_tokens, one_more_written, all_written}
 use Rattle.kmin_explain_records.proofs.needed_members.write_each_alternative.Goals as goal
 
 pub loop-list-preserved : goal.loop-list-preserved

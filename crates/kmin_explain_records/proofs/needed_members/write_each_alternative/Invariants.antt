@@ -1,5 +1,4 @@
-use Rattle.kmin_explain_records.proofs.Common.{take, flat_map, Vec, json_tokens, valuation_tree, valuation_exprs, valuation_values, environment, LocatedPart,
-    located_parts_view, AppendsTokens, parts_json}
+use Rattle.kmin_explain_records.proofs.Common.{take, flat_map, Vec, json_tokens, valuation_tree, valuation_exprs, valuation_values, environment, LocatedPart, located_parts_view, AppendsTokens, parts_json}
 use Rattle.kmin_explain_records.proofs.needed_members.write_each_alternative.Given as goal
 
 abbrev pub invariant-loop-list : goal.invariant-loop-list

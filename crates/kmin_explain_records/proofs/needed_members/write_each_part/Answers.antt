@@ -1,5 +1,4 @@
-use Rattle.kmin_explain_records.proofs.Common.{ap, json_tokens, valuation_tree, valuation_exprs, valuation_values, environment, LocatedPart, located_part_view,
-    part_json, as_tokens, one_more_written, all_written}
+use Rattle.kmin_explain_records.proofs.Common.{ap, json_tokens, valuation_tree, valuation_exprs, valuation_values, environment, LocatedPart, located_part_view, part_json, as_tokens, one_more_written, all_written}
 use Rattle.kmin_explain_records.proofs.needed_members.write_each_part.Goals as goal
 
 pub loop-part-preserved : goal.loop-part-preserved

@@ -1,5 +1,4 @@
-use Rattle.kmin_explain_records.proofs.Common.{take, flat_map, json_tokens, valuation_tree, valuation_exprs, valuation_values, environment, LocatedPart,
-    located_part_view, AppendsTokens, part_json}
+use Rattle.kmin_explain_records.proofs.Common.{take, flat_map, json_tokens, valuation_tree, valuation_exprs, valuation_values, environment, LocatedPart, located_part_view, AppendsTokens, part_json}
 use Rattle.kmin_explain_records.proofs.needed_members.write_each_part.Given as goal
 
 abbrev pub invariant-loop-part : goal.invariant-loop-part

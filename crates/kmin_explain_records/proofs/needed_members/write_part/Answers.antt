@@ -1,5 +1,4 @@
-use Rattle.kmin_explain_records.proofs.Common.{ℕ, List, ◌∷◌, ap, ◌∙◌, codes, string, json_tokens, node_expr, valuation_tree, valuation_exprs, valuation_values,
-    environment, position_view, spelled_with_values, and_then, and_last, text_json, object_of, last_write, as_last, position_members}
+use Rattle.kmin_explain_records.proofs.Common.{ℕ, List, ◌∷◌, ap, ◌∙◌, codes, string, json_tokens, node_expr, valuation_tree, valuation_exprs, valuation_values, environment, position_view, spelled_with_values, and_then, and_last, text_json, object_of, last_write, as_last, position_members}
 use Rattle.kc_expr.specs.Expr.{letter}
 use Rattle.kc_rules_model.specs.SymbolValues.{condition}
 use Rattle.kmin_explain_records.proofs.needed_members.write_part.Goals as goal

@@ -1,5 +1,4 @@
-use Rattle.kmin_explain_records.proofs.Common.{valuation_tree, valuation_exprs, valuation_values, environment, located_part_view, wrote, and_then, and_last,
-    part_json, last_write, as_last, viewed_array}
+use Rattle.kmin_explain_records.proofs.Common.{valuation_tree, valuation_exprs, valuation_values, environment, located_part_view, wrote, and_then, and_last, part_json, last_write, as_last, viewed_array}
 use Rattle.kmin_explain_records.proofs.needed_members.write_parts.Goals as goal
 
 pub returns : goal.returns

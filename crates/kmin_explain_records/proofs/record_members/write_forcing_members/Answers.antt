@@ -1,5 +1,4 @@
-use Rattle.kmin_explain_records.proofs.Common.{ℕ, List, map, ap, ◌∙◌, json_tokens, symbol_view, valuation_tree, valuation_exprs, valuation_values, position_view,
-    symbol_lines_view, wrote, and_last, array_of, as_tokens, as_last, as_end, forcing_list}
+use Rattle.kmin_explain_records.proofs.Common.{ℕ, List, map, ap, ◌∙◌, json_tokens, symbol_view, valuation_tree, valuation_exprs, valuation_values, position_view, symbol_lines_view, wrote, and_last, array_of, as_tokens, as_last, as_end, forcing_list}
 use Rattle.kc_symbol_lines.specs.declared.located.Position.{Position}
 use Rattle.kmin_explain_records.proofs.record_members.write_forcing_members.Goals as goal
 

@@ -1,5 +1,4 @@
-use Rattle.kmin_explain_records.proofs.Common.{Bool, List, ap, ◌∙◌, Vec, json_tokens, symbol_view, valuation_tree, valuation_exprs, valuation_values,
-    environment, LocatedPart, is_without_prompt, wrote, and_last, as_tokens, as_last, as_end, needs_json, alternatives_json}
+use Rattle.kmin_explain_records.proofs.Common.{Bool, List, ap, ◌∙◌, Vec, json_tokens, symbol_view, valuation_tree, valuation_exprs, valuation_values, environment, LocatedPart, is_without_prompt, wrote, and_last, as_tokens, as_last, as_end, needs_json, alternatives_json}
 use Rattle.kc_located_reasons.specs.between.PartsView.{located_alternatives_view}
 use Rattle.kmin_explain_records.proofs.record_members.write_lacking.Goals as goal
 

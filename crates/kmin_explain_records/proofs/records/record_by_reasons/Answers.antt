@@ -1,5 +1,4 @@
-use Rattle.kmin_explain_records.proofs.Common.{ℕ, List, ◌∙◌, ap, unit_of, symbol_view, tree_model_of, valuation_tree, valuation_exprs, valuation_values,
-    wanted_by, reasons_view, symbol_lines_view, places_view, Json, json_tokens, object_of, sources_model, object_is}
+use Rattle.kmin_explain_records.proofs.Common.{ℕ, List, ◌∙◌, ap, unit_of, symbol_view, tree_model_of, valuation_tree, valuation_exprs, valuation_values, wanted_by, reasons_view, symbol_lines_view, places_view, Json, json_tokens, object_of, sources_model, object_is}
 use Rattle.kc_solver.specs.Solutions.{user_of}
 use Rattle.kmin_records.proofs.RecordSteps.{recorded}
 use Rattle.kmin_explain.proofs.ReasonTexts.{same_at}

@@ -1,5 +1,4 @@
-use Rattle.kmin_explain_records.proofs.Common.{option_map, symbol_view, valuation_tree, valuation_exprs, valuation_values, reasons_view, position_view,
-    symbol_lines_view, places_view, sources_model, given_members, asked_members, lacking_members, forcing_members}
+use Rattle.kmin_explain_records.proofs.Common.{option_map, symbol_view, valuation_tree, valuation_exprs, valuation_values, reasons_view, position_view, symbol_lines_view, places_view, sources_model, given_members, asked_members, lacking_members, forcing_members}
 use Rattle.kmin_explain_records.proofs.JoinedMembers.{four_parts}
 use Rattle.kmin_explain_records.proofs.records.write_members.Goals as goal
 

@@ -1,5 +1,4 @@
-use Rattle.kmin_inputs.proofs.Common.{◌∷◌, [], ℕ, List, get_or, refl, ap, ◌∙◌, subst, arith, rules, Bor, take_all, Surroundings, VariableContent, AreLent,
-    paths_next}
+use Rattle.kmin_inputs.proofs.Common.{◌∷◌, [], ℕ, List, get_or, refl, ap, ◌∙◌, subst, arith, rules, Bor, take_all, Surroundings, VariableContent, AreLent, paths_next}
 use Rattle.kmin_inputs.proofs.LentAnswers.{lent_none, lent_append}
 use Rattle.kmin_inputs.proofs.answers.answer_from_environment.Goals as goal
 

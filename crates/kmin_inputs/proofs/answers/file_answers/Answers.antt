@@ -1,5 +1,4 @@
-use Rattle.kmin_inputs.proofs.Common.{◌≡◌, ◌∷◌, [], ℕ, List, get_or, refl, ap, ◌∙◌, subst, take, arith, rules, Bor, take_all, Surroundings, FilesRecord, none,
-    lines_append, if_err, paths_next, paths_at}
+use Rattle.kmin_inputs.proofs.Common.{◌≡◌, ◌∷◌, [], ℕ, List, get_or, refl, ap, ◌∙◌, subst, take, arith, rules, Bor, take_all, Surroundings, FilesRecord, none, lines_append, if_err, paths_next, paths_at}
 use Rattle.kmin_inputs.specs.JobAnswers as answers
 use Rattle.kmin_inputs.proofs.FailureCounts.{rises_later}
 use Rattle.kmin_inputs.proofs.AnswerFileLists.{record_append, stopped_later}

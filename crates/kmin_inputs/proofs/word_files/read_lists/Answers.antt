@@ -1,6 +1,5 @@
 use Rattle.std.proofs.Common.{drop}
-use Rattle.kmin_inputs.proofs.Common.{◌≡◌, ◌++◌, ◌∷◌, ◌∙◌, [], ℕ, List, map, get_or, suc, refl, ap, take, rules, Bor, map-append, texts_of, Surroundings,
-    for_memory, lines_append, if_err, memory_err, paths_next, paths_at}
+use Rattle.kmin_inputs.proofs.Common.{◌≡◌, ◌++◌, ◌∷◌, ◌∙◌, [], ℕ, List, map, get_or, suc, refl, ap, take, rules, Bor, map-append, texts_of, Surroundings, for_memory, lines_append, if_err, memory_err, paths_next, paths_at}
 use Rattle.std.specs.Global.{Vec}
 use Rattle.kmin_report.specs.StandardError as taking
 use Rattle.kmin_inputs.specs.WordFiles.{none}

@@ -1,5 +1,4 @@
-use Rattle.kmin_missed.proofs.Common.{◌∙◌, ap, unit_of, symbol_view, tree_model_of, valuation_tree, valuation_exprs, valuation_values, wanted_by, sources_model,
-    same_at}
+use Rattle.kmin_missed.proofs.Common.{◌∙◌, ap, unit_of, symbol_view, tree_model_of, valuation_tree, valuation_exprs, valuation_values, wanted_by, sources_model, same_at}
 use Rattle.kc_solver.specs.Solutions.{user_of}
 use Rattle.kmin_missed.proofs.CauseTexts.{details_are}
 use Rattle.kmin_missed.proofs.causes.details_by.Goals as goal

@@ -1,5 +1,4 @@
-use Rattle.kmin_missed.proofs.Common.{◌++◌, sym, ◌∙◌, ap, on_ok_weaker, PlainReasons, tree_model_of, symbol_lines_view, reasons_of, cause_by, sources_model,
-    symbol_there}
+use Rattle.kmin_missed.proofs.Common.{◌++◌, sym, ◌∙◌, ap, on_ok_weaker, PlainReasons, tree_model_of, symbol_lines_view, reasons_of, cause_by, sources_model, symbol_there}
 use Rattle.kmin_missed.proofs.CauseTexts.{cause_is}
 use Rattle.kmin_missed.proofs.causes.push_cause.Goals as goal
 

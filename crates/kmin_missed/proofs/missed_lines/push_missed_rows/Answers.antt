@@ -1,5 +1,4 @@
-use Rattle.kmin_missed.proofs.Common.{◌∙◌, ap, on_ok_weaker, Symbol, unit_of, assigning_place, symbol_view, valuation_tree, valuation_exprs, sources_model,
-    same_at}
+use Rattle.kmin_missed.proofs.Common.{◌∙◌, ap, on_ok_weaker, Symbol, unit_of, assigning_place, symbol_view, valuation_tree, valuation_exprs, sources_model, same_at}
 use Rattle.kmin_missed.proofs.RowTexts.{missed_too, not_missed}
 use Rattle.kmin_missed.proofs.missed_lines.push_missed_rows.Goals as goal
 

@@ -1,5 +1,4 @@
-use Rattle.kmin_missed.proofs.Common.{◌++◌, ◌∙◌, ap, on_ok_weaker, Symbol, symbol_view, valuation_tree, valuation_exprs, tree_in, place_text, first_place,
-    config_of, same_at}
+use Rattle.kmin_missed.proofs.Common.{◌++◌, ◌∙◌, ap, on_ok_weaker, Symbol, symbol_view, valuation_tree, valuation_exprs, tree_in, place_text, first_place, config_of, same_at}
 use Rattle.kmin_missed.proofs.unmet_lines.push_first_place.Goals as goal
 
 pub returns : goal.returns

@@ -1,5 +1,4 @@
-use Rattle.kmin_missed.proofs.Common.{◌++◌, sym, ◌∙◌, ap, on_ok_weaker, PlainReasons, tree_model_of, symbol_lines_view, reasons_of, unmet_row_by, sources_model,
-    symbol_there}
+use Rattle.kmin_missed.proofs.Common.{◌++◌, sym, ◌∙◌, ap, on_ok_weaker, PlainReasons, tree_model_of, symbol_lines_view, reasons_of, unmet_row_by, sources_model, symbol_there}
 use Rattle.kmin_missed.proofs.UnmetTexts.{unmet_row_is}
 use Rattle.kmin_missed.proofs.unmet_lines.push_unmet_row.Goals as goal
 

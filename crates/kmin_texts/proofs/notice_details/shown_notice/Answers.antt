@@ -1,5 +1,4 @@
-use Rattle.kmin_texts.proofs.Common.{◌≡◌, ℕ, List, Some, ap, map, option_map, sym, ◌∙◌, Bor, IfOk-weaker, prefix_bytes, near_names, utf8_line, line_detail,
-    nearest_detail}
+use Rattle.kmin_texts.proofs.Common.{◌≡◌, ℕ, List, Some, ap, map, option_map, sym, ◌∙◌, Bor, IfOk-weaker, prefix_bytes, near_names, utf8_line, line_detail, nearest_detail}
 use Rattle.kc_tree_model.specs.Trees.{Symbol}
 use Rattle.kmin_texts.proofs.OwnDetails.{same_parts}
 use Rattle.kmin_texts.proofs.NoticeSteps.{named_is, nearest_on, shown_on}

@@ -1,5 +1,4 @@
-use Rattle.kc_answers.proofs.Common.{rules, ◌∙◌, ap, sym, inl, inr, ⊎_elim, take, MAX_ANSWER_BYTES, split_at_newlines, AnswersFault, first_line, recorded_from,
-    end_of_file}
+use Rattle.kc_answers.proofs.Common.{rules, ◌∙◌, ap, sym, inl, inr, ⊎_elim, take, MAX_ANSWER_BYTES, split_at_newlines, AnswersFault, first_line, recorded_from, end_of_file}
 use Rattle.kc_answers.proofs.AnswerFileLemmas.{file_recorded, file_unfailed, file_refused, memory_has_no_line}
 use Rattle.kc_answers.proofs.answers.Answers.read.Goals as goal
 

@@ -1,6 +1,5 @@
-use Rattle.kc_conditions.proofs.Common.{◌≡◌, ◌∙◌, List, None, [], length, reverse, arith, refl, sym, subst, common_steps, slice_get, is_linux_6_12, Grows,
-    represents_on, grows_same, attribute_held, Group, open_blocks, conjunction_of, context, dependencies_of, AreAppended, RepresentsPrompt, RepresentsEnclosing,
-    or_yes, EnclosingConditions, grows_on}
+use Rattle.kc_conditions.proofs.Common.{◌≡◌, ◌∙◌, List, None, [], length, reverse, arith, refl, sym, subst, common_steps, slice_get, is_linux_6_12, Grows, represents_on, grows_same, attribute_held, Group, open_blocks, conjunction_of, context, dependencies_of, AreAppended, RepresentsPrompt}
+use Rattle.kc_conditions.proofs.Common.{RepresentsEnclosing, or_yes, EnclosingConditions, grows_on}
 use Rattle.kc_parser.proofs.AppendSteps.{on_ok}
 use Rattle.kc_tree_model.specs.Conditions.{prompts_of}
 use Rattle.kc_conditions.proofs.Growth.{there_on, conjoins_there, joined_on}

@@ -1,6 +1,5 @@
-use Rattle.kc_config.proofs.Common.{◌≡◌, ◌++◌, ℕ, List, Option, IsTrue, length, take, ◌∙◌, sym, ap, subst, arith, common_steps, elements, filter, is_none,
-    changed_users, FitsChanges, IsTouched, IsCountOf, IsListOf, IsChanged, user_of, dependencies, user_fits, UserValue, overlay, Configured, tree_in, FitsTree,
-    changes_of, users_of, units_of, overs}
+use Rattle.kc_config.proofs.Common.{◌≡◌, ◌++◌, ℕ, List, Option, IsTrue, length, take, ◌∙◌, sym, ap, subst, arith, common_steps, elements, filter, is_none, changed_users, FitsChanges, IsTouched, IsCountOf, IsListOf, IsChanged, user_of, dependencies, user_fits, UserValue, overlay, Configured, tree_in}
+use Rattle.kc_config.proofs.Common.{FitsTree, changes_of, users_of, units_of, overs}
 use Rattle.kc_config.proofs.MergedValues.{fits_overs}
 use Rattle.kc_config.proofs.UserValueUnits.{fits_changes}
 use Rattle.kc_config.proofs.ConfigSolutions.{solved_by, merged_kept, merged_users}

@@ -1,5 +1,4 @@
-use Rattle.kc_config.proofs.Common.{◌≡◌, ℕ, List, Option, None, IsTrue, length, replicate, sym, ap, subst, ◌∙◌, arith, common_steps, Tree, changed_users,
-    FitsUsers, user_fits, UserValue, tree_of_settled, changes_of, users_of, units_of}
+use Rattle.kc_config.proofs.Common.{◌≡◌, ℕ, List, Option, None, IsTrue, length, replicate, sym, ap, subst, ◌∙◌, arith, common_steps, Tree, changed_users, FitsUsers, user_fits, UserValue, tree_of_settled, changes_of, users_of, units_of}
 use Rattle.kc_config.proofs.UserValueUnits.{users_fit}
 use Rattle.kc_config.proofs.ConfigSolutions.{solved_as, fragment_kept}
 use Rattle.kc_config.proofs.config.Config.of.Goals as goal

@@ -1,5 +1,5 @@
-use Rattle.kc_config.proofs.Common.{◌≡◌, ◌++◌, ℕ, List, Option, IsTrue, length, ◌∙◌, sym, ap, subst, arith, common_steps, elements, changed_users, FitsChanges,
-    IsListOf, IsChanged, IsTouched, IsCountOf, dependencies, user_fits, UserValue, Configured, tree_in, FitsTree, changes_of, users_of, units_of, clears_of}
+use Rattle.kc_config.proofs.Common.{◌≡◌, ◌++◌, ℕ, List, Option, IsTrue, length, ◌∙◌, sym, ap, subst, arith, common_steps, elements, changed_users, FitsChanges, IsListOf, IsChanged, IsTouched, IsCountOf, dependencies, user_fits, UserValue, Configured, tree_in, FitsTree, changes_of, users_of}
+use Rattle.kc_config.proofs.Common.{units_of, clears_of}
 use Rattle.kc_config.proofs.UserValueUnits.{fits_changes, fits_both}
 use Rattle.kc_dotconfig.proofs.WholeReads.{if_any_err}
 use Rattle.kc_config.proofs.ConfigSolutions.{solved_by, replaced_kept, replaced_users}

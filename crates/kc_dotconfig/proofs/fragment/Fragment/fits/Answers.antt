@@ -1,5 +1,4 @@
-use Rattle.kc_dotconfig.proofs.Common.{inl, inr, length, get_or, refl, sym, ap, ◌∙◌, List, ℕ, arith, common_steps, false≢true, TreeModel, UserValue,
-    tree_of_settled}
+use Rattle.kc_dotconfig.proofs.Common.{inl, inr, length, get_or, refl, sym, ap, ◌∙◌, List, ℕ, arith, common_steps, false≢true, TreeModel, UserValue, tree_of_settled}
 use Rattle.kc_dotconfig.proofs.FragmentFits.{at_item, unfit, next_is, next_rises, next_each, all_fit}
 use Rattle.kc_dotconfig.proofs.fragment.Fragment.fits.Goals.{then-unit-next-via-then-unit-next, then-unit-next-via-else-unit-next+then-unit-len, then-unit-next-via-else-unit-next+else-unit-len+then-not-user_fits}
 use Rattle.kc_dotconfig.proofs.fragment.Fragment.fits.Goals as goal

@@ -1,5 +1,4 @@
-use Rattle.kc_symbol_lines.proofs.Common.{◌≡◌, ℕ, List, cond, map, take, refl, ap, sym, ◌∙◌, subst, arith, is_some, All, is_linux_6_12, GroupInContext,
-    contents_of, definitions_of, SymbolLines, position_view, HasBlocks, AreDefinitionLines}
+use Rattle.kc_symbol_lines.proofs.Common.{◌≡◌, ℕ, List, cond, map, take, refl, ap, sym, ◌∙◌, subst, arith, is_some, All, is_linux_6_12, GroupInContext, contents_of, definitions_of, SymbolLines, position_view, HasBlocks, AreDefinitionLines}
 use Rattle.kc_tree.specs.between.GroupedItems.{items_at}
 use Rattle.kc_tree.specs.between.Views.{symbol_view}
 use Rattle.kc_symbol_lines.proofs.IndexLaws.{many_symbols, symbol_name, symbol_choice, numbers_below, own_prompts_held, own_direct_held, kept_held, lines_are}

@@ -1,5 +1,4 @@
-use Rattle.kc_tree.proofs.Common.{refl, arith, common_steps, slice_get_read, DefaultFits, RangeFits, HasOperands, ReverseDependencyFits, items_at,
-    symbol_from_row, SymbolRow}
+use Rattle.kc_tree.proofs.Common.{refl, arith, common_steps, slice_get_read, DefaultFits, RangeFits, HasOperands, ReverseDependencyFits, items_at, symbol_from_row, SymbolRow}
 use Rattle.std.proofs.lemmas.List.Elements.{All-get_or}
 use Rattle.std.specs.Prelude.{◌<◌, length}
 use Rattle.kc_expr.specs.between.Arena.{node_expr}
