@@ -17,7 +17,7 @@ use super::overlaid::push_overs;
 use kc_dotconfig::Fragment;
 use kc_rules::{Settled, Steps};
 use kc_rules_model::{UnitValue, UserValue};
-use kc_solver::{Graph, ChangedUnits, Session};
+use kc_solver::{ChangedUnits, Graph, Session};
 use kc_tree::Sym;
 use kc_value::ValueRef;
 use std::alloc::{AllocError, Global};

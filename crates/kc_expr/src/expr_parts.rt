@@ -8,8 +8,8 @@ ghost use Rattle.kc_expr.specs.checker.Store.{stored_names, exprs_in, IsSound};
 
 use super::ids::{ExprId, NameId};
 use super::node::{Leaf, Node};
-use super::operand::Operand;
 use super::node_store::NodeStore;
+use super::operand::Operand;
 use kc_tokens::Relop;
 
 /// What an expression is made of: operands, or expressions of the same arena with smaller numbers.

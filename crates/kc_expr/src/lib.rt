@@ -10,9 +10,9 @@ mod leaf;
 mod lookup;
 mod names;
 mod node;
+mod node_store;
 mod operand;
 mod parse;
-mod node_store;
 mod visited_set;
 
 pub use arena::Arena;

@@ -10,10 +10,10 @@ ghost use Rattle.kc_files.specs.checker.FileViews.{known_of};
 ghost use Rattle.kc_files.specs.checker.PatternRuns.{found_of, IsCutPattern, Finds, FindsMore};
 ghost use Rattle.kc_files.specs.TreeContents.{StaysKnown};
 
+use super::file_cache::{FileCache, is_there};
 use super::files::TreeFiles;
 use super::name_matches::matches_name;
 use super::paths::is_pattern;
-use super::file_cache::{FileCache, is_there};
 use kc_value::MAX_LISTED_NAMES;
 use std::alloc::{AllocError, Global};
 

@@ -15,7 +15,7 @@ ghost use Rattle.kc_parser.specs.checker.Steps.{ReturnsLineRead};
 use super::placement::fault_before_form;
 use super::state::{Position, ReaderState, SourceFile, SourceFiles, Step};
 use super::statements::push_statement;
-use super::text::{text_between, checked_line};
+use super::text::{checked_line, text_between};
 use kc_statements::{keyword_of, statement_of, tree_kind_of};
 use kc_tokens::{Language, Token, push_tokens};
 use kc_tree_model::{Keyword, TreeKind};

@@ -29,7 +29,8 @@ fn place_of(keyword: Keyword) -> AllowedPlace
     ensures { result ≡ place_of_keyword keyword }
 {
     match keyword {
-        Keyword::Config | Keyword::If | Keyword::Comment | Keyword::Source => AllowedPlace::Anywhere,
+        Keyword::Config | Keyword::If | Keyword::Comment | Keyword::Source =>
+            AllowedPlace::Anywhere,
         Keyword::End(_) => AllowedPlace::Anywhere,
         Keyword::Choice | Keyword::Menu => AllowedPlace::OutsideChoices,
         Keyword::Mainmenu => AllowedPlace::OutsideBlocks,

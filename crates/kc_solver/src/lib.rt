@@ -3,6 +3,7 @@
 #![tactic(auto)]
 
 mod acyclic_graphs;
+mod changed_units;
 mod copies;
 mod cycle_search;
 mod dependency_order;
@@ -12,7 +13,6 @@ mod orders;
 mod place_sets;
 mod places;
 mod plans;
-mod changed_units;
 mod revision;
 mod rows;
 mod sessions;
@@ -23,10 +23,10 @@ mod updates;
 mod user_values;
 
 pub use acyclic_graphs::acyclic_graphs_have_orders;
+pub use changed_units::ChangedUnits;
 pub use dependency_order::order;
 pub use least_assignments::kept_units;
 pub use orders::{Order, OrderFault};
-pub use changed_units::ChangedUnits;
 pub use sessions::Session;
 pub use solution::solve;
 pub use system::{Graph, System};

@@ -4,11 +4,11 @@ ghost use Rattle.kc_solver.specs.Changes.{changed_users, FitsChanges, IsTouched,
 ghost use Rattle.kc_solver.specs.Dependencies.{IsOrder};
 ghost use Rattle.kc_solver.specs.Solutions.{UniquelySolves, FitsUsers, FitsValues};
 
+use crate::changed_units::ChangedUnits;
 use crate::copies::{copy_users, copy_values};
 use crate::orders::Order;
 use crate::place_sets::PlaceSet;
 use crate::plans::{Plan, make_plan};
-use crate::changed_units::ChangedUnits;
 use crate::solution::solve;
 use crate::system::{Graph, System};
 use crate::updates::change;

@@ -6,9 +6,9 @@ ghost use Rattle.kc_solver.specs.checker.Logs.{Undoes};
 ghost use Rattle.kc_solver.specs.checker.PendingPlaces.{FitsPlaces, IsDone, IsDue, ListsChanged, is_pending};
 ghost use Rattle.kc_solver.specs.Solutions.{Solves, FitsUsers, FitsValues, user_of};
 
+use crate::changed_units::{ChangedUnits, ascending_units};
 use crate::place_sets::PlaceSet;
 use crate::plans::Plan;
-use crate::changed_units::{ChangedUnits, ascending_units};
 use crate::revision::revise;
 use crate::system::{Graph, System};
 use crate::undo_log::restore_logged;

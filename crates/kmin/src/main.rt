@@ -7,10 +7,10 @@ mod streams;
 
 use files::{SystemFiles, new_seed};
 use kc_value::FromRead;
+use kmin_cli::{ParsedWords, command_first, read_words};
 use kmin_disk::SystemDisk;
 use kmin_options::{Question, Task, Verb};
 use kmin_run::run;
-use kmin_cli::{ParsedWords, command_first, read_words};
 use line_files::SystemLines;
 use std::alloc::Global;
 use std::io::IsTerminal;

@@ -4,7 +4,7 @@ ghost use Rattle.kmin_texts.specs.KnownLines.{nothing_known};
 
 use crate::line_files::SystemLines;
 use kc_value::{Failed, Sink, ToWrite};
-use kmin_report::{Messages, Message};
+use kmin_report::{Message, Messages};
 use kmin_texts::{FormMessages, FormedMessages, Wording};
 use std::alloc::{AllocError, Global};
 use std::io::{ErrorKind, Write};

@@ -23,7 +23,7 @@ use kc_tree::Texts;
 use kc_value::Seed;
 use kmin_inputs::Files;
 use kmin_options::Settings;
-use kmin_report::{Messages, Message, RunError};
+use kmin_report::{Message, Messages, RunError};
 use std::alloc::{AllocError, Global};
 
 /// A tree whose macros are expanded, and its expanded files as the texts to read as a Kconfig tree.

@@ -28,7 +28,6 @@ pub nothing_left : (whole before all : List ℕ) → whole ≡ [] → before ++ 
 nothing_left whole before all is h = sym (append-nil before) ∙ into_part whole [] before all is h
 
 module _ (tree : Tree) (names : Environment) where
-
   pub of_shown : (above : Bool) (t : Tri) (e part : Expr) (above' : Bool) (t' : Tri) → e ≡ shown part → is_never_off above t ≡ false → above' ≡ above → t' ≡ shown_limit above
       → blamed_in_reverse tree names above t e ≡ blamed_in_reverse tree names above' t' part
   of_shown above t e part above' t' is never a b =

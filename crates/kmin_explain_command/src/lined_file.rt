@@ -16,9 +16,9 @@ ghost use Rattle.kmin_tidy.specs.checker.Readings.{IsAcceptedAs, IsFaulty, IsFra
 use kc_config_reasons::{FileLines, lines_of_file};
 use kc_dotconfig::{Format, Fragment, LoadFault, LoadKind};
 use kc_rules::Settled;
-use kmin_outputs::{allowed, report_load_fault, report_notices};
 use kmin_inputs::Files;
 use kmin_options::Settings;
+use kmin_outputs::{allowed, report_load_fault, report_notices};
 use kmin_report::{Messages, RunError};
 use kmin_tidy::{AcceptedFile, read_source};
 use std::alloc::Global;

@@ -17,9 +17,9 @@ ghost use Rattle.kmin_report.specs.between.RunErrors.{status_of};
 use crate::lined_file::{LinedFile, read_file};
 use kc_config_reasons::FileLines;
 use kc_rules::Settled;
-use kmin_outputs::{ReadFiles, add_fragment, unassigned};
 use kmin_inputs::Files;
 use kmin_options::Settings;
+use kmin_outputs::{ReadFiles, add_fragment, unassigned};
 use kmin_report::{Messages, RunError};
 use std::alloc::{AllocError, Global};
 

@@ -12,7 +12,7 @@ use crate::questions::names_of;
 use kc_tree::Tree;
 use kmin_explain::{nearest_name, unknown_name};
 use kmin_options::ExplainJob;
-use kmin_report::{Messages, Message, RunError};
+use kmin_report::{Message, Messages, RunError};
 use std::alloc::{AllocError, Global};
 
 /// Refuses the names of a job if one of them means no symbol: reports the first such, with the name that is nearest to it.

@@ -19,7 +19,7 @@ use kc_answers::Answers;
 use kc_macros::{AnswersFault, AnswersKind};
 use kc_value::{MAX_VARIABLE_BYTES, Source, has_newline};
 use kmin_options::{Definition, ExpansionOptions};
-use kmin_report::{Messages, Message, RunError};
+use kmin_report::{Message, Messages, RunError};
 use std::alloc::{AllocError, Global};
 
 /// The answers to the questions of a job's tree: by its definitions, else by its answer files, else by the environment.

@@ -10,7 +10,7 @@ ghost use Rattle.kmin_inputs.specs.ListFiles.{IsListRead, StopsReadingList, list
 use crate::files::Files;
 use kc_dotconfig_model::LoadKind;
 use kc_value::{MAX_LIST_BYTES, ReadBytes, ReadEnd, Source, read_up_to};
-use kmin_report::{Messages, Message, RunError};
+use kmin_report::{Message, Messages, RunError};
 use std::alloc::Global;
 
 /// The bytes of the file at a path, or for `-` of standard input. Reports why they can't be read.

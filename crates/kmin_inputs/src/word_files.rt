@@ -14,9 +14,9 @@ ghost use Rattle.kmin_inputs.specs.between.ReadFiles.{StopsAmongLists};
 use crate::files::Files;
 use crate::list_files::read_list;
 use kc_value::Source;
-use kmin_lines::files_of;
-use kmin_report::{Messages, Message, RunError, exit_status};
 use kmin_cli::{NAMED_TWICE, inputs_named};
+use kmin_lines::files_of;
+use kmin_report::{Message, Messages, RunError, exit_status};
 use std::alloc::Global;
 
 /// The bytes of the files of words `@FILE`.

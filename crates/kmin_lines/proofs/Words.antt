@@ -35,7 +35,6 @@ file_fails files i file there is fails =
     (one_fails (λ file. list_all is_utf8 (words_in file)) (files_view (take i files)) file.items (files_view (drop (suc i) files)) fails)
 
 module _ (words : List (Bor (List ℕ))) (i : ℕ) (word : Bor (List ℕ)) (there : i < length words) (is : word ≡ get_or words i word) where
-
   -- words from a `--` on are plain
   pub plain_from : (lists : List (List (List ℕ))) → ends_options word.now ≡ true → with_lists (words_view (drop i words)) lists ≡ words_view (drop i words)
   plain_from lists ends =

@@ -217,7 +217,10 @@ fn is_input_found_twice(matches: &ArgMatches<'_>, paths: &[&str]) -> bool
 }
 
 /// The values of `--answers`, `--define` and `--env`. Also refuses a value of `--tree` with a newline.
-pub fn expansion_of<'a>(alloc: Global, matches: &ArgMatches<'a>) -> Result<ExpansionOptions<'a>, Refusal>
+pub fn expansion_of<'a>(
+    alloc: Global,
+    matches: &ArgMatches<'a>,
+) -> Result<ExpansionOptions<'a>, Refusal>
     ensures { Agrees expansion_view (parsed.expansion_of (found_of matches.now)) result }
 {
     let texts = values_of(alloc, matches, "define")?;

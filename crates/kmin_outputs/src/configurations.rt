@@ -27,7 +27,7 @@ use kc_tree::Tree;
 use kc_value::Source;
 use kmin_inputs::Files;
 use kmin_options::Settings;
-use kmin_report::{Messages, Message, RunError};
+use kmin_report::{Message, Messages, RunError};
 use std::alloc::{AllocError, Global};
 
 /// A configuration, and the lines of members of choices in each of the files that it is read from.

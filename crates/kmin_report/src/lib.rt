@@ -2,17 +2,17 @@
 #![tactic(auto)]
 
 mod file_names;
+mod message;
 mod messages;
 mod output;
 mod plain_messages;
-mod message;
 mod run_error;
 mod symbol_names;
 
 pub use file_names::file_name;
+pub use message::{Message, write_plain_line};
 pub use messages::Messages;
 pub use output::{exit_status, write_answer};
 pub use plain_messages::PlainMessages;
-pub use message::{Message, write_plain_line};
 pub use run_error::RunError;
 pub use symbol_names::name_of;

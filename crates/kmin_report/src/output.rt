@@ -6,8 +6,8 @@ ghost use Rattle.kmin_report.specs.StandardError.{TakesLines};
 ghost use Rattle.kc_files.specs.TreeContents.{HasRisen};
 ghost use Rattle.kmin_report.specs.between.RunErrors.{status_of};
 
-use crate::messages::Messages;
 use crate::message::Message;
+use crate::messages::Messages;
 use crate::run_error::RunError;
 use kc_output::{WriteFault, write_out};
 use kc_value::Sink;

@@ -2,8 +2,8 @@
 ghost use Rattle.std.specs.Prelude.{◌≡◌};
 ghost use Rattle.kmin_report.specs.PlainLines.{plain_bytes};
 
-use crate::messages::Messages;
 use crate::message::{Message, write_plain_line};
+use crate::messages::Messages;
 use kc_value::Sink;
 
 /// Standard error that spells lines plainly, over a writer. It takes no memory.

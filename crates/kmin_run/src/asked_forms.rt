@@ -8,9 +8,9 @@ ghost use Rattle.kmin_run.specs.Runs.{form_asked, form_of_settings, form_with};
 
 use kc_dotconfig_model::Prefix;
 use kc_tokens::{Language, LinuxVersion};
+use kmin_cli::ParsedWords;
 use kmin_options::{Questions, Settings};
 use kmin_texts::{FormMessages, Wording};
-use kmin_cli::ParsedWords;
 use std::alloc::AllocError;
 
 /// Sets the form of messages for which the words ask. On an `Err`, which means out of memory, messages are as before.

@@ -10,7 +10,7 @@ ghost use Rattle.kmin_report.specs.Reports.{ErrorLine};
 use kc_dotconfig::LoadKind;
 use kc_value::{MAX_BUNDLE_BYTES, ReadBytes, ReadEnd, Source, read_up_to};
 use kmin_lines::first_piece;
-use kmin_report::{Messages, Message, RunError};
+use kmin_report::{Message, Messages, RunError};
 use std::alloc::Global;
 
 /// The line that ends the tree.

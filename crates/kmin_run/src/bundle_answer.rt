@@ -19,15 +19,15 @@ ghost use Rattle.kmin_outputs.specs.Stops.{StopsAmongFiles};
 ghost use Rattle.kmin_report.specs.between.RunErrors.{status_of};
 ghost use Rattle.kmin_trees.specs.between.TreeStops.{StopsAtTexts};
 
-use crate::bundle::{split_bundle, read_whole};
+use crate::bundle::{read_whole, split_bundle};
 use kc_config::Config;
 use kc_dotconfig::Format;
 use kc_minimal::full_text;
 use kc_rules::{Profile, Settled};
 use kc_tree::Texts;
 use kc_value::{Seed, Sink, Source};
-use kmin_outputs::load;
 use kmin_disk::MemoryReader;
+use kmin_outputs::load;
 use kmin_report::{Messages, RunError, write_answer};
 use kmin_trees::{FileNames, read_texts, settled_tree};
 use std::alloc::Global;

@@ -24,11 +24,11 @@ ghost use Rattle.kmin_report.specs.between.RunErrors.{status_of};
 
 use kc_rules::Settled;
 use kc_value::Sink;
+use kmin_inputs::Files;
+use kmin_options::{Job, Settings, Task, Verb};
 use kmin_outputs::{
     JobOutput, ReadFiles, answer_of, compared, configured, configured_by, notice_choices,
 };
-use kmin_inputs::Files;
-use kmin_options::{Job, Settings, Task, Verb};
 use kmin_report::{Messages, RunError, exit_status, write_answer};
 use kmin_trees::job_tree;
 use std::alloc::Global;

@@ -13,7 +13,7 @@ use crate::job_output::output_of_job;
 use kmin_disk::{ReplaceFault, UpdateFault, WriteDisk, update};
 use kmin_inputs::Files;
 use kmin_options::OutputJob;
-use kmin_report::{Messages, Message, RunError, exit_status};
+use kmin_report::{Message, Messages, RunError, exit_status};
 use std::alloc::Global;
 
 /// Runs a command over configuration files, writes its output to a file of the disk, and returns the exit status: 0 done or

@@ -18,13 +18,13 @@ use crate::output_file::save;
 use crate::tidy_command::{refuse_list, tidy};
 use crate::wants_command::list_questions;
 use kc_value::{Seed, Sink, Source};
+use kmin_cli::{ParsedWords, command_first, read_words_beside};
 use kmin_disk::WriteDisk;
 use kmin_explain_command::explain;
 use kmin_inputs::{Files, WordFiles, read_word_files};
 use kmin_lines::{WordFault, with_files};
-use kmin_report::{Messages, Message, RunError, exit_status, write_answer};
+use kmin_report::{Message, Messages, RunError, exit_status, write_answer};
 use kmin_texts::FormMessages;
-use kmin_cli::{ParsedWords, command_first, read_words_beside};
 use std::alloc::Global;
 
 /// Runs the program on its words, the files, the disk, a reader and two writers, and returns the exit status.

@@ -17,7 +17,7 @@ use kmin_disk::WriteDisk;
 use kmin_inputs::{Files, read_list};
 use kmin_lines::{ListFault, listed_paths};
 use kmin_options::{PathList, Settings, TidyFlags, TidyJob};
-use kmin_report::{Messages, Message, RunError, exit_status};
+use kmin_report::{Message, Messages, RunError, exit_status};
 use kmin_tidy::{TidyOptions, tidy_files};
 use kmin_trees::job_tree;
 use std::alloc::{AllocError, Global};

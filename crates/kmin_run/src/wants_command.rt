@@ -13,11 +13,11 @@ ghost use Rattle.kmin_outputs.specs.Statuses.{status_of_list};
 ghost use Rattle.kmin_report.specs.between.RunErrors.{status_of};
 
 use kc_value::Sink;
-use kmin_outputs::JobOutput;
 use kmin_expansions::{Wanted, wanted_of};
 use kmin_inputs::Files;
 use kmin_options::Questions;
-use kmin_report::{Messages, Message, RunError, exit_status, write_answer};
+use kmin_outputs::JobOutput;
+use kmin_report::{Message, Messages, RunError, exit_status, write_answer};
 use std::alloc::{AllocError, Global};
 
 /// Lists the open questions of a tree's macros, a line each, in the order in which the expansion asks them; with `--unused`, where

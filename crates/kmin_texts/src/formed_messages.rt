@@ -14,7 +14,7 @@ use kc_output::write_out;
 use kc_tokens::Language;
 use kc_value::Sink;
 use kmin_messages::Form;
-use kmin_report::{Messages, Message, write_plain_line};
+use kmin_report::{Message, Messages, write_plain_line};
 use std::alloc::{AllocError, Global};
 
 /// A wording that is kept.

@@ -10,7 +10,7 @@ use crate::outcome::FileOutcome;
 use crate::stop::TidyStop;
 use kc_dotconfig::{LoadFault, Notice};
 use kc_tree::Tree;
-use kmin_report::{Messages, Message};
+use kmin_report::{Message, Messages};
 
 /// Why a file isn't read or replaced.
 #[derive(Clone, Copy, Debug, PartialEq, Eq)]

@@ -17,7 +17,7 @@ use crate::read_trees::{KeptLines, ReadTree};
 use kc_builder::read_tree;
 use kc_rules::{Profile, SettleFault, Settled, settle};
 use kc_tree::{Texts, Tree, TreeFault, TreeKind, Unit};
-use kmin_report::{Messages, Message, RunError};
+use kmin_report::{Message, Messages, RunError};
 use std::alloc::Global;
 
 /// The result of reading texts as a tree, from the file at the path `first` on.

@@ -15,7 +15,7 @@ returns c =
     let tree = tree_of_settled c.args.settled.now in
     let language : c.language.result ≡ tree.language = c.language.ensures ∙ ap (λ (t : TreeModel). t.tree.language) c.tree.ensures.tree in
     let version : has_no_version tree.language ≡ true =
-      subst (λ l. has_no_version l ≡ true) language (sym c.has_no_version.ensures ∙ c.if-not-has_no_version.false) in
+    subst (λ l. has_no_version l ≡ true) language (sym c.has_no_version.ensures ∙ c.if-not-has_no_version.false) in
     IfOk-weaker c.group_places.result _ _
     (λ found is. places_of_groups tree c.args.values.now c.args.lines.now c.in_ok-groups.groups.items found.items c.in_ok-groups.ensures.rising
     c.in_ok-groups.ensures.groups is ∙ sym (ap (λ b. cond b (other_places tree c.args.values.now c.args.lines.now) []) version))

@@ -19,13 +19,13 @@ conditions_of-given-requires-clause-here c =
 pub invariant_of-own : goal.invariant_of-own
 invariant_of-own c = record {
   many = one_for_each c.args.listing.now c.args.groups.now c.args.conditions.now c.requires.walked c.args.i c.requires.here c.lines_of-lines.result.now
-    c.conditions_of-given.result.now c.lines_of-lines.ensures.lines c.conditions_of-given.ensures.value;
+      c.conditions_of-given.result.now c.lines_of-lines.ensures.lines c.conditions_of-given.ensures.value;
 }
 
 pub push_row-requires : goal.push_row-requires
 push_row-requires c = record {
   many = one_for_each c.args.listing.now c.args.groups.now c.args.conditions.now c.requires.walked c.args.i c.requires.here c.lines_of-lines.result.now
-    c.conditions_of-given.result.now c.lines_of-lines.ensures.lines c.conditions_of-given.ensures.value;
+      c.conditions_of-given.result.now c.lines_of-lines.ensures.lines c.conditions_of-given.ensures.value;
 }
 
 pub returns : goal.returns
