@@ -10,7 +10,7 @@ use Rattle.kc_value.specs.declared.limits.TheConstants.{MAX_LINE_BYTES, MAX_TEXT
 use Rattle.kc_tokens.specs.declared.language.Language.{Language}
 use Rattle.kc_tokens.specs.declared.fault.ExprFault.{ExprFault}
 use Rattle.kc_tokens.specs.declared.token.TokenKind.{TokenKind}
-use Rattle.kc_tokens.specs.declared.token.TokenKind.TheVariants.{Word, Quoted, Relation, Not, And, Or, Open, Close}
+use Rattle.kc_tokens.specs.declared.token.TokenKind.TheVariants.{Word, Quoted}
 use Rattle.kc_expr.specs.Expr.{Expr, Operand}
 use Rattle.kc_tokens.specs.QuotedTexts.{quoted_text}
 use Rattle.kc_expr.specs.Grammar.{is_operand_kind, operand_of_lexeme}
@@ -75,13 +75,7 @@ record IsKeyword (p : Lexeme) (k : Keyword) : Type 0 where
 
 word_by_kind : (kind : TokenKind) (o : Option Keyword) (k : Keyword) → cond (is_word_kind kind) o None ≡ Some k → (kind ≡ Word) × (o ≡ Some k)
 word_by_kind Word o k e = (refl, e)
-word_by_kind Quoted o k e = let z : ⊥ = cc in absurd z
-word_by_kind (Relation op) o k e = let z : ⊥ = cc in absurd z
-word_by_kind Not o k e = let z : ⊥ = cc in absurd z
-word_by_kind And o k e = let z : ⊥ = cc in absurd z
-word_by_kind Or o k e = let z : ⊥ = cc in absurd z
-word_by_kind Open o k e = let z : ⊥ = cc in absurd z
-word_by_kind Close o k e = let z : ⊥ = cc in absurd z
+word_by_kind x o k e = let z : ⊥ = cc in absurd z
 
 keyword_is : (p : Lexeme) (k : Keyword) → keyword_of p ≡ Some k → IsKeyword p k
 keyword_is p k e = let r = word_by_kind p.kind (keyword_in_table keywords p.text) k e in record { word = r.0; entry = r.1 }
@@ -95,13 +89,10 @@ no_assigned true o h = refl
 no_assigned false o h = let z : ⊥ = cc in absurd z
 
 no_assignment : {ps : List Lexeme} {ts : List LineToken} → AreRead ps ts → begins_with_keyword ps ≡ true → is_assignment ts ≡ false
-no_assignment none_read h = refl
 no_assignment (gap_read r) h = no_assignment r h
 no_assignment (word_read {p = p} {ts = ts} e d r) h =
     no_assigned (is_keyword p.text) _ (second_so (is_word_kind p.kind) (is_keyword p.text) h)
-no_assignment (quoted_read quote s e k m r) h = refl
-no_assignment (operator_read c e r) h = refl
-no_assignment (long_operator_read c d e r) h = refl
+no_assignment x h = refl
 
 -- the tokens as they are written
 data AreWritten : List Lexeme → List WrittenToken → Type 0 where
@@ -133,13 +124,7 @@ no_help_kind p b e h = ap (λ x. is_help_word (cond x (keyword_in_table keywords
 
 operator_no_word : (kind : TokenKind) → is_operand_kind kind ≡ false → is_word_kind kind ≡ false
 operator_no_word Word h = let z : ⊥ = cc in absurd z
-operator_no_word Quoted h = refl
-operator_no_word (Relation op) h = refl
-operator_no_word Not h = refl
-operator_no_word And h = refl
-operator_no_word Or h = refl
-operator_no_word Open h = refl
-operator_no_word Close h = refl
+operator_no_word x h = refl
 
 pub turned : (x y : List ℕ) → bytes_eq x y ≡ bytes_eq y x
 turned x y = by_tests (bytes_eq x y) (bytes_eq y x) refl refl
@@ -163,25 +148,13 @@ help_same : {ps : List Lexeme} {ts : List WrittenToken} → AreWritten ps ts →
 help_same none_written = refl
 help_same (word_written {p = p} e none_written) =
     help_text_in p.text ∙ sym (help_keyword p.text) ∙ sym (ap (λ k. is_help_word (cond (is_word_kind k) (keyword_in_table keywords p.text) None)) e)
-help_same (word_written e (word_written f r)) = refl
-help_same (word_written e (quoted_written b f r)) = refl
-help_same (word_written e (operator_written c f r)) = refl
-help_same (word_written e (long_operator_written c d f r)) = refl
+help_same (word_written e x) = refl
 help_same (quoted_written {p = p} bytes e none_written) = sym (ap (λ k. is_help_word (cond (is_word_kind k) (keyword_in_table keywords p.text) None)) e)
-help_same (quoted_written bytes e (word_written f r)) = refl
-help_same (quoted_written bytes e (quoted_written b f r)) = refl
-help_same (quoted_written bytes e (operator_written c f r)) = refl
-help_same (quoted_written bytes e (long_operator_written c d f r)) = refl
+help_same (quoted_written bytes e x) = refl
 help_same (operator_written {p = p} c e none_written) = sym (no_help_kind p (is_word_kind p.kind) refl (operator_no_word p.kind e))
-help_same (operator_written c e (word_written f r)) = refl
-help_same (operator_written c e (quoted_written b f r)) = refl
-help_same (operator_written c e (operator_written x f r)) = refl
-help_same (operator_written c e (long_operator_written x d f r)) = refl
+help_same (operator_written c e x) = refl
 help_same (long_operator_written {p = p} c d e none_written) = sym (no_help_kind p (is_word_kind p.kind) refl (operator_no_word p.kind e))
-help_same (long_operator_written c d e (word_written f r)) = refl
-help_same (long_operator_written c d e (quoted_written b f r)) = refl
-help_same (long_operator_written c d e (operator_written x f r)) = refl
-help_same (long_operator_written c d e (long_operator_written x y f r)) = refl
+help_same (long_operator_written c d e x) = refl
 
 -- the statement that the reader has for a line with these tokens
 record IsStatement (language : Language) (read : List Group) (p : Lexeme) (ps : List Lexeme) (s : Statement) : Type 0 where
@@ -267,23 +240,7 @@ prompt_quoted words.Prompt q qs s e h = test_holds (is_quoted_kind q.kind) _ s h
 prompt_quoted words.Menu q qs s e h = test_holds (is_quoted_kind q.kind) _ s h
 prompt_quoted words.Comment q qs s e h = test_holds (is_quoted_kind q.kind) _ s h
 prompt_quoted words.Mainmenu q qs s e h = test_holds (is_quoted_kind q.kind) _ s h
-prompt_quoted words.Config q qs s e h = let z : ⊥ = cc in absurd z
-prompt_quoted words.Choice q qs s e h = let z : ⊥ = cc in absurd z
-prompt_quoted words.If q qs s e h = let z : ⊥ = cc in absurd z
-prompt_quoted words.Source q qs s e h = let z : ⊥ = cc in absurd z
-prompt_quoted (words.End b) q qs s e h = let z : ⊥ = cc in absurd z
-prompt_quoted (words.DefaultType k) q qs s e h = let z : ⊥ = cc in absurd z
-prompt_quoted words.Default q qs s e h = let z : ⊥ = cc in absurd z
-prompt_quoted words.Depends q qs s e h = let z : ⊥ = cc in absurd z
-prompt_quoted words.Select q qs s e h = let z : ⊥ = cc in absurd z
-prompt_quoted words.Imply q qs s e h = let z : ⊥ = cc in absurd z
-prompt_quoted words.Range q qs s e h = let z : ⊥ = cc in absurd z
-prompt_quoted words.Visible q qs s e h = let z : ⊥ = cc in absurd z
-prompt_quoted words.Help q qs s e h = let z : ⊥ = cc in absurd z
-prompt_quoted words.Modules q qs s e h = let z : ⊥ = cc in absurd z
-prompt_quoted words.Option q qs s e h = let z : ⊥ = cc in absurd z
-prompt_quoted words.Optional q qs s e h = let z : ⊥ = cc in absurd z
-prompt_quoted words.LeftOut q qs s e h = let z : ⊥ = cc in absurd z
+prompt_quoted k q qs s e h = let z : ⊥ = cc in absurd z
 
 -- words of sources: `source`, or one that is left out
 abbrev is_left_out_entry : Option Keyword → Bool
@@ -483,17 +440,12 @@ no_globs (c ∷ s) h =
 word_has_word : {q : Lexeme} {qs : List Lexeme} {u : WrittenToken} {us : List WrittenToken} → AreWritten (q ∷ qs) (u ∷ us) → is_word u ≡ true
     → (q.kind ≡ Word) × (u.bytes ≡ q.text)
 word_has_word (word_written e r) h = (e, refl)
-word_has_word (quoted_written bytes e r) h = let z : ⊥ = cc in absurd z
-word_has_word (operator_written c e r) h = let z : ⊥ = cc in absurd z
-word_has_word (long_operator_written c d e r) h = let z : ⊥ = cc in absurd z
+word_has_word x h = let z : ⊥ = cc in absurd z
 
 four_tests : (a b c d : Bool) (x y z u : LineForm) → a ≡ false → b ≡ false → c ≡ false → d ≡ false → is_plain_form
     (cond a x (cond b y (cond c z (cond d u plain)))) ≡ true
-four_tests true b c d x y z u ha hb hc hd = let n : ⊥ = cc in absurd n
-four_tests false true c d x y z u ha hb hc hd = let n : ⊥ = cc in absurd n
-four_tests false false true d x y z u ha hb hc hd = let n : ⊥ = cc in absurd n
-four_tests false false false true x y z u ha hb hc hd = let n : ⊥ = cc in absurd n
 four_tests false false false false x y z u ha hb hc hd = refl
+four_tests a b c d x y z u ha hb hc hd = let n : ⊥ = cc in absurd n
 
 nothing_written : {u : WrittenToken} {us : List WrittenToken} → AreWritten [] (u ∷ us) → ⊥
 nothing_written r = elim r [ ]
@@ -609,6 +561,11 @@ module _ (language : Language) (read : List Group) (p : Lexeme) (k : Keyword) (i
       ap (λ b. is_plain_form (cond b (bare_prompt u.bytes) (form_of_pair p.text u))) (no_prompt q qs u [] s r h) ∙ pair_plain q qs u [] s r kept h none
   rest_plain (q ∷ qs) (u ∷ (v ∷ us)) s r kept h none = ap (λ b. is_plain_form (cond b (bare_prompt u.bytes) plain)) (no_prompt q qs u (v ∷ us) s r h)
 
+no_operator_path : (q : Lexeme) (path : List ℕ) (kind : TokenKind) → is_operand_kind kind ≡ false
+    → cond (is_quoted_kind kind) (Some (quoted_text q.text)) (cond (is_word_kind kind) (Some q.text) None) ≡ Some path → ⊥
+no_operator_path q path Word e h = cc
+no_operator_path q path k e h = cc
+
 -- a line that sources a path
 path_written : (q : Lexeme) (u : WrittenToken) (us : List WrittenToken) (path : List ℕ) → AreWritten (q ∷ []) (u ∷ us) → path_of q ≡ Some path
     → (us ≡ []) × (is_path u ≡ true) × (u.meaning ≡ Some path)
@@ -622,36 +579,12 @@ path_written q u us path (quoted_written bytes e none_written) h = (refl, refl, 
     by_kind : (kind : TokenKind) → kind ≡ Quoted → cond (is_quoted_kind kind) (Some (quoted_text q.text)) (cond (is_word_kind kind) (Some q.text) None)
         ≡ Some (quoted_text q.text)
     by_kind kind e = ap (λ j. cond (is_quoted_kind j) (Some (quoted_text q.text)) (cond (is_word_kind j) (Some q.text) None)) e
-path_written q u us path (operator_written c e none_written) h = absurd (no_path q.kind e h)
-  where
-    no_path : (kind : TokenKind) → is_operand_kind kind ≡ false → cond (is_quoted_kind kind) (Some (quoted_text q.text))
-        (cond (is_word_kind kind) (Some q.text) None) ≡ Some path → ⊥
-    no_path Word e h = cc
-    no_path Quoted e h = cc
-    no_path (Relation op) e h = cc
-    no_path Not e h = cc
-    no_path And e h = cc
-    no_path Or e h = cc
-    no_path Open e h = cc
-    no_path Close e h = cc
-path_written q u us path (long_operator_written c d e none_written) h = absurd (no_path q.kind e h)
-  where
-    no_path : (kind : TokenKind) → is_operand_kind kind ≡ false → cond (is_quoted_kind kind) (Some (quoted_text q.text))
-        (cond (is_word_kind kind) (Some q.text) None) ≡ Some path → ⊥
-    no_path Word e h = cc
-    no_path Quoted e h = cc
-    no_path (Relation op) e h = cc
-    no_path Not e h = cc
-    no_path And e h = cc
-    no_path Or e h = cc
-    no_path Open e h = cc
-    no_path Close e h = cc
+path_written q u us path (operator_written c e none_written) h = absurd (no_operator_path q path q.kind e h)
+path_written q u us path (long_operator_written c d e none_written) h = absurd (no_operator_path q path q.kind e h)
 
 some_written : {q : Lexeme} {qs : List Lexeme} {us : List WrittenToken} → AreWritten (q ∷ qs) us → (u : WrittenToken) × (vs : List WrittenToken) × (us ≡ u ∷ vs)
 some_written (word_written e r) = (_, _, refl)
-some_written (quoted_written bytes e r) = (_, _, refl)
-some_written (operator_written c e r) = (_, _, refl)
-some_written (long_operator_written c d e r) = (_, _, refl)
+some_written x = (_, _, refl)
 
 module _ (language : Language) (read : List Group) (p : Lexeme) (text : p.text ≡ codes "source") (path : List ℕ) where
   path_line : (q : Lexeme) (us : List WrittenToken) → AreWritten (q ∷ []) us → path_of q ≡ Some path → is_glob_path q ≡ false
@@ -740,7 +673,6 @@ module _ (language : Language) where
   bare_is_quoted false false h = let z : ⊥ = cc in absurd z
 
   after_option : {ps : List Lexeme} {ts : List LineToken} → AreRead ps ts → is_left_out_option language ps ≡ false → asked_after_option (solid_tokens ts) ≡ None
-  after_option none_read h = refl
   after_option (gap_read r) h = after_option r h
   after_option (word_read {p = q} {ps = qs} {ts = us} e n r) h = by_test (bytes_eq q.text (codes "env")) refl
     where
@@ -763,9 +695,7 @@ module _ (language : Language) where
               by_three true b c h = let z : ⊥ = cc in absurd z
               by_three false true c h = let z : ⊥ = cc in absurd z
               by_three false false c h = h
-  after_option (quoted_read quote s e k m r) h = refl
-  after_option (operator_read c e r) h = refl
-  after_option (long_operator_read c d e r) h = refl
+  after_option x h = refl
 
   nothing_asked : {ts : List LineToken} → AreRead [] ts → asked_by (solid_tokens ts) ≡ None
   nothing_asked none_read = refl
@@ -783,9 +713,7 @@ module _ (language : Language) where
           let here : words.Option ≡ is.keyword =
           (let x : keyword_in_table keywords (codes "option") ≡ Some is.keyword = entry_of language read p is.keyword key (codes "option") f in cc) in
           after_option r (ap (λ j. is_left_out language read j ps) here ∙ is.kept)
-  statement_asks read s is (quoted_read quote t e k m r) = refl
-  statement_asks read s is (operator_read c e r) = refl
-  statement_asks read s is (long_operator_read c d e r) = refl
+  statement_asks read s is x = refl
 
   line_asks : (read : List Group) (ps : List Lexeme) {ts : List LineToken} (o : Option Statement) → HasStatement language read ps o → AreRead ps ts
       → asked_by (solid_tokens ts) ≡ None

@@ -17,7 +17,7 @@ use Rattle.kc_tree_model.specs.declared.fault.TreeFault.{TreeFault}
 use Rattle.kc_tree_model.specs.declared.keyword.Block.{Block}
 use Rattle.kc_tree_model.specs.TreeFiles.{Files, file_at, index_of_file}
 use Rattle.kc_tree_model.specs.LogicalLines.{PhysicalLine, LogicalLine, split_at_newlines, without_return, is_continued, joined_bytes, continuation_count, help_line_count, begins_help, logical_lines_from, lines_of}
-use Rattle.kc_tree_model.specs.Statements.{config, choice, menu, condition, comment, source, mainmenu, ends, Statement, head, attribute, block_of_head, path_of_head}
+use Rattle.kc_tree_model.specs.Statements.{source, Statement, head, attribute, block_of_head, path_of_head}
 use Rattle.kc_tree_model.specs.Blocks.{Group, GroupHead, Position, of_head, file_end, from_head, open_blocks, innermost, sourced_path}
 use Rattle.kc_tree_model.specs.Limits.{is_in_list, without_repeats, FileSource, size_in, open_files, files_read, source_fault as reader_fault}
 use Rattle.kc_tree_model.specs.TreeReading.{Outcome as Reading, statement_on_line, with_group, with_statement, path_to_read, at_file_end, continue_after_file, continue_after_source, continue_after_statement, continue_after_line, read_lines, read_file as read_whole_file, read_root, reading}
@@ -31,7 +31,7 @@ use Rattle.kc_macros_model.specs.EnvironmentLines.{environment_asked, meant_line
 use Rattle.kc_macros_model.proofs.EnvironmentLines.{meant_same}
 use Rattle.kc_macros_model.specs.declared.fault.MacroKind.{MacroKind}
 use Rattle.kc_macros_model.specs.declared.fault.MacroKind.TheVariants as kinds
-use Rattle.kc_macros_model.specs.Programs.{Place, spend, report, ask, read_file, find_file, list_folder, Program, returns, fails, stops, does, ◌>>=◌}
+use Rattle.kc_macros_model.specs.Programs.{Place, read_file, Program, returns, fails, stops, does, ◌>>=◌}
 use Rattle.kc_macros_model.specs.Expansion.{fault}
 use Rattle.kc_macros_model.specs.LineTokens.{line_tokens}
 use Rattle.kc_macros_model.specs.declared.token_sort.TokenSort.TheVariants.{Word}
@@ -56,11 +56,7 @@ Gives w P (returns x) = P x
 Gives w P (fails f) = ⊥
 Gives w P stops = ⊥
 Gives w P (does (read_file path) k) = Gives w P (k (w.bytes path))
-Gives w P (does (spend at work) k) = ⊥
-Gives w P (does (report notice) k) = ⊥
-Gives w P (does (ask at question) k) = ⊥
-Gives w P (does (find_file path) k) = ⊥
-Gives w P (does (list_folder folder) k) = ⊥
+Gives w P (does x k) = ⊥
 
 gives_both : {A B : Type 0} (w : World) (Q : A → Type 0) (P : B → Type 0) (p : Program A) (f : A → Program B) → Gives w Q p → ((x : A) → Q x → Gives w P (f x))
     → Gives w P (p >>= f)
@@ -68,22 +64,14 @@ gives_both w Q P (returns x) f h k = k x h
 gives_both w Q P (fails g) f h k = h
 gives_both w Q P stops f h k = h
 gives_both w Q P (does (read_file path) n) f h k = gives_both w Q P (n (w.bytes path)) f h k
-gives_both w Q P (does (spend at work) n) f h k = absurd h
-gives_both w Q P (does (report notice) n) f h k = absurd h
-gives_both w Q P (does (ask at question) n) f h k = absurd h
-gives_both w Q P (does (find_file path) n) f h k = absurd h
-gives_both w Q P (does (list_folder folder) n) f h k = absurd h
+gives_both w Q P (does x n) f h k = absurd h
 
 gives_more : {A : Type 0} (w : World) (Q P : A → Type 0) (p : Program A) → Gives w Q p → ((x : A) → Q x → P x) → Gives w P p
 gives_more w Q P (returns x) h k = k x h
 gives_more w Q P (fails g) h k = h
 gives_more w Q P stops h k = h
 gives_more w Q P (does (read_file path) n) h k = gives_more w Q P (n (w.bytes path)) h k
-gives_more w Q P (does (spend at work) n) h k = absurd h
-gives_more w Q P (does (report notice) n) h k = absurd h
-gives_more w Q P (does (ask at question) n) h k = absurd h
-gives_more w Q P (does (find_file path) n) h k = absurd h
-gives_more w Q P (does (list_folder folder) n) h k = absurd h
+gives_more w Q P (does x n) h k = absurd h
 
 -- what such a program comes to
 record IsQuiet {A : Type 0} (P : A → Type 0) (left : ℕ) (o : Outcome A) : Type 0 where
@@ -117,11 +105,7 @@ module _ {A : Type 0} (w : World) (P : A → Type 0) where
         ending = q.ending;
         holds = q.holds;
       }
-  quiet_outcome all left (does (spend at work) k) h = absurd h
-  quiet_outcome all left (does (report notice) k) h = absurd h
-  quiet_outcome all left (does (ask at question) k) h = absurd h
-  quiet_outcome all left (does (find_file path) k) h = absurd h
-  quiet_outcome all left (does (list_folder folder) k) h = absurd h
+  quiet_outcome all left (does x k) h = absurd h
 
 -- tests
 swap : (a p o : Bool) → (a || (p || o)) ≡ (p || (a || o))
@@ -142,15 +126,8 @@ not_false false h = let z : ⊥ = cc in absurd z
 
 -- blocks of a file are no files
 no_file : (g : GroupHead) (b : Block) → from_head block_of_head g ≡ Some b → from_head path_of_head g ≡ None
-no_file (of_head (config name)) b e = refl
-no_file (of_head choice) b e = refl
-no_file (of_head (menu title)) b e = refl
-no_file (of_head (condition c)) b e = refl
-no_file (of_head (comment title)) b e = refl
 no_file (of_head (source path)) b e = let z : ⊥ = cc in absurd z
-no_file (of_head mainmenu) b e = refl
-no_file (of_head (ends c)) b e = refl
-no_file file_end b e = refl
+no_file g b e = refl
 
 no_files : (gs hs : List Group) → AllBlocks gs → filter_map sourced_path (gs ++ hs) ≡ filter_map sourced_path hs
 no_files [] hs own = refl
@@ -162,16 +139,8 @@ same_open r start read s = ap (λ gs. r.root ∷ filter_map sourced_path gs) s.o
 
 -- a statement that sources a path
 source_statement : (o : Option Statement) (path : List ℕ) → path_to_read o ≡ Some path → o ≡ Some (head (source path))
-source_statement None path e = let z : ⊥ = cc in absurd z
-source_statement (Some (attribute a)) path e = let z : ⊥ = cc in absurd z
-source_statement (Some (head (config name))) path e = let z : ⊥ = cc in absurd z
-source_statement (Some (head choice)) path e = let z : ⊥ = cc in absurd z
-source_statement (Some (head (menu title))) path e = let z : ⊥ = cc in absurd z
-source_statement (Some (head (condition c))) path e = let z : ⊥ = cc in absurd z
-source_statement (Some (head (comment title))) path e = let z : ⊥ = cc in absurd z
 source_statement (Some (head (source p))) path e = let h : p ≡ path = cc in ap (λ x. Some (head (source x))) h
-source_statement (Some (head mainmenu)) path e = let z : ⊥ = cc in absurd z
-source_statement (Some (head (ends b))) path e = let z : ⊥ = cc in absurd z
+source_statement x path e = let z : ⊥ = cc in absurd z
 
 -- one that sources none leaves the files that were read
 same_files : (at : Position) (o : Option Statement) (read : List Group) → path_to_read o ≡ None → filter_map sourced_path (with_statement at o read)
@@ -605,11 +574,8 @@ module _ (w : World) (r : FileSource) (among : AreAmong r.bytes w.bytes) where
     where
       no_test : (a b c d : Bool) (x y z : MacroKind) → a ≡ false → b ≡ false → c ≡ false → d ≡ false
           → cond a (Some x) (cond b (Some y) (cond (c || d) (Some z) None)) ≡ None
-      no_test true b c d x y z ha hb hc hd = let n : ⊥ = cc in absurd n
-      no_test false true c d x y z ha hb hc hd = let n : ⊥ = cc in absurd n
-      no_test false false true d x y z ha hb hc hd = let n : ⊥ = cc in absurd n
-      no_test false false false true x y z ha hb hc hd = let n : ⊥ = cc in absurd n
       no_test false false false false x y z ha hb hc hd = refl
+      no_test a b c d x y z ha hb hc hd = let n : ⊥ = cc in absurd n
 
   -- the state where a source begins
   source_begins : (start read : List Group) (opened : List (List ℕ)) (position : Position) (path : List ℕ) (s : ReadingState) (room : HasRoom r read path)

@@ -6,11 +6,6 @@ use Rattle.std.specs.declared.alloc.Global.{Global}
 use Rattle.std.proofs.lemmas.List.{reverse-append}
 use Rattle.indexmap.specs.IndexMap.{insert_entry}
 use Rattle.kc_tree_model.specs.Limits.{is_in_list}
-use Rattle.kc_macros_model.specs.declared.token_sort.TokenSort.TheVariants.{Word}
-use Rattle.kc_macros_model.specs.WrittenTokens.{WrittenToken, written_as}
-use Rattle.kc_macros_model.specs.LineForms.{line_bytes, with_nth_token}
-use Rattle.kc_macros_model.specs.ReadingStates.{ReadingState, progress, with_choice}
-use Rattle.kc_macros_model.specs.TreeExpansion.{choice_written}
 use Rattle.kc_expansion.specs.checker.ChoiceViews.{name_of_entry}
 use Rattle.kc_files.proofs.TableLemmas.{bytes_eq_turned}
 use Rattle.kc_expansion.proofs.SourceFaultLemmas.{in_reverse}
@@ -53,20 +48,3 @@ pub name_inserted : (es : List Entry) (k : Vec ℕ Global) (v : Unit {0}) → is
     → reverse (map name_of_entry (insert_entry (λ (a b : Vec ℕ Global). bytes_eq a.items b.items) es k v)) ≡ k.items ∷ reverse (map name_of_entry es)
 name_inserted es k v h = ap reverse (last_inserted es k v (sym (in_reverse k.items (map name_of_entry es)) ∙ h))
     ∙ reverse-append (map name_of_entry es) (k.items ∷ [])
-
--- a line that names a choice whose name was read before is written as its tokens are, and the names of choices stay
-pub later_choice : (ts : List WrittenToken) (name t : List ℕ) (s : ReadingState) (names : List (List ℕ)) → s.choices ≡ names → is_in_list name names ≡ true
-    → t ≡ line_bytes ts
-    → choice_written ts name s ≡ progress t (record s { choices = names })
-later_choice ts name t s names h e k =
-    ap (λ b. cond b (progress (line_bytes ts) s) (progress (line_bytes (with_nth_token 1 (written_as Word [] []) ts)) (with_choice name s)))
-    (ap (is_in_list name) h ∙ e)
-    ∙ ap (λ x. progress x s) (sym k) ∙ ap (λ ns. let u : ReadingState = record s { choices = ns } in progress t u) h
-
-pub first_choice : (ts : List WrittenToken) (name t : List ℕ) (s : ReadingState) (names : List (List ℕ)) → s.choices ≡ names → is_in_list name names ≡ false
-    → t ≡ line_bytes (with_nth_token 1 (written_as Word [] []) ts)
-    → choice_written ts name s ≡ progress t (record s { choices = name ∷ names })
-first_choice ts name t s names h e k =
-    ap (λ b. cond b (progress (line_bytes ts) s) (progress (line_bytes (with_nth_token 1 (written_as Word [] []) ts)) (with_choice name s)))
-    (ap (is_in_list name) h ∙ e)
-    ∙ ap (λ x. progress x (with_choice name s)) (sym k) ∙ ap (λ ns. let u : ReadingState = record s { choices = name ∷ ns } in progress t u) h

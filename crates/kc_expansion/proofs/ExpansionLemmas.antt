@@ -15,18 +15,19 @@ use Rattle.kc_answers.specs.RunStates.{RunState, open_questions, run_at_start}
 use Rattle.kc_macros.specs.declared.stop.MacroFault.{MacroFault}
 use Rattle.kc_macros.specs.declared.stop.Stop.{Stop}
 use Rattle.kc_macros.specs.declared.stop.Stop.TheVariants as kinds
-use Rattle.kc_macros.specs.Runs.{RunEnd, ends, end_of, fault_of}
+use Rattle.kc_macros.specs.Runs.{RunEnd, ends, end_of, end_of_stop, fault_of}
+use Rattle.kc_macros.specs.between.Stops.{FailsWith}
 use Rattle.kc_macros.proofs.RunLemmas.{RunsIn}
 use Rattle.kc_macros_model.proofs.BoundedReadings.{files_are_bounded}
 use Rattle.kc_macros_model.proofs.KnownTrees.{expansion_never_stops}
-use Rattle.kc_expansion.specs.Expansions.{ending_of, tree_of, IsExpansion, IsCountedExpansion, AreWanted, AreCountedWanted, AreUnused, AreCountedUnused}
+use Rattle.kc_expansion.specs.Expansions.{ending_of, tree_of, IsExpansion, IsCountedExpansion, AreCountedWanted, AreCountedUnused}
 use Rattle.kc_files.specs.TreeContents.{TreeContents, StaysKnown, HasRisen, IsWorldOf, IsWholeWorldOf}
 use Rattle.kc_files.specs.between.KnownFiles.{FileRead, missing, KnownFiles, AreBytes, AreAsKnown, Grows}
 use Rattle.kc_expansion.specs.between.Reads.{FileRun, Reaches, Reads}
 use Rattle.kc_expansion.specs.checker.ExpansionViews.{nothing_known, with_root, GoesOn, HasEnded}
 use Rattle.kc_expansion.specs.checker.ProgramSteps.{Leads}
 use Rattle.kc_expansion.specs.checker.ReadingViews.{reader_for, fault_at}
-use Rattle.kc_expansion.proofs.FileProgramLemmas.{reaches_in, leads_read, leads_on, reads_value, reads_early}
+use Rattle.kc_expansion.proofs.FileProgramLemmas.{reaches_in, leads_read, leads_on, reads_value, reads_early, reads_on, reads_fails}
 use Rattle.kc_expansion.proofs.WorldLemmas.{world_of, world_agrees, world_allowed, world_whole, world_answers, first_sight}
 
 nothing_as_known : (contents : TreeContents) (counted : ℕ) → AreAsKnown contents counted nothing_known
@@ -59,7 +60,7 @@ module _ (contents : TreeContents) (b : FileRun) (answers : RecordedAnswers) (ro
         → IsCountedExpansion contents contents.failures b.contents.failures answers root notices tree
     unfolding expansion
     expansion_read notices tree h r =
-        let run = reaches_in here b.known (run_at_start answers true) b.run (tree_read root) (ending_of tree) (world_agrees later contents.failures b.known answers as_known)
+        let run = reaches_in (world_agrees later contents.failures b.known answers as_known)
         (world_answers later contents.failures b.known answers as_known) r in (
           record {
             world = here;
@@ -77,7 +78,7 @@ module _ (contents : TreeContents) (b : FileRun) (answers : RecordedAnswers) (ro
       reading_here = outcome false here MAX_WORK (tree_read root)
 
       run_here : RunsIn here (run_at_start answers false) b.run (tree_read root) e
-      run_here = reaches_in here b.known (run_at_start answers false) b.run (tree_read root) e (world_agrees later contents.failures b.known answers as_known)
+      run_here = reaches_in (world_agrees later contents.failures b.known answers as_known)
           (world_answers later contents.failures b.known answers as_known) r
 
       -- the questions of the run are those of the reading
@@ -124,7 +125,7 @@ module _ (contents : TreeContents) (b : FileRun) (answers : RecordedAnswers) (ro
     pub never_stopped : Reaches b.known (run_at_start answers true) b.run (tree_read root) (ends stopped) → ⊥
     unfolding expansion
     never_stopped r =
-        let run = reaches_in here b.known (run_at_start answers true) b.run (tree_read root) stopped (world_agrees later contents.failures b.known answers as_known)
+        let run = reaches_in (world_agrees later contents.failures b.known answers as_known)
         (world_answers later contents.failures b.known answers as_known) r in
         expansion_never_stops here root run.ending
 
@@ -181,16 +182,13 @@ unused_of contents b answers root stays grows view r of (Ok w) questions answere
 unused_of contents b answers root stays grows view r of (Err x) questions answered rest q n h ended k = tt
 
 -- where the lines of the first file are read, the expanded files are those that were sourced with the first file after them
-pub root_ends : {X : Type 0} (b c : FileRun) (p : Program Progress) (root : List ℕ) (s : ReadingState) (view : X → List ℕ) (r : Result X Stop)
+pub root_ends : {X : Type 0} {b c : FileRun} (p : Program Progress) (root : List ℕ) (s : ReadingState) (view : X → List ℕ) (r : Result X Stop)
     → Reads b c p (end_of (λ x. progress (view x) s) r)
     → Reads b c (p >>= λ q. returns (q.state.expanded ++ record { key = root; path = root; text = q.text } ∷ []))
     (end_of (λ x. with_root root (view x) s.expanded) r)
-root_ends b c p root s view (Ok x) h =
-    let f = λ (q : Progress). returns (q.state.expanded ++ record { key = root; path = root; text = q.text } ∷ []) in
-    reads_value b c (p >>= f) (with_root root (view x) s.expanded) (leads_on b c p f (progress (view x) s) h)
-root_ends b c p root s view (Err stop) h =
-    let f = λ (q : Progress). returns (q.state.expanded ++ record { key = root; path = root; text = q.text } ∷ []) in
-    reads_early b c p f stop h
+root_ends p root s view (Ok x) h =
+    reads_value (leads_on (λ q. returns (q.state.expanded ++ record { key = root; path = root; text = q.text } ∷ [])) h)
+root_ends p root s view (Err stop) h = reads_early (λ q. returns (q.state.expanded ++ record { key = root; path = root; text = q.text } ∷ [])) stop h
 
 -- the first file
 root_by : (root : List ℕ) (s : ReadingState) (bytes : List ℕ) → Bool → Program (List ExpandedFile)
@@ -224,13 +222,19 @@ counted_first s n len h k =
     ∙ ap (λ m. let t : ReadingState = record initial_state { files = 1; bytes = m } in t) (let e : n ≡ 0 + len = omega (arith, k) in e)
     ∙ ap (counted len) (sym h)
 
-pub root_leads : (a b : FileRun) (root : List ℕ) (s : ReadingState) (read : FileRead) (q : Program (List ExpandedFile)) → s ≡ initial_state
+pub root_leads : {a b : FileRun} (root : List ℕ) (s : ReadingState) {read : FileRead} {q : Program (List ExpandedFile)} → s ≡ initial_state
     → StaysKnown a.contents b.contents → Grows a.contents b.contents a.known b.known → b.run ≡ a.run
     → keyword_in_table b.known.files root ≡ Some read → ((bytes : Option (List ℕ)) → AreBytes read bytes → root_read root s bytes ≡ q)
     → Leads a (tree_read root) b q
 unfolding tree_read
-root_leads a b root s read q i same grows run known h =
-    leads_read a b root (root_read root initial_state) q read same grows run known (λ bytes e. ap (λ t. root_read root t bytes) (sym i) ∙ h bytes e)
+root_leads root s i same grows run known h =
+    leads_read same grows run known (λ bytes e. ap (λ t. root_read root t bytes) (sym i) ∙ h bytes e)
+
+pub root_faults : {a b : FileRun} (root : List ℕ) (s : ReadingState) (stop : Stop) {read : FileRead} {f : Fault} → s ≡ initial_state
+    → StaysKnown a.contents b.contents → Grows a.contents b.contents a.known b.known → b.run ≡ a.run
+    → keyword_in_table b.known.files root ≡ Some read → ((bytes : Option (List ℕ)) → AreBytes read bytes → root_read root s bytes ≡ fails f)
+    → FailsWith f stop → Reads a b (tree_read root) (end_of_stop stop)
+root_faults root s stop i same grows run known h k = reads_on (root_leads root s i same grows run known h) (reads_fails stop refl k)
 
 -- an expansion returns no more expanded files than files may be read for a tree
 pub few_files : (contents : TreeContents) (answers : RecordedAnswers) (root : List ℕ) (notices : List Notice) (tree : Result (List ExpandedFile) MacroFault)

@@ -1,5 +1,5 @@
 -- Lines that begin help texts, by their bytes.
-use Rattle.std.proofs.Common.{◌≡◌, ℕ, suc, ◌+◌, ◌<◌, ◌≤◌, ◌⊎◌, inl, inr, Bool, true, false, cond, not, ◌||◌, ◌&&◌, List, [], ◌∷◌, ◌++◌, length, take, drop, get_or, Some, None, Result, Ok, Err, refl, sym, ap, ◌∙◌, subst, arith}
+use Rattle.std.proofs.Common.{◌≡◌, ℕ, ◌+◌, ◌<◌, ◌≤◌, ◌⊎◌, inl, inr, Bool, true, false, cond, not, ◌||◌, ◌&&◌, List, [], ◌∷◌, ◌++◌, length, take, drop, get_or, Some, None, Result, Ok, Err, refl, sym, ap, ◌∙◌, subst, arith}
 use Rattle.std.specs.Prelude.{◌==◌, bytes_eq, codes, take_while}
 use Rattle.std.specs.List.{list_all}
 use Rattle.std.proofs.lemmas.Slice.Eq.{bytes_eq-Decides}
@@ -10,23 +10,15 @@ use Rattle.kc_tokens.specs.Token.{Lexeme, is_white_byte, is_word_byte, lexemes_f
 use Rattle.kc_tokens.specs.TokenGrammar.{IsToken, IsLongest, IsCut, ends, comment, white, token}
 use Rattle.kc_tokens.specs.declared.fault.ExprFault.{ExprFault}
 use Rattle.kc_tokens.specs.declared.language.Language.TheVariants.{Strict}
-use Rattle.kc_tokens.specs.declared.token.Relop.TheVariants.{Equal, NotEqual, Less, Greater, LessEqual, GreaterEqual}
+use Rattle.kc_tokens.specs.declared.token.Relop.TheVariants.{Equal}
 use Rattle.kc_tokens.specs.declared.token.TokenKind.{TokenKind}
-use Rattle.kc_tokens.specs.declared.token.TokenKind.TheVariants.{Word, Quoted, Relation, Not, And, Or, Open, Close}
+use Rattle.kc_tokens.specs.declared.token.TokenKind.TheVariants.{Word, Quoted, Relation}
 use Rattle.kc_tokens.proofs.CutLaws.{read_cut}
 use Rattle.kc_tokens.proofs.TokenLaws.{cut_read, front_run, run_all, run_front, quote_facts}
 use Rattle.kc_tree_model.specs.Keywords.{keywords, keyword_in_table, is_word_kind, keyword_of}
 use Rattle.kc_tree_model.specs.LogicalLines.{is_help_word, is_help, is_help_or_fault, begins_help}
 use Rattle.kc_tree_model.specs.declared.keyword.Keyword.{Keyword}
 use Rattle.kc_expansion.specs.checker.HelpWords.{is_comment_or_none, is_end}
-
-pub front_length : (p : ℕ → Bool) (s : List ℕ) → length (take_while p s) ≤ length s
-front_length p [] = omega arith
-front_length p (c ∷ s) = rw take_while-cons (by_test (p c) (front_length p s))
-  where
-    by_test : (b : Bool) → length (take_while p s) ≤ length s → length (cond b (c ∷ take_while p s) []) ≤ suc (length s)
-    by_test true h = omega arith
-    by_test false h = omega arith
 
 abbrev pub is_help_text : List ℕ → Bool
 is_help_text w = bytes_eq w (codes "help") || bytes_eq w (codes "---help---")
@@ -163,16 +155,7 @@ unfolding first_of
 other_first Word front is = inl refl
 other_first Quoted front is = inr (ap first_of is.parts ∙ (quote_facts is.quote is.sort).2)
 other_first (Relation Equal) front is = inr (ap first_of is)
-other_first (Relation NotEqual) front is = inr (ap first_of is)
-other_first (Relation Less) front is = inr (ap first_of is)
-other_first (Relation Greater) front is = inr (ap first_of is)
-other_first (Relation LessEqual) front is = inr (ap first_of is)
-other_first (Relation GreaterEqual) front is = inr (ap first_of is)
-other_first Not front is = inr (ap first_of is)
-other_first And front is = inr (ap first_of is)
-other_first Or front is = inr (ap first_of is)
-other_first Open front is = inr (ap first_of is)
-other_first Close front is = inr (ap first_of is)
+other_first x front is = inr (ap first_of is)
 
 word_longest : (s : List ℕ) → first_of s ≡ true → IsLongest Strict (take_while is_word_byte s) s
 unfolding first_of

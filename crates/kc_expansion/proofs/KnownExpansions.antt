@@ -1,8 +1,8 @@
 -- Expansions of known trees.
-use Rattle.std.proofs.Common.{◌≡◌, ℕ, Bool, false, ◌||◌, List, Option, Some, None, refl, sym, ap, ◌∙◌, ◌⊎◌, inl, inr}
+use Rattle.std.proofs.Common.{◌≡◌, ℕ, Bool, false, ◌||◌, List, Option, Some, None, refl, ap, ◌∙◌, ◌⊎◌, inl, inr}
 use Rattle.std.specs.Prelude.{is_some}
 use Rattle.kc_macros_model.specs.ReadingStates.{ExpandedFile}
-use Rattle.kc_macros_model.specs.Worlds.{World, Outcome, expansion}
+use Rattle.kc_macros_model.specs.Worlds.{World, Outcome}
 use Rattle.kc_macros_model.specs.ProgramLaws.{IsReadInPart}
 use Rattle.kc_macros_model.specs.AnswerFiles.{RecordedAnswers}
 use Rattle.kc_macros_model.proofs.FailedReads.{failed_reads}

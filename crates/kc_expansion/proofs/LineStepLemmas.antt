@@ -11,15 +11,18 @@ use Rattle.kc_macros_model.specs.Variables.{Value, with_variable}
 use Rattle.kc_macros_model.specs.EnvironmentLines.{meant_line}
 use Rattle.kc_macros_model.specs.LineTokens.{line_tokens}
 use Rattle.kc_macros_model.specs.WrittenTokens.{WrittenToken}
-use Rattle.kc_macros_model.specs.Assignments.{assigns, assigned, line_content, variable_assigned}
+use Rattle.kc_macros_model.specs.Assignments.{LineContent, assigns, assigned, line_content, variable_assigned}
 use Rattle.kc_macros_model.specs.LineForms.{SourceSort, LineForm, sources, form_of, is_help_line, is_undecided}
 use Rattle.kc_macros_model.specs.ReadingStates.{ReadingState, progress, WrittenLine, written_line}
 use Rattle.kc_macros_model.specs.TreeExpansion.{SourceReader, short_line, form_written, tokens_written, content_written, line_written, source_followed}
-use Rattle.kc_macros_model.specs.Worlds.{stopped}
+use Rattle.kc_macros_model.specs.Worlds.{stopped, returned}
 use Rattle.kc_macros.specs.declared.stop.Stop.{Stop}
 use Rattle.kc_macros.specs.declared.stop.Stop.TheVariants as kinds
-use Rattle.kc_macros.specs.Runs.{ends, end_of_stop}
-use Rattle.kc_expansion.specs.between.Reads.{FileRun, cut_short, Reads}
+use Rattle.kc_answers.specs.RunStates.{RunState}
+use Rattle.kc_macros.specs.Runs.{ends, end_of_stop, Runs}
+use Rattle.kc_files.specs.TreeContents.{TreeContents}
+use Rattle.kc_files.specs.between.KnownFiles.{KnownFiles}
+use Rattle.kc_expansion.specs.between.Reads.{FileRun, file_run, cut_short, Reads}
 use Rattle.kc_expansion.specs.checker.ProgramSteps.{Leads}
 use Rattle.kc_macros.specs.declared.assignments.Assignment.{Assignment}
 use Rattle.kc_expansion.specs.checker.SameLines.{Stays}
@@ -27,7 +30,7 @@ use Rattle.kc_expansion.specs.checker.ReadingViews.{fault_at, assigned_or_fault,
 use Rattle.kc_macro_lines.proofs.QuietLemmas.{narrow_is_utf8}
 use Rattle.kc_files.proofs.ProgramLemmas.{grouped}
 use Rattle.kc_files.proofs.StoreLemmas.{stays_same, grows_same}
-use Rattle.kc_expansion.proofs.FileProgramLemmas.{leads_same, reads_on, reads_stop}
+use Rattle.kc_expansion.proofs.FileProgramLemmas.{leads_same, leads_then, leads_on, reads_on, reads_early, reads_by_run, reads_stop}
 
 module _ (at : Place) (help : Bool) (text : List ℕ) (s : ReadingState) where
   by_length : Bool → Program WrittenLine
@@ -41,11 +44,6 @@ module _ (at : Place) (help : Bool) (text : List ℕ) (s : ReadingState) where
   pub short_enough : length text ≤ MAX_TEXT_BYTES → short_line at help (progress text s) ≡ returns (written_line text help s)
   unfolding by_length
   short_enough h = ap by_length (let e : nat_lt MAX_TEXT_BYTES (length text) ≡ false = grind (arith, nat_tests) in e)
-
--- the result of a line with an equal text, and with the names of choices that the state has already, is the same result
-pub written_so : (t u : List ℕ) (s : ReadingState) (names : List (List ℕ)) → t ≡ u → s.choices ≡ names
-    → returns (progress u s) ≡ returns (let v : ReadingState = record s { choices = names } in progress t v)
-written_so t u s names h k = ap (λ x. returns (progress x s)) (sym h) ∙ ap (λ ns. let v : ReadingState = record s { choices = ns } in returns (progress t v)) k
 
 module _ (sub : SourceReader) (at : Place) (s : ReadingState) (ts real : List WrittenToken) where
   by_knowledge : Bool → Program WrittenLine
@@ -115,29 +113,51 @@ assigned_line sub at false s a =
     sym (grouped (variable_assigned at s.bindings a.operator a.text (s.bindings a.name)) (λ v. returns (with_variable a.name v s.bindings))
     (λ b. let t : ReadingState = record s { bindings = b } in returns (written_line [] false t)))
 
--- the writing of a line whose form is written as a text leads to that text, if it is short enough
-pub text_written : (a : FileRun) (sub : SourceReader) (at : Place) (s u : ReadingState) (ts real : List WrittenToken) (form : LineForm) (t : List ℕ)
-    (help : Bool) → is_undecided real ≡ false → form_of real ≡ form → help ≡ is_help_line real
-    → form_written sub at ts form s ≡ returns (progress t u) → Leads a (tokens_written sub at s ts real) a (short_line at help (progress t u))
-text_written a sub at s u ts real form t help d f h w =
-    leads_same a (tokens_written sub at s ts real) (short_line at help (progress t u))
-    (decided sub at s ts real form d f ∙ ap (λ p. p >>= short_line at (is_help_line real)) w ∙ ap (λ b. short_line at b (progress t u)) (sym h))
+-- a line that is UTF-8 and not too long, as code reads its content by a run
+module _ {contents : TreeContents} {known : KnownFiles} {run new : RunState} (sub : SourceReader) (at : Place) (continued : Bool) (text : List ℕ)
+    (s : ReadingState) (h : (nat_lt MAX_TEXT_BYTES (length text) || not (is_utf8 text)) ≡ false) where
+  pub content_unread : (stop : Stop) → Runs run new (line_content at s.bindings true (line_tokens 0 (meant_line text))) (end_of_stop stop)
+      → Reads (file_run contents known run) (file_run contents known new) (line_written sub at continued text s) (end_of_stop stop)
+  content_unread stop r =
+      reads_on (leads_same (changing_line sub at continued text s h)) (reads_early (content_written sub at continued s) stop (reads_by_run r))
 
--- a `source` line whose path isn't known, or isn't copied for lack of memory, ends by that stop
-pub path_unknown : (a : FileRun) (sub : SourceReader) (at : Place) (ts : List WrittenToken) (sort : SourceSort) (path : Value) (s : ReadingState) (help : Bool)
-    (stop : Stop) → IsNoPath path stop
-    → Reads a a (form_written sub at ts (sources sort path) s >>= short_line at help) (end_of_stop stop)
-path_unknown a sub at ts sort path s help (kinds.Fault f) h = absurd h
-path_unknown a sub at ts sort path s help kinds.Unanswered h =
-    reads_on a a a (form_written sub at ts (sources sort path) s >>= short_line at help) stops (ends stopped)
-    (leads_same a (form_written sub at ts (sources sort path) s >>= short_line at help) stops
-    (ap (λ v. form_written sub at ts (sources sort v) s >>= short_line at help) h)) (reads_stop a)
-path_unknown a sub at ts sort path s help kinds.OutOfMemory h = record { same = stays_same a.contents; grows = grows_same a.contents a.known; reaches = cut_short }
+  pub content_read : {x y : LineContent} → x ≡ y → Runs run new (line_content at s.bindings true (line_tokens 0 (meant_line text))) (ends (returned x))
+      → Leads (file_run contents known run) (line_written sub at continued text s) (file_run contents known new) (content_written sub at continued s y)
+  content_read e r =
+      leads_then (leads_same (changing_line sub at continued text s h))
+      (leads_then (leads_on (content_written sub at continued s) (reads_by_run r)) (leads_same (ap (content_written sub at continued s) e)))
 
-pub path_known : (a : FileRun) (sub : SourceReader) (at : Place) (s : ReadingState) (ts real : List WrittenToken) (sort : SourceSort) (path : Value)
-    (given : List ℕ) → is_undecided real ≡ false → form_of real ≡ sources sort path → path ≡ Some given
-    → Leads a (tokens_written sub at s ts real) a (source_followed sub at ts sort (Some given) s >>= short_line at false)
-path_known a sub at s ts real sort path given d f h =
-    leads_same a (tokens_written sub at s ts real) (source_followed sub at ts sort (Some given) s >>= short_line at false)
-    (decided sub at s ts real (sources sort path) d f ∙ ap (λ b. source_followed sub at ts sort path s >>= short_line at b) (no_help_of_source real sort path f)
-    ∙ ap (λ v. source_followed sub at ts sort v s >>= short_line at false) h)
+  pub assignment_read : {x : LineContent} (a : Assignment) → x ≡ assigns a.name (assigned a.operator a.text)
+      → Runs run new (line_content at s.bindings true (line_tokens 0 (meant_line text))) (ends (returned x))
+      → Leads (file_run contents known run) (line_written sub at continued text s) (file_run contents known new)
+      (assigned_or_fault at continued s.bindings a >>= λ b. let t : ReadingState = record s { bindings = b } in returns (written_line [] false t))
+  assignment_read a e r = leads_then (content_read e r) (leads_same (assigned_line sub at continued s a))
+
+-- the tokens of a line, by whether their form is decided
+module _ {a : FileRun} (sub : SourceReader) (at : Place) (s : ReadingState) (ts real : List WrittenToken) {shown : Bool} (k : shown ≡ is_undecided real) where
+  pub stops_undecided : shown ≡ true → Reads a a (tokens_written sub at s ts real) (ends stopped)
+  stops_undecided h = reads_on (leads_same (undecided sub at s ts real (sym k ∙ h))) reads_stop
+
+  module _ (h : shown ≡ false) where
+    -- the writing of a line whose form is written as a text leads to that text, if it is short enough
+    pub text_written : (form : LineForm) (t : List ℕ) (u : ReadingState) (help : Bool) → form ≡ form_of real → help ≡ is_help_line real
+        → form_written sub at ts form s ≡ returns (progress t u) → Leads a (tokens_written sub at s ts real) a (short_line at help (progress t u))
+    text_written form t u help f e w =
+        leads_same (decided sub at s ts real form (sym k ∙ h) (sym f) ∙ ap (λ p. p >>= short_line at (is_help_line real)) w
+        ∙ ap (λ b. short_line at b (progress t u)) (sym e))
+
+    module _ (sort : SourceSort) (path : Value) (f : sources sort path ≡ form_of real) where
+      -- a `source` line whose path isn't known, or isn't copied for lack of memory, ends by that stop
+      pub path_unknown : (stop : Stop) → IsNoPath path stop → Reads a a (tokens_written sub at s ts real) (end_of_stop stop)
+      path_unknown (kinds.Fault f) n = absurd n
+      path_unknown kinds.Unanswered n =
+          reads_on (leads_same (decided sub at s ts real (sources sort path) (sym k ∙ h) (sym f)
+          ∙ ap (λ v. form_written sub at ts (sources sort v) s >>= short_line at (is_help_line real)) n)) reads_stop
+      path_unknown kinds.OutOfMemory n = record { same = stays_same a.contents; grows = grows_same a.contents a.known; reaches = cut_short }
+
+      pub path_known : (given : List ℕ) → path ≡ Some given
+          → Leads a (tokens_written sub at s ts real) a (source_followed sub at ts sort (Some given) s >>= short_line at false)
+      path_known given n =
+          leads_same (decided sub at s ts real (sources sort path) (sym k ∙ h) (sym f)
+          ∙ ap (λ b. source_followed sub at ts sort path s >>= short_line at b) (no_help_of_source real sort path (sym f))
+          ∙ ap (λ v. source_followed sub at ts sort v s >>= short_line at false) n)

@@ -21,7 +21,7 @@ use Rattle.kc_expansion.proofs.FileProgramLemmas.{leads_same, leads_then, leads_
 use Rattle.kc_files.proofs.TableLemmas.{bytes_eq_same}
 use Rattle.kc_expansion.proofs.LinePlaceLemmas.{text_further, lines_between, lines_stay, lines_after, line_in_front, some_lines}
 
-module _ (sub : SourceReader) (file bytes : List ℕ) (start : LineStart) (there : start.at < length bytes) (text : List ℕ) (next lines : ℕ)
+module _ (sub : SourceReader) (file : List ℕ) {bytes : List ℕ} (start : LineStart) (there : start.at < length bytes) {text : List ℕ} {next lines : ℕ}
     (logical : IsLogicalAt bytes start.at text next lines) (s : ReadingState) (done : List ℕ) where
   abbrev all : List PhysicalLine
   all = split_at_newlines (drop start.at bytes)
@@ -44,12 +44,11 @@ module _ (sub : SourceReader) (file bytes : List ℕ) (start : LineStart) (there
       ∙ grouped written_here (lines_after sub file lines start.number all text) (λ rest. returns (progress (done ++ rest.text) rest.state))
 
   -- where the writing of a line stops, the reading of the remaining lines of its file stops in the same way
-  pub line_stopped : (a b : FileRun) (stop : Stop) → Reads a b written_here (end_of_stop stop) → Reads a b (lines_left sub file start done all s)
-      (end_of_stop stop)
-  line_stopped a b stop r = reads_on a a b (lines_left sub file start done all s) (written_here >>= after_line) (end_of_stop stop)
-      (leads_same a (lines_left sub file start done all s) (written_here >>= after_line) line_first) (reads_early a b written_here after_line stop r)
+  pub line_stopped : {a b : FileRun} (stop : Stop) → Reads a b written_here (end_of_stop stop)
+      → Reads a b (lines_left sub file start done all s) (end_of_stop stop)
+  line_stopped stop r = reads_on (leads_same line_first) (reads_early after_line stop r)
 
-  module _ (new : List ℕ) (help : Bool) (t : ReadingState) (after past : LineStart) (at_next : after.at ≡ next) (number : after.number ≡ start.number + lines)
+  module _ (new : List ℕ) {help : Bool} (t : ReadingState) {after past : LineStart} (at_next : after.at ≡ next) (number : after.number ≡ start.number + lines)
       (passed : IsHelpPassed bytes after help past) where
     abbrev later : List PhysicalLine
     later = split_at_newlines (drop after.at bytes)
@@ -82,16 +81,11 @@ module _ (sub : SourceReader) (file bytes : List ℕ) (start : LineStart) (there
 
     -- where a line was written, the reading of the remaining lines of its file leads to that of the lines after it and its help
     -- text
-    pub line_passed : (a b : FileRun) (out : List ℕ) → out ≡ text_after → Reads a b written_here (ends (returned (written_line new help t)))
+    pub line_passed : {a b : FileRun} (out : List ℕ) → out ≡ text_after → Reads a b written_here (ends (returned (written_line new help t)))
         → Leads a (lines_left sub file start done all s) b (lines_left sub file past out (split_at_newlines (drop past.at bytes)) t)
-    line_passed a b out e r =
-        let p = lines_left sub file start done all s in
-        let q = lines_left sub file past out (split_at_newlines (drop past.at bytes)) t in
-        leads_then a a b p (written_here >>= after_line) q (leads_same a p (written_here >>= after_line) line_first)
-        (leads_then a b b (written_here >>= after_line) (after_line (written_line new help t)) q
-        (leads_on a b written_here after_line (written_line new help t) r)
-        (leads_same b (after_line (written_line new help t)) q (line_goes_on ∙ ap (λ x. lines_left sub file past x (split_at_newlines (drop past.at bytes)) t)
-        (sym e))))
+    line_passed out e r =
+        leads_then (leads_then (leads_same line_first) (leads_on after_line r))
+        (leads_same (line_goes_on ∙ ap (λ x. lines_left sub file past x (split_at_newlines (drop past.at bytes)) t) (sym e)))
 
     -- the text of a file up to the place after a line's help text is the text up to the place after the line with the bytes of
     -- the help text
@@ -112,10 +106,10 @@ stayed out bytes at next lines text o c h w =
     ∙ lines_between bytes at next lines h w))
 
 -- a file that can be written on from a line can be written on from the place after the line and its help text
-pub written_next : (bytes text : List ℕ) (start after past : LineStart) (next lines : ℕ) (help : Bool) (before out : WrittenFile)
+pub written_next : {bytes text : List ℕ} {start after past : LineStart} {next lines : ℕ} {help : Bool} {before : WrittenFile} (out : WrittenFile)
     → IsWrittenTo bytes start before → IsLogicalAt bytes start.at text next lines → after.at ≡ next → after.number ≡ start.number + lines
     → IsHelpPassed bytes after help past → out.original.value.items ≡ bytes → out.copied ≤ next → IsWrittenTo bytes past out
-written_next bytes text start after past next lines help before out w l a n p o c = record {
+written_next out w l a n p o c = record {
   original = o;
   copied = omega (arith, c, a, p.from);
   within = p.within;

@@ -225,16 +225,7 @@ no_dollar_token language Word [] rest is = absurd (omega (arith, is.0))
 no_dollar_token language Word (c ∷ s) rest is = other_byte c 36 is_word_byte (first_so (is_word_byte c) (list_all is_word_byte s) is.1) refl
 no_dollar_token language Quoted text rest is = dollar_by (ap (λ x. x ++ rest) is.parts) (other_byte is.quote 36 is_quote is.sort refl)
 no_dollar_token language (Relation Equal) text rest is = dollar_by (ap (λ x. x ++ rest) is) refl
-no_dollar_token language (Relation NotEqual) text rest is = dollar_by (ap (λ x. x ++ rest) is) refl
-no_dollar_token language (Relation Less) text rest is = dollar_by (ap (λ x. x ++ rest) is) refl
-no_dollar_token language (Relation Greater) text rest is = dollar_by (ap (λ x. x ++ rest) is) refl
-no_dollar_token language (Relation LessEqual) text rest is = dollar_by (ap (λ x. x ++ rest) is) refl
-no_dollar_token language (Relation GreaterEqual) text rest is = dollar_by (ap (λ x. x ++ rest) is) refl
-no_dollar_token language Not text rest is = dollar_by (ap (λ x. x ++ rest) is) refl
-no_dollar_token language And text rest is = dollar_by (ap (λ x. x ++ rest) is) refl
-no_dollar_token language Or text rest is = dollar_by (ap (λ x. x ++ rest) is) refl
-no_dollar_token language Open text rest is = dollar_by (ap (λ x. x ++ rest) is) refl
-no_dollar_token language Close text rest is = dollar_by (ap (λ x. x ++ rest) is) refl
+no_dollar_token language y text rest is = dollar_by (ap (λ x. x ++ rest) is) refl
 
 no_dollar_front : (language : Language) (at : ℕ) (s : List ℕ) (ps : List Lexeme) → IsCut language at s ps → begins_with_dollar s ≡ false
 no_dollar_front language at s ps ends = refl

@@ -25,11 +25,6 @@ part_none : (p : List Group → Outcome) (at : Position) (o : Outcome) (k : Opti
 part_none p at o (Some f) e h = h
 part_none p at o None e h = e
 
-kind_none : (f : List ℕ → List Group → Outcome) (p : List Group → Outcome) (at : Position) (path : List ℕ) (read : List Group) (k : Option TreeKind)
-    → (continue_after_source f p at path read k).fault ≡ None → k ≡ None
-kind_none f p at path read (Some k) h = let z : ⊥ = cc in absurd z
-kind_none f p at path read None h = refl
-
 end_read : (file : ℕ) (read : List Group) (o : Option (Group × Block)) → (at_file_end file read o).read ≡ read
 end_read file read None = refl
 end_read file read (Some o) = refl

@@ -17,7 +17,7 @@ use Rattle.kc_expansion.specs.checker.Sizes.{size_fault}
 use Rattle.kc_macros.specs.between.SliceTexts.{texts_of_slices}
 use Rattle.kc_expansion.specs.checker.ReadingViews.{MayBeRead, MayNotBeRead}
 
-any_both : (x : List ℕ) (xs ys : List (List ℕ)) → is_in_list x (xs ++ ys) ≡ (is_in_list x xs || is_in_list x ys)
+pub any_both : (x : List ℕ) (xs ys : List (List ℕ)) → is_in_list x (xs ++ ys) ≡ (is_in_list x xs || is_in_list x ys)
 any_both x [] ys = refl
 any_both x (y ∷ xs) ys = by_test (bytes_eq y x) (any_both x xs ys)
   where
@@ -26,7 +26,7 @@ any_both x (y ∷ xs) ys = by_test (bytes_eq y x) (any_both x xs ys)
     by_test true ih = refl
     by_test false ih = ih
 
-or_turned : (a b : Bool) → (a || (b || false)) ≡ (b || a)
+pub or_turned : (a b : Bool) → (a || (b || false)) ≡ (b || a)
 or_turned true true = refl
 or_turned true false = refl
 or_turned false true = refl
@@ -80,14 +80,12 @@ no_limit_passed n files bytes h = by_tests (nat_le MAX_OPEN_FILES n) (nat_le MAX
   where
     by_tests : (a b c : Bool) → nat_le MAX_OPEN_FILES n ≡ a → nat_le MAX_FILES files ≡ b → nat_lt MAX_TREE_BYTES bytes ≡ c
         → cond a (Some TooDeep) (cond (b || c) (Some TooMany) None) ≡ None → (n < MAX_OPEN_FILES) × (files < MAX_FILES) × (bytes ≤ MAX_TREE_BYTES)
-    by_tests true b c d e f h = absurd (let z : ⊥ = cc in z)
-    by_tests false true c d e f h = absurd (let z : ⊥ = cc in z)
-    by_tests false false true d e f h = absurd (let z : ⊥ = cc in z)
     by_tests false false false d e f h = (
       let x : n < MAX_OPEN_FILES = grind (arith, nat_tests) in x,
       let x : files < MAX_FILES = grind (arith, nat_tests) in x,
       let x : bytes ≤ MAX_TREE_BYTES = grind (arith, nat_tests) in x,
     )
+    by_tests a b c d e f h = absurd (let z : ⊥ = cc in z)
 
 -- the fault of a file's size is the same by the counts of files and bytes in the state of a reading and by equal counts
 pub fault_counted : (n files bytes len : ℕ) (s : ReadingState) → s.files ≡ files → s.bytes ≡ bytes → size_fault n s.files (s.bytes + len)

@@ -16,8 +16,8 @@ use Rattle.kc_expansion.proofs.FileProgramLemmas.{leads_on, leads_then, reads_on
 pub second_small : (m : ℕ) {n most : ℕ} → m + n ≤ most → n ≤ most
 second_small m h = omega arith
 
-module _ (a b d : FileRun) (opened : OpenFiles) (path : List ℕ) (whole : Program Progress) (lines : List (List ℕ) → Program Progress)
-    (o : Opens a b opened path whole lines) (paths : List (List ℕ)) (h : paths ≡ path ∷ texts_of_slices opened.paths.now) where
+module _ {a b : FileRun} {opened : OpenFiles} {path : List ℕ} {whole : Program Progress} {lines : List (List ℕ) → Program Progress}
+    (o : Opens a b opened path whole lines) {paths : List (List ℕ)} (h : paths ≡ path ∷ texts_of_slices opened.paths.now) where
   abbrev keeping : Progress → Program Progress
   keeping p = returns (stored_file opened.root.now path p)
 
@@ -25,12 +25,10 @@ module _ (a b d : FileRun) (opened : OpenFiles) (path : List ℕ) (whole : Progr
   inner_leads = subst (λ ps. Leads a whole b (lines ps >>= keeping)) (sym h) o.leads
 
   -- where the reading of its lines stops, the reading of the file stops in the same way
-  pub opened_halts : (stop : Stop) → Reads b d (lines paths) (end_of_stop stop) → Reads a d whole (end_of_stop stop)
-  opened_halts stop r =
-      reads_on a b d whole (lines paths >>= keeping) (end_of_stop stop) inner_leads (reads_early b d (lines paths) keeping stop r)
+  pub opened_halts : {d : FileRun} (stop : Stop) → Reads b d (lines paths) (end_of_stop stop) → Reads a d whole (end_of_stop stop)
+  opened_halts stop r = reads_on inner_leads (reads_early keeping stop r)
 
   -- where its lines were read, the reading of the file leads to the storing of its text
-  pub opened_ends : (text : List ℕ) (u : ReadingState) → Reads b d (lines paths) (ends (returned (progress text u)))
+  pub opened_ends : {d : FileRun} {text : List ℕ} {u : ReadingState} → Reads b d (lines paths) (ends (returned (progress text u)))
       → Leads a whole d (returns (stored_file opened.root.now path (progress text u)))
-  opened_ends text u r =
-      leads_then a b d whole (lines paths >>= keeping) (keeping (progress text u)) inner_leads (leads_on b d (lines paths) keeping (progress text u) r)
+  opened_ends r = leads_then inner_leads (leads_on keeping r)

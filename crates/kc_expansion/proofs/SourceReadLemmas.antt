@@ -14,6 +14,7 @@ use Rattle.kc_macros_model.specs.PathPatterns.{is_pattern, FoundPaths, paths_wit
 use Rattle.kc_macros_model.specs.ReadingStates.{ExpandedFile, ReadingState, Progress, progress, with_listed, counted, key_of, stored_file}
 use Rattle.kc_macros_model.specs.TreeExpansion.{SourceTarget, one_file, file_list, sourced_path, SourceReader, path_meant, list_name, source_line, pattern_read, path_read, source_followed, lines_read, list_read, source_fault, contents_read, sourced_read, source_read}
 use Rattle.kc_macros.specs.declared.stop.Stop.{Stop}
+use Rattle.kc_macros.specs.between.Stops.{FailsWith}
 use Rattle.kc_macros.specs.Runs.{RunEnd, ends, end_of_stop}
 use Rattle.kc_files.specs.TreeContents.{StaysKnown}
 use Rattle.kc_files.specs.between.KnownFiles.{FileRead, whole, AreBytes, Grows}
@@ -27,7 +28,7 @@ use Rattle.kc_files.specs.checker.ExpandedViews.{with_file}
 use Rattle.kc_macros.specs.between.SliceTexts.{texts_of_slices}
 use Rattle.kc_expansion.specs.declared.read_counts.ReadCounts.{ReadCounts}
 use Rattle.kc_files.proofs.ProgramLemmas.{grouped, same_rest, nothing_after}
-use Rattle.kc_expansion.proofs.FileProgramLemmas.{leads_same, leads_then, leads_on, leads_read, reads_on, reads_early}
+use Rattle.kc_expansion.proofs.FileProgramLemmas.{leads_same, leads_then, leads_on, leads_read, reads_on, reads_early, reads_fails}
 
 module _ (root : List ℕ) (open_files : List (List ℕ)) (at : Place) (what : SourceTarget) (s : ReadingState) where
   abbrev inner : SourceReader
@@ -64,53 +65,55 @@ module _ (root : List ℕ) (open_files : List (List ℕ)) (few : length open_fil
       ≡ sourced_read (reader_for root (name ∷ open_files)) root open_files at (file_list name paths) s (Some [])
   list_begins name paths = ap (λ n. source_read n root open_files at (file_list name paths) s) more_open
 
-module _ (a b : FileRun) (root : List ℕ) (open_files : List (List ℕ)) (few : length open_files ≤ MAX_OPEN_FILES)
-    (at : Place) (s : ReadingState) (counts : ReadCounts)
-    (c : AreCounts counts s) (path : List ℕ) (read : FileRead)
-    (same : StaysKnown a.contents b.contents) (grows : Grows a.contents b.contents a.known b.known) (run : b.run ≡ a.run)
-    (known : keyword_in_table b.known.files path ≡ Some read) where
-  -- the reading of a file that may not be read leads to its fault at the `source` line
-  pub file_refused : (kind : MacroKind) → MayNotBeRead open_files counts path read kind → Leads a (reader_for root open_files at (one_file path) s) b
-      (fails (fault_at at kind))
-  file_refused kind m =
-      let p = does (read_file path) (sourced_read (reader_for root (path ∷ open_files)) root open_files at (one_file path) s) in
-      leads_then a a b (reader_for root open_files at (one_file path) s) p (fails (fault_at at kind))
-      (leads_same a (reader_for root open_files at (one_file path) s) p (file_begins root open_files few at s path))
-      (leads_read a b path (sourced_read (reader_for root (path ∷ open_files)) root open_files at (one_file path) s)
-      (fails (fault_at at kind)) read same grows run known
-      (λ bytes h. may_not root open_files at (one_file path) s bytes kind (m.is_fault s c bytes h)))
+-- a file or a list that the code reads with these files open and these counts
+module _ (root : List ℕ) (os : List (Bor (List ℕ))) (few : length os ≤ MAX_OPEN_FILES) (at : Place) (s : ReadingState) (counts : ReadCounts)
+    (c : AreCounts counts s) where
+  abbrev open_files : List (List ℕ)
+  open_files = texts_of_slices os
 
-  -- the reading of a file that may be read leads to the reading of its lines, with the file open, and the storing of its text
-  pub file_opened : (bytes : List ℕ) → MayBeRead open_files counts path read bytes
-      → Leads a (reader_for root open_files at (one_file path) s) b (lines_read (reader_for root (path ∷ open_files)) path 0 1 (split_at_newlines bytes)
-      (counted (length bytes) s) >>= λ p. returns (stored_file root path p))
-  file_opened bytes m =
-      let sub = reader_for root (path ∷ open_files) in
-      let p = does (read_file path) (sourced_read sub root open_files at (one_file path) s) in
-      let q = lines_read sub path 0 1 (split_at_newlines bytes) (counted (length bytes) s) >>= λ p. returns (stored_file root path p) in
-      leads_then a a b (reader_for root open_files at (one_file path) s) p q
-      (leads_same a (reader_for root open_files at (one_file path) s) p (file_begins root open_files few at s path))
-      (leads_read a b path (sourced_read sub root open_files at (one_file path) s) q read same grows run known
-      (λ there h. let e : there ≡ Some bytes = subst (λ (r : FileRead). AreBytes r there) m.is_whole h in
-      ap (sourced_read sub root open_files at (one_file path) s) e ∙ may root open_files at (one_file path) s (Some bytes) (m.no_fault s c)))
+  few_open : length open_files ≤ MAX_OPEN_FILES
+  few_open = omega (arith, few, length-map os (λ (o : Bor (List ℕ)). o.now))
 
-module _ (root : List ℕ) (open_files : List (List ℕ)) (few : length open_files ≤ MAX_OPEN_FILES) (at : Place) (s : ReadingState) (counts : ReadCounts)
-    (c : AreCounts counts s) (name : List ℕ) (paths : List (List ℕ)) (read : FileRead) where
-  pub list_refused : (kind : MacroKind) → read ≡ whole [] → MayNotBeRead open_files counts name read kind
-      → reader_for root open_files at (file_list name paths) s ≡ fails (fault_at at kind)
-  list_refused kind e m = list_begins root open_files few at s name paths ∙ may_not root open_files at (file_list name paths) s (Some []) kind
-      (m.is_fault s c (Some []) (subst (λ (r : FileRead). AreBytes r (Some [])) (sym e) refl))
+  module _ {a b : FileRun} (path : List ℕ) {read : FileRead} (same : StaysKnown a.contents b.contents)
+      (grows : Grows a.contents b.contents a.known b.known) (run : b.run ≡ a.run) (known : keyword_in_table b.known.files path ≡ Some read) where
+    file_leads : {q : Program Progress}
+        → ((bytes : Option (List ℕ)) → AreBytes read bytes → sourced_read (reader_for root (path ∷ open_files)) root open_files at (one_file path) s bytes ≡ q)
+        → Leads a (reader_for root open_files at (one_file path) s) b q
+    file_leads f = leads_then (leads_same (file_begins root open_files few_open at s path)) (leads_read same grows run known f)
 
-  pub list_opened : (bytes : List ℕ) → read ≡ whole [] → MayBeRead open_files counts name read bytes
-      → reader_for root open_files at (file_list name paths) s ≡ list_read (reader_for root (name ∷ open_files)) at paths (counted 0 s) >>= λ p. returns
-      (stored_file root name p)
-  list_opened bytes e m =
-      let none : bytes ≡ [] = whole_alike (sym m.is_whole ∙ e) in
-      list_begins root open_files few at s name paths ∙ may root open_files at (file_list name paths) s (Some [])
-      (ap (λ x. source_fault open_files s name (Some x)) (sym none) ∙ m.no_fault s c)
-    where
-      whole_alike : {x y : List ℕ} → whole x ≡ whole y → x ≡ y
-      whole_alike h = cc
+    -- the reading of a file that may not be read leads to its fault at the `source` line
+    pub file_refused : (kind : MacroKind) (stop : Stop) → MayNotBeRead open_files counts path read kind → FailsWith (fault_at at kind) stop
+        → Reads a b (reader_for root open_files at (one_file path) s) (end_of_stop stop)
+    file_refused kind stop m k =
+        reads_on (file_leads (λ bytes h. may_not root open_files at (one_file path) s bytes kind (m.is_fault s c bytes h))) (reads_fails stop refl k)
+
+    -- the reading of a file that may be read leads to the reading of its lines, with the file open, and the storing of its text
+    pub file_opened : (bytes : List ℕ) (t : ReadingState) → t ≡ counted (length bytes) s → MayBeRead open_files counts path read bytes
+        → Leads a (reader_for root open_files at (one_file path) s) b (lines_read (reader_for root (path ∷ open_files)) path 0 1 (split_at_newlines bytes)
+        t >>= λ p. returns (stored_file root path p))
+    file_opened bytes t k m = rw k (file_leads (λ there h.
+        let e : there ≡ Some bytes = subst (λ (r : FileRead). AreBytes r there) m.is_whole h in
+        ap (sourced_read (reader_for root (path ∷ open_files)) root open_files at (one_file path) s) e
+        ∙ may root open_files at (one_file path) s (Some bytes) (m.no_fault s c)))
+
+  module _ {a : FileRun} (name : List ℕ) (paths : List (List ℕ)) {read : FileRead} (e : read ≡ whole []) where
+    pub list_refused : (kind : MacroKind) (stop : Stop) → MayNotBeRead open_files counts name read kind → FailsWith (fault_at at kind) stop
+        → Reads a a (reader_for root open_files at (file_list name paths) s) (end_of_stop stop)
+    list_refused kind stop m k = reads_fails stop (list_begins root open_files few_open at s name paths
+        ∙ may_not root open_files at (file_list name paths) s (Some []) kind
+        (m.is_fault s c (Some []) (subst (λ (r : FileRead). AreBytes r (Some [])) (sym e) refl))) k
+
+    pub list_opened : (bytes : List ℕ) (t : ReadingState) → t ≡ counted 0 s → MayBeRead open_files counts name read bytes
+        → Leads a (reader_for root open_files at (file_list name paths) s) a (list_read (reader_for root (name ∷ open_files)) at paths t >>= λ p. returns
+        (stored_file root name p))
+    list_opened bytes t k m =
+        let none : bytes ≡ [] = whole_alike (sym m.is_whole ∙ e) in
+        leads_same (list_begins root open_files few_open at s name paths ∙ may root open_files at (file_list name paths) s (Some [])
+        (ap (λ x. source_fault open_files s name (Some x)) (sym none) ∙ m.no_fault s c)
+        ∙ ap (λ u. list_read (reader_for root (name ∷ open_files)) at paths u >>= λ p. returns (stored_file root name p)) (sym k))
+      where
+        whole_alike : {x y : List ℕ} → whole x ≡ whole y → x ≡ y
+        whole_alike h = cc
 
 -- a program with an empty text before the text that it returns is the same program
 pub after_nothing : (p : Program Progress) → after_text [] p ≡ p
@@ -140,28 +143,19 @@ module _ (sub : SourceReader) (at : Place) (done : List ℕ) (path : List ℕ) (
   pub list_first : lists_left sub at done (path ∷ paths) s ≡ sub at (one_file path) s >>= λ p. after_text done (after_file p)
   list_first = grouped (sub at (one_file path) s) after_file (λ rest. returns (progress (done ++ rest.text) rest.state))
 
-  pub list_next : (a b : FileRun) (key : List ℕ) (t : ReadingState) (text : List ℕ) → text ≡ done ++ line_of_key key
+  abbrev rest_after : Progress → Program Progress
+  rest_after p = after_text done (after_file p)
+
+  pub list_next : {a b : FileRun} {key text : List ℕ} {t : ReadingState} → text ≡ done ++ line_of_key key
       → Reads a b (sub at (one_file path) s) (ends (returned (progress key t)))
       → Leads a (lists_left sub at done (path ∷ paths) s) b (lists_left sub at text paths t)
-  list_next a b key t text e r =
-      let f = λ (p : Progress). after_text done (after_file p) in
-      leads_then a a b (lists_left sub at done (path ∷ paths) s) (sub at (one_file path) s >>= f) (lists_left sub at text paths t)
-      (leads_same a (lists_left sub at done (path ∷ paths) s) (sub at (one_file path) s >>= f) list_first)
-      (leads_then a b b (sub at (one_file path) s >>= f) (f (progress key t)) (lists_left sub at text paths t)
-      (leads_on a b (sub at (one_file path) s) f (progress key t) r)
-      (leads_same b (f (progress key t)) (lists_left sub at text paths t) (list_goes_on key t ∙ ap (λ x. lists_left sub at x paths t) (sym e))))
+  list_next {key = key} {t = t} e r =
+      leads_then (leads_then (leads_same list_first) (leads_on rest_after r))
+      (leads_same (list_goes_on key t ∙ ap (λ x. lists_left sub at x paths t) (sym e)))
 
-  pub list_halted : (a b : FileRun) (stop : Stop) → Reads a b (sub at (one_file path) s) (end_of_stop stop)
+  pub list_halted : {a b : FileRun} (stop : Stop) → Reads a b (sub at (one_file path) s) (end_of_stop stop)
       → Reads a b (lists_left sub at done (path ∷ paths) s) (end_of_stop stop)
-  list_halted a b stop r =
-      let f = λ (p : Progress). after_text done (after_file p) in
-      reads_on a a b (lists_left sub at done (path ∷ paths) s) (sub at (one_file path) s >>= f) (end_of_stop stop)
-      (leads_same a (lists_left sub at done (path ∷ paths) s) (sub at (one_file path) s >>= f) list_first)
-      (reads_early a b (sub at (one_file path) s) f stop r)
-
--- the reading of a list of files with none left returns the text for the files before
-pub list_done : (sub : SourceReader) (at : Place) (done : List ℕ) (s : ReadingState) → lists_left sub at done [] s ≡ returns (progress (done ++ []) s)
-list_done sub at done s = refl
+  list_halted stop r = reads_on (leads_same list_first) (reads_early rest_after stop r)
 
 -- the path of a `source` line
 module _ (sub : SourceReader) (at : Place) (ts : List WrittenToken) (sort : SourceSort) (given path : List ℕ) (s : ReadingState)
@@ -200,10 +194,6 @@ module _ (sub : SourceReader) (at : Place) (sort : SourceSort) (path : List ℕ)
   unfolding by_pattern alone
   path_optional h k = ap by_pattern h ∙ ap alone k
 
-  pub path_alone : is_pattern path ≡ false → sort.optional ≡ false → path_read sub at sort path s ≡ sub at (one_file path) s
-  unfolding by_pattern alone
-  path_alone h k = ap by_pattern h ∙ ap alone k
-
   by_count : FoundPaths → Bool → Program Progress
   by_count f b = elim b [ true ↦ sub at (file_list (list_name at) f.paths) (with_listed f.listed s) | false ↦ fails (fault_at at MissingFile) ]
 
@@ -233,31 +223,21 @@ kept_so root path text key s files h k =
     ap (λ fs. let t : ReadingState = record s { expanded = fs } in progress (key_of root s.expanded path text) t) (sym k)
     ∙ ap (λ x. let t : ReadingState = record s { expanded = files } in progress x t) (sym h)
 
--- where at most 32 slices are paths of open files, these are at most 32 paths
-pub few_open : (os : List (Bor (List ℕ))) → length os ≤ MAX_OPEN_FILES → length (texts_of_slices os) ≤ MAX_OPEN_FILES
-few_open os h = omega (arith, length-map os (λ (o : Bor (List ℕ)). o.now))
-
 -- the state of a reading with the code's counts after one more file is the state that counts that file
 pub counted_by : (s : ReadingState) (counts : ReadCounts) (n len : ℕ) → counts ≡ record { files = s.files + 1; bytes = s.bytes + n } → n ≡ len
     → (let t : ReadingState = record s { files = counts.files; bytes = counts.bytes } in t) ≡ counted len s
 counted_by s counts n len h k = ap (λ (c : ReadCounts). let t : ReadingState = record s { files = c.files; bytes = c.bytes } in t) h ∙ ap (λ m. counted m s) k
 
 -- the end of reading the lines of a file is the same for equal open files and an equal state
-pub lines_here : (b c : FileRun) (root : List ℕ) (paths open_files : List (List ℕ)) (path bytes : List ℕ) (s t : ReadingState) (e : RunEnd Progress)
-    → paths ≡ open_files → t ≡ s
-    → Reads b c (lines_read (reader_for root paths) path 0 1 (split_at_newlines bytes) t) e → Reads b c
-    (lines_read (reader_for root open_files) path 0 1 (split_at_newlines bytes) s) e
-lines_here b c root paths open_files path bytes s t e h k r =
-    subst (λ ps. Reads b c (lines_read (reader_for root ps) path 0 1 (split_at_newlines bytes) s) e) h
-    (subst (λ u. Reads b c (lines_read (reader_for root paths) path 0 1 (split_at_newlines bytes) u) e) k r)
+pub lines_here : {b c : FileRun} (root path bytes : List ℕ) {paths open_files : List (List ℕ)} {s t : ReadingState} {e : RunEnd Progress}
+    → paths ≡ open_files → t ≡ s → Reads b c (lines_read (reader_for root paths) path 0 1 (split_at_newlines bytes) t) e
+    → Reads b c (lines_read (reader_for root open_files) path 0 1 (split_at_newlines bytes) s) e
+lines_here root path bytes h k r = rw (← h, ← k) r
 
-pub list_here : (b c : FileRun) (root : List ℕ) (paths open_files : List (List ℕ)) (at : Place) (files : List (List ℕ)) (s t : ReadingState)
-    (e : RunEnd Progress) → paths ≡ open_files → t ≡ s
-    → Reads b c (list_read (reader_for root paths) at files t) e → Reads b c (list_read (reader_for root open_files) at files s) e
-list_here b c root paths open_files at files s t e h k r =
-    subst (λ ps. Reads b c (list_read (reader_for root ps) at files s) e) h (subst (λ u. Reads b c (list_read (reader_for root paths) at files u) e) k r)
-
--- where fewer than 32 files are open, opening one more leaves at most 32 open
-pub one_more_open : (os ps : List (Bor (List ℕ))) (path : List ℕ) → texts_of_slices ps ≡ path ∷ texts_of_slices os
-    → length (texts_of_slices os) < MAX_OPEN_FILES → length ps ≤ MAX_OPEN_FILES
-one_more_open os ps path e h = omega (arith, h, ap length e, length-map ps (λ (o : Bor (List ℕ)). o.now))
+-- opening one more file than fewer than 32 leaves one more open, and at most 32
+pub opened_more : (os ps : List (Bor (List ℕ))) (path : List ℕ) → texts_of_slices ps ≡ path ∷ texts_of_slices os
+    → length (texts_of_slices os) < MAX_OPEN_FILES → (length ps ≡ suc (length os)) × (length ps ≤ MAX_OPEN_FILES)
+opened_more os ps path e h =
+    let n : length ps ≡ suc (length os) = sym (length-map ps (λ (o : Bor (List ℕ)). o.now)) ∙ ap length e
+    ∙ ap suc (length-map os (λ (o : Bor (List ℕ)). o.now)) in
+    (n, omega (arith, h, n, length-map os (λ (o : Bor (List ℕ)). o.now)))

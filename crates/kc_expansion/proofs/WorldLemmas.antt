@@ -12,6 +12,7 @@ use Rattle.kc_answers.specs.RunStates.{with_questions}
 use Rattle.kc_macros.specs.Runs.{HasAnswers}
 use Rattle.kc_files.specs.TreeContents.{FileContent, FolderContent, TreeContents, IsContentRead, IsFolderRead, IsContent, IsFolder, HasRisen, IsWorldOf, IsWholeWorldOf}
 use Rattle.kc_files.specs.between.KnownFiles.{FileRead, missing, unreadable, whole, too_long, FolderRead, names, too_many, unlisted, KnownFiles, AreBytes, IsUnreadable, AreNames, Agrees, MatchFile, MatchFolder, AreAsKnown}
+use Rattle.kc_expansion.proofs.SourceFaultLemmas.{any_both, or_turned}
 
 -- a list that is longer than this
 longer : {A : Type 0} (x : A) (n : ℕ) → (xs : List A) × (n < length xs)
@@ -31,11 +32,8 @@ bytes_of None None = None
 
 -- whether the file of a path is there and can't be read, by the result of reading it, if it was read
 pub unread_of : Option FileRead → Bool
-unread_of (Some missing) = false
 unread_of (Some unreadable) = true
-unread_of (Some (whole bytes)) = false
-unread_of (Some too_long) = false
-unread_of None = false
+unread_of x = false
 
 pub names_of : FolderContent → Option FolderRead → Option (List (List ℕ))
 names_of content (Some (names read)) = Some read
@@ -47,19 +45,16 @@ names_of None None = Some []
 
 bytes_agree : (content : FileContent) (a b : ℕ) (read : FileRead) → MatchFile content a b read → AreBytes read (bytes_of content (Some read))
 unfolding bytes_of
-bytes_agree content a b missing m = refl
-bytes_agree content a b unreadable m = refl
-bytes_agree content a b (whole bytes) m = refl
 bytes_agree (Some (Some known)) a b too_long m = (known, refl, m)
 bytes_agree (Some None) a b too_long m = absurd (let z : ⊥ = cc in z)
 bytes_agree None a b too_long m = ((longer 0 MAX_TREE_BYTES).0, refl, (longer 0 MAX_TREE_BYTES).1)
+bytes_agree content a b x m = refl
 
 unread_agrees : (read : FileRead) → IsUnreadable read (unread_of (Some read))
 unfolding unread_of
 unread_agrees missing = refl
 unread_agrees unreadable = refl
-unread_agrees (whole bytes) = tt
-unread_agrees too_long = tt
+unread_agrees read = tt
 
 bytes_allowed : (content : FileContent) (a b : ℕ) (read : Option FileRead) → ((r : FileRead) → read ≡ Some r → MatchFile content a b r)
     → IsContentRead content (bytes_of content read) (unread_of read)
@@ -153,21 +148,6 @@ module _ (contents : TreeContents) (failed : ℕ) (known : KnownFiles) (answers 
   world_answers = λ question. refl
 
 -- questions in order of first sight are those without repeats
-any_in : (x : List ℕ) (xs ys : List (List ℕ)) → is_in_list x (xs ++ ys) ≡ (is_in_list x xs || is_in_list x ys)
-any_in x [] ys = refl
-any_in x (y ∷ xs) ys = by_test (bytes_eq y x) (any_in x xs ys)
-  where
-    by_test : (b : Bool) → is_in_list x (xs ++ ys) ≡ (is_in_list x xs || is_in_list x ys) → (b || is_in_list x (xs ++ ys))
-        ≡ ((b || is_in_list x xs) || is_in_list x ys)
-    by_test true ih = refl
-    by_test false ih = ih
-
-or_turned : (a b : Bool) → (a || (b || false)) ≡ (b || a)
-or_turned true true = refl
-or_turned true false = refl
-or_turned false true = refl
-or_turned false false = refl
-
 in_without : (x : List ℕ) (xs : List (List ℕ)) → is_in_list x (without_repeats xs) ≡ is_in_list x xs
 in_without x [] = refl
 in_without x (y ∷ ys) = by_test (is_in_list y ys) refl (in_without x ys)
@@ -179,7 +159,8 @@ in_without x (y ∷ ys) = by_test (is_in_list y ys) refl (in_without x ys)
     by_test : (b : Bool) → is_in_list y ys ≡ b → is_in_list x (without_repeats ys) ≡ is_in_list x ys
         → is_in_list x (cond b (without_repeats ys) (without_repeats ys ++ y ∷ [])) ≡ (bytes_eq y x || is_in_list x ys)
     by_test true h ih = ih ∙ repeated (bytes_eq y x) refl h
-    by_test false h ih = any_in x (without_repeats ys) (y ∷ []) ∙ or_turned (is_in_list x (without_repeats ys)) (bytes_eq y x) ∙ ap (λ b. bytes_eq y x || b) ih
+    by_test false h ih = any_both x (without_repeats ys) (y ∷ [])
+        ∙ or_turned (is_in_list x (without_repeats ys)) (bytes_eq y x) ∙ ap (λ b. bytes_eq y x || b) ih
 
 questions_more : (qs r : List (List ℕ)) → with_questions (without_repeats r) qs ≡ without_repeats (reverse qs ++ r)
 questions_more [] r = refl

@@ -7,9 +7,6 @@ returns-in_err-write_over c = λ a b sub file s t r. to_out a b _ _ _ r.same r.g
 
 pub returns : goal.returns
 returns c = λ a b sub file s t r.
-    let line = c.args.line.now in
-    let new = c.args.new.now in
     let done = c.in_ok-write_over.ensures in
-    changes_here sub file c.args.bytes.now c.args.start line c.requires.line s c.args.out.now c.requires.written a b t c.write_over.new.out new.begins_help
-    c.deref.result.now new.text.items c.deref-2.result.now c.deref.ensures.value c.deref-2.ensures.value c.after_help.result c.after_help.ensures.passed
+    changes_here sub file c.requires.line s c.requires.written t c.deref.ensures.value c.deref-2.ensures.value c.after_help.ensures.passed
     done.original done.copied done.text r

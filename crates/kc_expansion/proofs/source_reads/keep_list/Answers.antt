@@ -1,4 +1,4 @@
-use Rattle.std.proofs.Common.{ℕ, Vec, Global, refl, ap, subst}
+use Rattle.std.proofs.Common.{ℕ, Vec, Global, ap, subst}
 use Rattle.kc_files.proofs.StoreLemmas.{stays_same, grows_same}
 use Rattle.kc_files.specs.checker.FileViews.{known_of}
 use Rattle.kc_macros_model.specs.Programs.{returns as returns_value}
@@ -10,20 +10,11 @@ use Rattle.kc_expansion.proofs.FileProgramLemmas.{out_now}
 use Rattle.kc_expansion.proofs.source_reads.keep_list.Goals as goal
 
 pub returns-in_err-text : goal.returns-in_err-text
-returns-in_err-text c = λ contents.
-    let r = c.args.reading.now in
-    let a = file_run_of contents r in
-    let s = state_of r in
-    let root = c.args.root.now in
-    out_now a a _ _ _ (stays_same contents) (grows_same contents (known_of r.store)) c.from_residual.ensures.1
+returns-in_err-text c = λ contents. out_now _ _ (stays_same contents) (grows_same contents (known_of c.args.reading.now.store)) c.from_residual.ensures.1
 
 pub returns : goal.returns
 returns c = λ contents.
-    let r = c.args.reading.now in
-    let a = file_run_of contents r in
-    let s = state_of r in
-    let root = c.args.root.now in
-    let b = file_run_of contents c.keep_text.new.reading in
-    subst (λ x. Reads a b (returns_value (stored_file root c.args.name.now (progress x s)))
+    subst (λ x. Reads (file_run_of contents c.args.reading.now) (file_run_of contents c.keep_text.new.reading)
+    (returns_value (stored_file c.args.root.now c.args.name.now (progress x (state_of c.args.reading.now))))
     (end_of (λ (key : Vec ℕ Global). progress key.items (state_of c.keep_text.new.reading)) c.keep_text.result))
     (ap (λ (v : Vec ℕ Global). v.items) c.in_ok-text.ensures.ok) (c.keep_text.ensures contents)
