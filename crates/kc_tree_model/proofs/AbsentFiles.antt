@@ -12,7 +12,7 @@ use Rattle.kc_tree_model.specs.Limits.{FileSource, without_repeats, source_fault
 use Rattle.kc_value.specs.declared.limits.TheConstants.{MAX_TREE_BYTES, MAX_OPEN_FILES}
 use Rattle.kc_tree_model.specs.TreeReading.{statement_on_line, with_statement, with_group, path_to_read, Outcome, continue_after_file, continue_after_source, continue_after_statement, continue_after_line, read_lines, read_file, read_root, reading, lenient_reading, bytes_or_none, wanted_by, paths_or_fault, files_wanted}
 use Rattle.kc_tree_model.proofs.Consistency.Lists.{Has, filter-has, once-has, append-has_left, append-has_right}
-use Rattle.kc_tree_model.proofs.Consistency.KeptProperties.{IsKept, Keeps, lines_kept, whole_file_kept}
+use Rattle.kc_tree_model.proofs.Consistency.KeptProperties.{IsKept, Keeps, lines_kept, whole_file_kept, file_kept, source_kept}
 use Rattle.kc_tree_model.proofs.Consistency.OneLine.{AreOneLine, lines_are_one}
 
 -- a path is that of one of the `source`s read
@@ -55,16 +55,6 @@ Agree files f g = (read : List Group) → AllThere files (g read) → f read ≡
 abbrev Stays : (List Group → Outcome) → Type 0
 Stays f = (path : List ℕ) (read : List Group) → IsSourced path read → IsSourced path (f read).read
 
-after_stays : (rest : List Group → Outcome) (at : Position) (o : Outcome) (k : Option TreeFault) → Stays rest → (path : List ℕ) → IsSourced path o.read
-    → IsSourced path (continue_after_file rest at o k).read
-after_stays rest at o (Some k) stay path h = h
-after_stays rest at o None stay path h = stay path (with_group at file_end o.read) h
-
-source_stays : (sub : List ℕ → List Group → Outcome) (rest : List Group → Outcome) (at : Position) (path : List ℕ) (read : List Group) (k : Option TreeKind)
-    → ((p : List ℕ) → Stays (sub p)) → Stays rest → (p : List ℕ) → IsSourced p read → IsSourced p (continue_after_source sub rest at path read k).read
-source_stays sub rest at path read (Some k) subs stay p h = h
-source_stays sub rest at path read None subs stay p h = after_stays rest at (sub path read) (sub path read).fault stay p (subs path p read h)
-
 path_pushed : (path : List ℕ) (read : List Group) (at : Position) (s : Option Statement) → path_to_read s ≡ Some path
     → IsSourced path (with_statement at s read)
 path_pushed path read at None e = cc
@@ -80,19 +70,21 @@ module _ (files : Files) (root : List ℕ) (f g : List ℕ → List Group → Ou
 
   same_source : (p q : List Group → Outcome) (at : Position) (path : List ℕ) (read : List Group) (k : Option TreeKind) → Agree files p q → Stays q
       → AllThere files (continue_after_source g q at path read k) → continue_after_source f p at path read k ≡ continue_after_source g q at path read k
+  unfolding Keeps
   same_source p q at path read (Some k) agree stay all = refl
   same_source p q at path read None agree stay all =
-      let sub : f path read ≡ g path read = within path read (λ x h. all x (after_stays q at (g path read) (g path read).fault stay x h)) in
+      let sub : f path read ≡ g path read = within path read (λ x h. all x (file_kept (IsSourced x) (stays x) q at (g path read) (g path read).fault (stay x) h)) in
       ap (λ (o : Outcome). continue_after_file p at o o.fault) sub ∙ same_after p q at (g path read) (g path read).fault agree all
 
   same_statement : (p q : List Group → Outcome) (at : Position) (read : List Group) (s : Option Statement) (path : Option (List ℕ)) → path_to_read s ≡ path
       → Agree files p q → Stays q
       → AllThere files (continue_after_statement g q (empty files root) at read s path)
       → continue_after_statement f p (found files root) at read s path ≡ continue_after_statement g q (empty files root) at read s path
+  unfolding Keeps
   same_statement p q at read s None e agree stay all = agree (with_statement at s read) all
   same_statement p q at read s (Some path) e agree stay all =
-      let there = all path (source_stays g q at path (with_statement at s read) (source_fault (empty files root) read path) subs stay path
-      (path_pushed path read at s e)) in
+      let there = all path (source_kept (IsSourced path) (stays path) g q at path (with_statement at s read) (source_fault (empty files root) read path)
+      (λ p. subs p path) (stay path) (path_pushed path read at s e)) in
       ap (λ k. continue_after_source f p at path (with_statement at s read) k) (source_same files root read path there)
       ∙ same_source p q at path (with_statement at s read) (source_fault (empty files root) read path) agree stay all
 

@@ -25,13 +25,13 @@ module _ (P : List Group → Type 0) (kept : IsKept P) where
   unfoldable pub Keeps : (List Group → Outcome) → Type 0
   Keeps f = (read : List Group) → P read → P (f read).read
 
-  file_kept : (rest : List Group → Outcome) (at : Position) (o : Outcome) (f : Option TreeFault) → Keeps rest → P o.read
+  pub file_kept : (rest : List Group → Outcome) (at : Position) (o : Outcome) (f : Option TreeFault) → Keeps rest → P o.read
       → P (continue_after_file rest at o f).read
   unfolding Keeps
   file_kept rest at o (Some f) g h = h
   file_kept rest at o None g h = g (with_group at file_end o.read) (kept.by_end o.read at h)
 
-  source_kept : (sub : List ℕ → List Group → Outcome) (rest : List Group → Outcome) (at : Position) (path : List ℕ) (read : List Group) (k : Option TreeKind)
+  pub source_kept : (sub : List ℕ → List Group → Outcome) (rest : List Group → Outcome) (at : Position) (path : List ℕ) (read : List Group) (k : Option TreeKind)
       → ((p : List ℕ) → Keeps (sub p)) → Keeps rest → P read → P (continue_after_source sub rest at path read k).read
   unfolding Keeps
   source_kept sub rest at path read (Some k) subs g h = h
