@@ -5,6 +5,7 @@ use Rattle.std.specs.Fmt.{digits, digits_onto, digit_glyph}
 use Rattle.std.specs.List.{onto_first}
 use mathlib.Core.List.{reverse-cons}
 use Rattle.std.proofs.lemmas.Bool.{eqb-true}
+use Rattle.kc_tree_model.proofs.Consistency.OneLine.{one_append, one_take, one_drop}
 use Rattle.kc_value.specs.Lines.{has_newline}
 use Rattle.kc_macros_model.specs.References.{open_after, pieces}
 use Rattle.kc_macros_model.specs.Variables.{Value}
@@ -34,22 +35,17 @@ pub clean_rest : {c : ℕ} {s : List ℕ} → IsClean (c ∷ s) → IsClean s
 clean_rest {c = c} {s = s} (clean h) = clean (neither_second (c == 10) (has_newline s) h)
 
 pub clean_append : (x y : List ℕ) → IsClean x → IsClean y → IsClean (x ++ y)
-clean_append [] y h k = k
-clean_append (c ∷ x) y h k = clean_cons (clean_first h) (clean_append x y (clean_rest h) k)
+clean_append x y (clean h) (clean k) = clean (one_append x y h k)
 
 pub clean_left : (x y : List ℕ) → IsClean (x ++ y) → IsClean x
 clean_left [] y h = clean_none
 clean_left (c ∷ x) y h = clean_cons (clean_first h) (clean_left x y (clean_rest h))
 
 pub clean_take : (n : ℕ) (s : List ℕ) → IsClean s → IsClean (take n s)
-clean_take zero s h = clean_none
-clean_take (suc n) [] h = h
-clean_take (suc n) (c ∷ s) h = clean_cons (clean_first h) (clean_take n s (clean_rest h))
+clean_take n s (clean h) = clean (one_take n s h)
 
 pub clean_drop : (n : ℕ) (s : List ℕ) → IsClean s → IsClean (drop n s)
-clean_drop zero s h = h
-clean_drop (suc n) [] h = h
-clean_drop (suc n) (c ∷ s) h = clean_drop n s (clean_rest h)
+clean_drop n s (clean h) = clean (one_drop n s h)
 
 pub clean_reverse : (s : List ℕ) → IsClean s → IsClean (reverse s)
 clean_reverse [] h = h

@@ -1,13 +1,14 @@
 -- The newlines of a file and of the text that is written for its lines.
-use Rattle.std.proofs.Common.{◌≡◌, ℕ, zero, suc, ◌+◌, Bool, true, false, ◌&&◌, cond, List, [], ◌∷◌, ◌++◌, length, take, drop, map, refl, sym, ap, ◌∙◌, append_assoc, zero-add, arith}
-use Rattle.std.specs.Prelude.{◌==◌, ◌-◌, bytes_eq}
+use Rattle.std.proofs.Common.{◌≡◌, ℕ, zero, suc, ◌+◌, Bool, true, false, cond, List, [], ◌∷◌, ◌++◌, take, drop, map, refl, sym, ap, ◌∙◌, append_assoc, zero-add, arith}
+use Rattle.std.specs.Prelude.{◌==◌, bytes_eq}
 use Rattle.std.proofs.Math.Nat.{suc-add}
 use Rattle.std.proofs.lemmas.Bool.{eqb-true}
 use Rattle.std.proofs.lemmas.List.Sums.{sum_by-append}
-use Rattle.kc_tree_model.specs.LogicalLines.{PhysicalLine, with_first_byte, split_at_newlines, last_byte, without_last, without_return, is_continued, joined_bytes}
+use Rattle.kc_tree_model.specs.LogicalLines.{PhysicalLine, with_first_byte, split_at_newlines, without_return, joined_bytes}
 use Rattle.kc_macros_model.specs.TreeExpansion.{bytes_of_lines, newlines_of, lines_written}
 use Rattle.kc_value.specs.Lines.{newline_count}
-use Rattle.kc_macros_model.proofs.CleanTexts.{IsClean, clean_none, clean_cons, clean_first, clean_rest, clean_append, clean_take}
+use Rattle.kc_tree_model.proofs.Consistency.OneLine.{AreOne, one_cut, one_physical, one_joined}
+use Rattle.kc_macros_model.proofs.CleanTexts.{IsClean, clean, clean_first, clean_rest}
 
 pub count_both : (x y : List ℕ) → newline_count (x ++ y) ≡ newline_count x + newline_count y
 count_both x y = sum_by-append (λ c. cond (c == 10) 1 0) x y
@@ -22,18 +23,16 @@ pub data AreCleanLines : List PhysicalLine → Type 0 where
   no_lines : AreCleanLines []
   next_line : {l : PhysicalLine} {ls : List PhysicalLine} → IsClean l.text → AreCleanLines ls → AreCleanLines (l ∷ ls)
 
-first_byte_clean : (c : ℕ) (ls : List PhysicalLine) → (c == 10) ≡ false → AreCleanLines ls → AreCleanLines (with_first_byte c ls)
-first_byte_clean c [] e no_lines = next_line (clean_cons e clean_none) no_lines
-first_byte_clean c (l ∷ ls) e (next_line h r) = next_line (clean_cons e h) r
+from_one : (ls : List PhysicalLine) → AreOne ls → AreCleanLines ls
+from_one [] h = no_lines
+from_one (l ∷ ls) h = next_line (clean h.0) (from_one ls h.1)
+
+to_one : {ls : List PhysicalLine} → AreCleanLines ls → AreOne ls
+to_one no_lines = tt
+to_one (next_line (clean h) r) = (h, to_one r)
 
 pub split_clean : (s : List ℕ) → AreCleanLines (split_at_newlines s)
-split_clean [] = no_lines
-split_clean (c ∷ s) = by_test (split_clean s) (c == 10) refl
-  where
-    by_test : AreCleanLines (split_at_newlines s) → (b : Bool) → (c == 10) ≡ b
-        → AreCleanLines (cond b (record { text = []; ended = true } ∷ split_at_newlines s) (with_first_byte c (split_at_newlines s)))
-    by_test r true e = next_line clean_none r
-    by_test r false e = first_byte_clean c (split_at_newlines s) e r
+split_clean s = from_one (split_at_newlines s) (one_cut s)
 
 first_byte_bytes : (c : ℕ) (ls : List PhysicalLine) → bytes_of_lines (with_first_byte c ls) ≡ c ∷ bytes_of_lines ls
 first_byte_bytes c [] = refl
@@ -89,20 +88,10 @@ written_count ls text new h k = by_test (bytes_eq new text)
     by_test false = omega (arith, count_both new (newlines_of ls), count_clean new k, count_newlines h)
 
 pub returns_clean : {ls : List PhysicalLine} → AreCleanLines ls → AreCleanLines (map without_return ls)
-returns_clean no_lines = no_lines
-returns_clean (next_line {l = l} {ls = ls} h r) = next_line (by_test (l.ended && (last_byte l.text == 13))) (returns_clean r)
-  where
-    by_test : (b : Bool) → IsClean (cond b (record { text = without_last l.text; ended = true }) l).text
-    by_test true = clean_take (length l.text - 1) l.text h
-    by_test false = h
+returns_clean {ls = ls} h = from_one (map without_return ls) (one_physical ls (to_one h))
 
 pub joined_lines_clean : {ls : List PhysicalLine} → AreCleanLines ls → IsClean (joined_bytes ls)
-joined_lines_clean no_lines = clean_none
-joined_lines_clean (next_line {l = l} {ls = ls} h r) = by_test (joined_lines_clean r) (is_continued l)
-  where
-    by_test : IsClean (joined_bytes ls) → (b : Bool) → IsClean (cond b (without_last l.text ++ joined_bytes ls) l.text)
-    by_test j true = clean_append (without_last l.text) (joined_bytes ls) (clean_take (length l.text - 1) l.text h) j
-    by_test j false = h
+joined_lines_clean {ls = ls} h = clean (one_joined ls (to_one h))
 
 pub drop_twice : {A : Type 0} (m n : ℕ) (xs : List A) → drop (m + n) xs ≡ drop n (drop m xs)
 drop_twice zero n xs = ap (λ k. drop k xs) (zero-add n)

@@ -16,19 +16,19 @@ none_of : (a b : Bool) → a ≡ false → b ≡ false → (a || b) ≡ false
 none_of true b h k = cc
 none_of false b h k = k
 
-one_take : (n : ℕ) (xs : List ℕ) → has_newline xs ≡ false → has_newline (take n xs) ≡ false
+pub one_take : (n : ℕ) (xs : List ℕ) → has_newline xs ≡ false → has_newline (take n xs) ≡ false
 one_take zero [] h = refl
 one_take zero (x ∷ xs) h = refl
 one_take (suc n) [] h = refl
 one_take (suc n) (x ∷ xs) h = let r = neither (x == 10) (has_newline xs) h in none_of (x == 10) (has_newline (take n xs)) r.0 (one_take n xs r.1)
 
-one_drop : (n : ℕ) (xs : List ℕ) → has_newline xs ≡ false → has_newline (drop n xs) ≡ false
+pub one_drop : (n : ℕ) (xs : List ℕ) → has_newline xs ≡ false → has_newline (drop n xs) ≡ false
 one_drop zero [] h = refl
 one_drop zero (x ∷ xs) h = h
 one_drop (suc n) [] h = refl
 one_drop (suc n) (x ∷ xs) h = one_drop n xs (neither (x == 10) (has_newline xs) h).1
 
-one_append : (xs ys : List ℕ) → has_newline xs ≡ false → has_newline ys ≡ false → has_newline (xs ++ ys) ≡ false
+pub one_append : (xs ys : List ℕ) → has_newline xs ≡ false → has_newline ys ≡ false → has_newline (xs ++ ys) ≡ false
 one_append [] ys h k = k
 one_append (x ∷ xs) ys h k = let r = neither (x == 10) (has_newline xs) h in none_of (x == 10) (has_newline (xs ++ ys)) r.0 (one_append xs ys r.1 k)
 
@@ -47,23 +47,20 @@ one_unescaped false (x ∷ xs) h =
     (none_of (x == 10) (has_newline (unescaped false xs)) r.0 (one_unescaped false xs r.1))
 
 -- physical lines have no newline
-AreOne : List PhysicalLine → Type 0
+abbrev pub AreOne : List PhysicalLine → Type 0
 AreOne [] = Unit {0}
 AreOne (l ∷ ls) = (has_newline l.text ≡ false) × AreOne ls
 
 one_before : (b : ℕ) (ls : List PhysicalLine) → (b == 10) ≡ false → AreOne ls → AreOne (with_first_byte b ls)
-unfolding AreOne
 one_before b [] e h = (none_of (b == 10) false e refl, tt)
 one_before b (l ∷ ls) e h = (none_of (b == 10) (has_newline l.text) e h.0, h.1)
 
 one_cut_by : (b : ℕ) (ls : List PhysicalLine) (t : Bool) → (b == 10) ≡ t → AreOne ls
     → AreOne (cond t (record { text = []; ended = true } ∷ ls) (with_first_byte b ls))
-unfolding AreOne
 one_cut_by b ls true e h = (refl, h)
 one_cut_by b ls false e h = one_before b ls e h
 
-one_cut : (bytes : List ℕ) → AreOne (split_at_newlines bytes)
-unfolding AreOne
+pub one_cut : (bytes : List ℕ) → AreOne (split_at_newlines bytes)
 one_cut [] = tt
 one_cut (b ∷ bs) = one_cut_by b (split_at_newlines bs) (b == 10) refl (one_cut bs)
 
@@ -72,13 +69,11 @@ one_returned : (l : PhysicalLine) (b : Bool) → has_newline l.text ≡ false
 one_returned l true h = one_take _ l.text h
 one_returned l false h = h
 
-one_physical : (ls : List PhysicalLine) → AreOne ls → AreOne (map without_return ls)
-unfolding AreOne
+pub one_physical : (ls : List PhysicalLine) → AreOne ls → AreOne (map without_return ls)
 one_physical [] h = tt
 one_physical (l ∷ ls) h = (one_returned l _ h.0, one_physical ls h.1)
 
-one_joined : (ls : List PhysicalLine) → AreOne ls → has_newline (joined_bytes ls) ≡ false
-unfolding AreOne
+pub one_joined : (ls : List PhysicalLine) → AreOne ls → has_newline (joined_bytes ls) ≡ false
 one_joined [] h = refl
 one_joined (l ∷ ls) h =
     one_if (is_continued l) (without_last l.text ++ joined_bytes ls) l.text
@@ -90,7 +85,6 @@ AreOneLine [] = Unit {0}
 AreOneLine (l ∷ ls) = (has_newline l.text ≡ false) × AreOneLine ls
 
 one_logical : (joined help n : ℕ) (ls : List PhysicalLine) → AreOne ls → AreOneLine (logical_lines_from joined help n ls)
-unfolding AreOne
 one_logical joined help n [] h = tt
 one_logical (suc joined) help n (l ∷ ls) h = one_logical joined help (n + 1) ls h.1
 one_logical zero (suc help) n (l ∷ ls) h = (h.0, one_logical 0 help (n + 1) ls h.1)
