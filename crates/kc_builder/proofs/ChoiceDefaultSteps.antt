@@ -50,22 +50,6 @@ use Rattle.kc_conditions.specs.between.Walks.{condition_at}
 use Rattle.kc_tree.specs.declared.symbol.MemberDefault.{MemberDefault}
 use Rattle.kc_checks.proofs.Symbols.{bare_is}
 
--- the value of a default whose nodes exist is a node of the arena
-pub value_there : (exprs : Exprs) (a : CodeAttribute) (v : ℕ) → AttributeNodesExist exprs a → default_value_view a ≡ Some v → v < length exprs.nodes
-value_there exprs (attributes.Typed k) v h e = cc
-value_there exprs (attributes.TypedPrompt k c) v h e = cc
-value_there exprs (attributes.TypedDefault k d) v h e = let s : d.value ≡ v = cc in let l = h.0 in omega arith
-value_there exprs (attributes.Prompt c) v h e = cc
-value_there exprs (attributes.Default d) v h e = let s : d.value ≡ v = cc in let l = h.0 in omega arith
-value_there exprs (attributes.Depends id) v h e = cc
-value_there exprs (attributes.Select s) v h e = cc
-value_there exprs (attributes.Imply s) v h e = cc
-value_there exprs (attributes.Range r) v h e = cc
-value_there exprs (attributes.Visible id) v h e = cc
-value_there exprs attributes.Help v h e = cc
-value_there exprs attributes.Modules v h e = cc
-value_there exprs attributes.Optional v h e = cc
-
 -- one attribute more
 cons_front : {X : Type 0} (o : Option X) (xs ys : List X) → cons_option o xs ++ ys ≡ cons_option o (xs ++ ys)
 cons_front None xs ys = refl
@@ -192,19 +176,9 @@ module _ (language : Language) (n : SymbolTable) (symbols : List ℕ) (c : Conte
       → NamesMember (member_names c p.group.number) (default_of (attribute_in n.arena a))
       → option_map (member_default_view n.arena) (option_map (λ s. (let m : MemberDefault = record { member = s; condition = x } in m))
       (option_and_then (symbol_bare n) (default_value_view a))) ≡ option_and_then (member_default language c p) (default_of (attribute_in n.arena a))
-  one_default p k (attributes.Typed t) x f m = refl
-  one_default p k (attributes.TypedPrompt t q) x f m = refl
   one_default p k (attributes.TypedDefault t d) x f m = default_value p d.value (default_in n.arena d) x refl f m
-  one_default p k (attributes.Prompt q) x f m = refl
   one_default p k (attributes.Default d) x f m = default_value p d.value (default_in n.arena d) x refl f m
-  one_default p k (attributes.Depends id) x f m = refl
-  one_default p k (attributes.Select s) x f m = refl
-  one_default p k (attributes.Imply s) x f m = refl
-  one_default p k (attributes.Range r) x f m = refl
-  one_default p k (attributes.Visible id) x f m = refl
-  one_default p k attributes.Help x f m = refl
-  one_default p k attributes.Modules x f m = refl
-  one_default p k attributes.Optional x f m = refl
+  one_default p k y x f m = refl
 
   view_cons : (o : Option MemberDefault) (xs : List MemberDefault)
       → map (member_default_view n.arena) (cons_option o xs) ≡ cons_option (option_map (member_default_view n.arena) o) (map (member_default_view n.arena) xs)
@@ -309,15 +283,8 @@ get_last (x ∷ xs) y = get_last xs y
 
 choice_given : (exprs : Exprs) (names texts : List (List ℕ)) (c : CodeHead) (m : Group) → RepresentsHead exprs names texts c m.head → is_choice_code c ≡ true
     → m.head ≡ of_head choice
-choice_given exprs names texts (codes.Config s) m h e = cc
 choice_given exprs names texts codes.Choice m h e = h
-choice_given exprs names texts (codes.Menu t) m h e = cc
-choice_given exprs names texts (codes.Condition id) m h e = cc
-choice_given exprs names texts (codes.Comment t) m h e = cc
-choice_given exprs names texts (codes.Source t) m h e = cc
-choice_given exprs names texts codes.Mainmenu m h e = cc
-choice_given exprs names texts (codes.Ends b) m h e = cc
-choice_given exprs names texts codes.FileEnd m h e = cc
+choice_given exprs names texts x m h e = cc
 
 choice_group_faults : (language : Language) (c : Contents) (p : GroupInContext) → p.group.head ≡ of_head choice
     → faults_of_group language c p ≡ faults_of_lines p.group (choice_faults (member_names c p.group.number)) false p.group.attributes

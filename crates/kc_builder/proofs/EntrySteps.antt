@@ -96,12 +96,9 @@ module _ (language : Language) (e e2 : Exprs) (texts : List (List ℕ)) (C : Con
       ∙ ap (λ x. Some (tree.comment h.0 x)) a.is
       ∙ sym (ap at_place h.2)
   entry_shown (codes.Source t) c own h k o = sym (ap at_place h.2)
-  entry_shown codes.Mainmenu c own h k o = sym (ap at_place h)
   entry_shown (codes.Ends blocks.Menu) c own h k o =
       end_shown c.ended c.dependency c.visible (menu_end_of language p.opened) (k.ended_is (ap side_of h)) ∙ sym (ap at_place h)
-  entry_shown (codes.Ends blocks.If) c own h k o = sym (ap at_place h)
-  entry_shown (codes.Ends blocks.Choice) c own h k o = sym (ap at_place h)
-  entry_shown codes.FileEnd c own h k o = sym (ap at_place h)
+  entry_shown x c own h k o = sym (ap at_place h)
 
   -- its numbers are there
   abbrev Fits : EntryRow → Type 0
@@ -127,17 +124,12 @@ module _ (language : Language) (e e2 : Exprs) (texts : List (List ℕ)) (C : Con
         (represented_unless_closing c.dependency (dependency_of (context_of language p) p.group) k.dependency_is away).within,
         (represented_unless_closing c.visible (conjunction_of ((context_of language p).visibles ++ attribute_values visible_of p.group)) k.visible_is away).within,
       )
-  entry_fits (codes.Condition id) c own h k o = All-nil Fits
   entry_fits (codes.Comment t) c own h k o =
       let away : side_of p.group.head ≡ closing → ⊥ = λ q. let z = sym (ap side_of h.2) ∙ q in cc in
       one_fits (Comment t c.dependency)
       (get_below texts t h.0 h.1, (represented_unless_closing c.dependency (dependency_of (context_of language p) p.group) k.dependency_is away).within)
-  entry_fits (codes.Source t) c own h k o = All-nil Fits
-  entry_fits codes.Mainmenu c own h k o = All-nil Fits
   entry_fits (codes.Ends blocks.Menu) c own h k o = end_fits c.ended c.dependency c.visible (menu_end_of language p.opened) (k.ended_is (ap side_of h))
-  entry_fits (codes.Ends blocks.If) c own h k o = All-nil Fits
-  entry_fits (codes.Ends blocks.Choice) c own h k o = All-nil Fits
-  entry_fits codes.FileEnd c own h k o = All-nil Fits
+  entry_fits x c own h k o = All-nil Fits
 
 -- the entries of the first groups and that of the next one
 module _ (language : Language) (l : Listing) (groups : List GroupConditions) (conditions : List ℕ) (read : List Group)

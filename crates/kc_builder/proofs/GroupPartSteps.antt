@@ -33,9 +33,6 @@ module _ (language : Language) (l : Listing) (groups : List GroupConditions) (co
   pub represented_by : IsRepresented l
   represented_by = record { read = read; shows = w.shows }
 
-  pub conditioned_by : IsConditioned groups conditions
-  conditioned_by = record { language = language; exprs = l.names.arena; texts = l.texts.items; read = read; shown = w.shown }
-
   -- what is gathered is what the first `i` groups give, of which `n` are choices
   pub record ArePartsTo (i n : ℕ) (p : GroupParts) : Type 0 where
     pub attributes : AreGathered language l.names.arena (names_defined read) (groups_in_context (read_before i read)) p.attributes

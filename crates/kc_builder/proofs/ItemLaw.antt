@@ -31,35 +31,37 @@ pub record AreListed {T M : Type 0} (view : T → M) (ks : GroupInContext → Li
   pub fit : All P items
   pub below : All (λ k. k < count) keys
 
-pub none_listed : {T M : Type 0} (view : T → M) (ks : GroupInContext → List ℕ) (xs : GroupInContext → List M) (P : T → Type 0) (count : ℕ)
+pub none_listed : {T M : Type 0} {view : T → M} {ks : GroupInContext → List ℕ} {xs : GroupInContext → List M} {P : T → Type 0} {count : ℕ}
     → AreListed view ks xs P count [] [] []
-none_listed view ks xs P count = record { keys_are = refl; items_are = refl; fit = All-nil P; below = All-nil (λ k. k < count) }
+none_listed {P = P} {count = count} = record { keys_are = refl; items_are = refl; fit = All-nil P; below = All-nil (λ k. k < count) }
+
+-- no values for an optional name that is `None`
+pub by_none : {A : Type 0} {o : Option (List ℕ)} (f : List ℕ → List A) → o ≡ None → by_name f o ≡ []
+by_none f none = ap (by_name f) none
 
 flat_map-one : {A B : Type 0} (f : A → List B) (us : List A) (a : A) → flat_map f (us ++ a ∷ []) ≡ flat_map f us ++ f a
 flat_map-one f us a = flat_map-append f us (a ∷ []) ∙ ap (λ bs. flat_map f us ++ bs) (append-nil (f a))
 
-pub listed_more : {T M : Type 0} (view : T → M) (ks : GroupInContext → List ℕ) (xs : GroupInContext → List M) (P : T → Type 0) (count : ℕ)
-    (places : List GroupInContext) (keys keys2 own : List ℕ) (items items2 mine : List T) (p : GroupInContext)
-    → AreListed view ks xs P count places keys items → keys2 ≡ keys ++ own → items2 ≡ items ++ mine → own ≡ ks p → map view mine ≡ xs p → All P mine
-    → All (λ k. k < count) own
-    → AreListed view ks xs P count (places ++ p ∷ []) keys2 items2
-listed_more view ks xs P count places keys keys2 own items items2 mine p l k i ko io pm po = record {
-  keys_are = k ∙ ap (λ z. z ++ own) l.keys_are ∙ ap (λ z. flat_map ks places ++ z) ko ∙ sym (flat_map-one ks places p);
-  items_are = ap (map view) i ∙ map-append view items mine ∙ ap (λ z. z ++ map view mine) l.items_are ∙ ap (λ z. flat_map xs places ++ z) io
-      ∙ sym (flat_map-one xs places p);
-  fit = subst (All P) (sym i) (All-append P items mine l.fit pm);
-  below = subst (All (λ n. n < count)) (sym k) (All-append (λ n. n < count) keys own l.below po);
-}
+-- one more place
+module _ {T M : Type 0} {view : T → M} {ks : GroupInContext → List ℕ} {xs : GroupInContext → List M} {P : T → Type 0} {count : ℕ}
+    {places : List GroupInContext} {keys : List ℕ} {items : List T} (p : GroupInContext) (l : AreListed view ks xs P count places keys items) where
+  pub listed_more : {keys2 own : List ℕ} {items2 mine : List T} → keys2 ≡ keys ++ own → items2 ≡ items ++ mine → own ≡ ks p → map view mine ≡ xs p
+      → All P mine → All (λ k. k < count) own → AreListed view ks xs P count (places ++ p ∷ []) keys2 items2
+  listed_more {own = own} {mine = mine} k i ko io pm po = record {
+    keys_are = k ∙ ap (λ z. z ++ own) l.keys_are ∙ ap (λ z. flat_map ks places ++ z) ko ∙ sym (flat_map-one ks places p);
+    items_are = ap (map view) i ∙ map-append view items mine ∙ ap (λ z. z ++ map view mine) l.items_are ∙ ap (λ z. flat_map xs places ++ z) io
+        ∙ sym (flat_map-one xs places p);
+    fit = subst (All P) (sym i) (All-append P items mine l.fit pm);
+    below = subst (All (λ n. n < count)) (sym k) (All-append (λ n. n < count) keys own l.below po);
+  }
 
-pub listed_same : {T M : Type 0} (view : T → M) (ks : GroupInContext → List ℕ) (xs : GroupInContext → List M) (P : T → Type 0) (count : ℕ)
-    (places : List GroupInContext) (keys : List ℕ) (items : List T) (p : GroupInContext)
-    → AreListed view ks xs P count places keys items → ks p ≡ [] → xs p ≡ [] → AreListed view ks xs P count (places ++ p ∷ []) keys items
-listed_same view ks xs P count places keys items p l k i = record {
-  keys_are = l.keys_are ∙ sym (flat_map-one ks places p ∙ ap (λ z. flat_map ks places ++ z) k ∙ append-nil (flat_map ks places));
-  items_are = l.items_are ∙ sym (flat_map-one xs places p ∙ ap (λ z. flat_map xs places ++ z) i ∙ append-nil (flat_map xs places));
-  fit = l.fit;
-  below = l.below;
-}
+  pub listed_same : ks p ≡ [] → xs p ≡ [] → AreListed view ks xs P count (places ++ p ∷ []) keys items
+  listed_same k i = record {
+    keys_are = l.keys_are ∙ sym (flat_map-one ks places p ∙ ap (λ z. flat_map ks places ++ z) k ∙ append-nil (flat_map ks places));
+    items_are = l.items_are ∙ sym (flat_map-one xs places p ∙ ap (λ z. flat_map xs places ++ z) i ∙ append-nil (flat_map xs places));
+    fit = l.fit;
+    below = l.below;
+  }
 
 -- the items of a key among joined lists
 kept_or : {T : Type 0} (b : Bool) (x : T) (us bs : List T) → cond b (x ∷ (us ++ bs)) (us ++ bs) ≡ cond b (x ∷ us) us ++ bs
@@ -96,12 +98,12 @@ pointwise f h [] e = refl
 pointwise f h (p ∷ ps) e = ap (λ r. r ++ flat_map f ps) (e p (inl refl)) ∙ ap (λ r. h p ++ r) (pointwise f h ps (λ q k. e q (inr k)))
 
 -- the items listed under key `t` are those that each group gives under this key, in order
-pub listed_law : {T M : Type 0} (view : T → M) (ks : GroupInContext → List ℕ) (xs h : GroupInContext → List M) (P : T → Type 0) (count : ℕ)
-    (places : List GroupInContext) (keys : List ℕ) (items : List T) (t : ℕ)
+pub listed_law : {T M : Type 0} {view : T → M} {ks : GroupInContext → List ℕ} {xs : GroupInContext → List M} {P : T → Type 0} {count : ℕ}
+    {places : List GroupInContext} {keys : List ℕ} {items : List T} (h : GroupInContext → List M) (t : ℕ)
     → AreListed view ks xs P count places keys items → ((p : GroupInContext) → length (ks p) ≡ length (xs p))
     → ((p : GroupInContext) → Has p places → items_of t (ks p) (xs p) ≡ h p)
     → map view (items_of t keys items) ≡ flat_map h places
-listed_law view ks xs h P count places keys items t l e k =
+listed_law {view = view} {ks = ks} {xs = xs} {places = places} {keys = keys} {items = items} h t l e k =
     items_mapped view t keys items
     ∙ ap (λ r. items_of t r (map view items)) l.keys_are
     ∙ ap (items_of t (flat_map ks places)) l.items_are
@@ -208,15 +210,14 @@ module _ {B M : Type 0} (G : Attribute → Option B) (h : GroupInContext → B �
       own_lines p (number_of names x) t (bytes_eq x name) p.group.attributes (ap (λ k. k == t) n ∙ same_number names x name j.0 t d j.1 at)
 
 -- the items listed under a symbol's number are those that the attributes of its definitions give, in order
-pub own_law : {T B M : Type 0} (view : T → M) (G : Attribute → Option B) (h : GroupInContext → B → M) (P : T → Type 0) (count : ℕ) (read : List Group)
-    (keys : List ℕ) (items : List T) (t : ℕ) (name : List ℕ)
+pub own_law : {T B M : Type 0} {view : T → M} (G : Attribute → Option B) (h : GroupInContext → B → M) {P : T → Type 0} {count : ℕ} (read : List Group)
+    {keys : List ℕ} {items : List T} (t : ℕ) (name : List ℕ)
     → AreListed view (own_keys G (names_defined read)) (own_items G h) P count (groups_in_context read) keys items
     → slice_get (names_defined read) t ≡ Some name
     → map view (items_of t keys items) ≡ flat_map (λ p. map (h p) (attribute_values G p.group)) (definitions_of (contents_of read) name)
-own_law view G h P count read keys items t name l at =
+own_law G h read t name l at =
     let names = names_defined read in
-    listed_law view (own_keys G names) (own_items G h) (λ p. cond (defines name p) (map (h p) (attribute_values G p.group)) []) P count (groups_in_context read)
-    keys items t l (own_many G h names)
+    listed_law (λ p. cond (defines name p) (map (h p) (attribute_values G p.group)) []) t l (own_many G h names)
     (λ p k. own_here G h names p (defined_name p.group) name t (Differ-once (filter_map defined_name read)) at (λ x e. named_there read p x k e))
     ∙ among_some (defines name) (λ p. map (h p) (attribute_values G p.group)) (groups_in_context read)
 
@@ -249,15 +250,14 @@ mapped_one : {M : Type 0} (f : GroupInContext → M) (ps : List GroupInContext) 
 mapped_one f [] = refl
 mapped_one f (p ∷ ps) = ap (λ r. f p ∷ r) (mapped_one f ps)
 
-pub direct_law : {T M : Type 0} (view : T → M) (f : GroupInContext → M) (P : T → Type 0) (count : ℕ) (read : List Group) (keys : List ℕ) (items : List T)
+pub direct_law : {T M : Type 0} {view : T → M} (f : GroupInContext → M) {P : T → Type 0} {count : ℕ} (read : List Group) {keys : List ℕ} {items : List T}
     (t : ℕ) (name : List ℕ)
     → AreListed view (direct_keys (names_defined read)) (direct_items f) P count (groups_in_context read) keys items
     → slice_get (names_defined read) t ≡ Some name
     → map view (items_of t keys items) ≡ map f (definitions_of (contents_of read) name)
-direct_law view f P count read keys items t name l at =
+direct_law f read t name l at =
     let names = names_defined read in
-    listed_law view (direct_keys names) (direct_items f) (λ p. cond (defines name p) (f p ∷ []) []) P count (groups_in_context read) keys items t l
-    (λ p. direct_many f names p (defined_name p.group))
+    listed_law (λ p. cond (defines name p) (f p ∷ []) []) t l (λ p. direct_many f names p (defined_name p.group))
     (λ p k. direct_here f names p (defined_name p.group) name t (Differ-once (filter_map defined_name read)) at (λ x e. named_there read p x k e))
     ∙ among_some (defines name) (λ p. f p ∷ []) (groups_in_context read)
     ∙ mapped_one f (definitions_of (contents_of read) name)
@@ -369,14 +369,12 @@ reverse_dependency_here language S c p (Some x) name t d at named =
           (filter (λ (a : TargetAttribute). bytes_eq a.name name) (attribute_values S p.group))
     ]) j.1)
 
-pub reverse_dependency_law : (language : Language) {T : Type 0} (view : T → ReverseDependency) (S : Attribute → Option TargetAttribute) (P : T → Type 0) (count : ℕ)
-    (read : List Group) (keys : List ℕ) (items : List T) (t : ℕ) (name : List ℕ)
+pub reverse_dependency_law : (language : Language) {T : Type 0} {view : T → ReverseDependency} (S : Attribute → Option TargetAttribute) {P : T → Type 0}
+    {count : ℕ} (read : List Group) {keys : List ℕ} {items : List T} (t : ℕ) (name : List ℕ)
     → AreListed view (force_keys S (names_defined read)) (force_items language S (names_defined read)) P count (groups_in_context read) keys items
     → slice_get (names_defined read) t ≡ Some name
     → map view (items_of t keys items) ≡ flat_map (reverse_dependencies_of language S (contents_of read) name) (groups_in_context read)
-reverse_dependency_law language view S P count read keys items t name l at =
-    let names = names_defined read in
-    listed_law view (force_keys S names) (force_items language S names) (reverse_dependencies_of language S (contents_of read) name) P count (groups_in_context read) keys items t
-    l (reverse_dependency_many _ S names)
+reverse_dependency_law language S read t name l at =
+    listed_law (reverse_dependencies_of language S (contents_of read) name) t l (reverse_dependency_many _ S (names_defined read))
     (λ p k. reverse_dependency_here _ S (contents_of read) p (defined_name p.group) name t (Differ-once (filter_map defined_name read))
     at (λ x e. named_there read p x k e))

@@ -74,19 +74,9 @@ pairs_fit P item e (l ∷ ls) (i ∷ cs) w v h =
 module _ (language : Language) (e : Exprs) (p : GroupInContext) where
   prompt_by : (a : CodeAttribute) (number i : ℕ) → node_expr e i ≡ condition_at language p (record { number = number; attribute = attribute_in e a })
       → option_map (node_expr e) (cond (is_prompt a) (Some i) None) ≡ option_map (prompt_condition (context_of language p) p.group) (prompt_of (attribute_in e a))
-  prompt_by (attributes.Typed k) n i s = refl
   prompt_by (attributes.TypedPrompt k c) n i s = ap Some s
-  prompt_by (attributes.TypedDefault k d) n i s = refl
   prompt_by (attributes.Prompt c) n i s = ap Some s
-  prompt_by (attributes.Default d) n i s = refl
-  prompt_by (attributes.Depends x) n i s = refl
-  prompt_by (attributes.Select a) n i s = refl
-  prompt_by (attributes.Imply a) n i s = refl
-  prompt_by (attributes.Range r) n i s = refl
-  prompt_by (attributes.Visible x) n i s = refl
-  prompt_by attributes.Help n i s = refl
-  prompt_by attributes.Modules n i s = refl
-  prompt_by attributes.Optional n i s = refl
+  prompt_by x n i s = refl
 
   pub prompt_item : (l : CodeLine) (i : ℕ) → LineNodesExist e l → node_expr e i ≡ condition_at language p (line_in e l)
       → option_map (node_expr e) (gathered_prompt l i) ≡ own_item_of prompt_of (λ q. prompt_condition (context_of language q) q.group) p (line_in e l)
@@ -139,19 +129,9 @@ module _ (language : Language) (e : Exprs) (p : GroupInContext) where
 module _ (e : Exprs) (names : List (List ℕ)) (x : List ℕ) (s : ℕ) (number : number_of names x ≡ s) where
   prompt_key_by : (a : CodeAttribute) (i : ℕ)
       → option_map (λ _. s) (cond (is_prompt a) (Some i) None) ≡ option_map (λ _. number_of names x) (prompt_of (attribute_in e a))
-  prompt_key_by (attributes.Typed k) i = refl
   prompt_key_by (attributes.TypedPrompt k c) i = ap Some (sym number)
-  prompt_key_by (attributes.TypedDefault k d) i = refl
   prompt_key_by (attributes.Prompt c) i = ap Some (sym number)
-  prompt_key_by (attributes.Default d) i = refl
-  prompt_key_by (attributes.Depends y) i = refl
-  prompt_key_by (attributes.Select a) i = refl
-  prompt_key_by (attributes.Imply a) i = refl
-  prompt_key_by (attributes.Range r) i = refl
-  prompt_key_by (attributes.Visible y) i = refl
-  prompt_key_by attributes.Help i = refl
-  prompt_key_by attributes.Modules i = refl
-  prompt_key_by attributes.Optional i = refl
+  prompt_key_by x i = refl
 
   pub prompt_key : (l : CodeLine) (i : ℕ) → own_key s gathered_prompt l i ≡ own_key_of prompt_of names x (line_in e l)
   prompt_key l i = prompt_key_by l.attribute i

@@ -20,14 +20,11 @@ one_text texts t x y a b = cc
 one_head : (e : Exprs) (names texts : List (List ℕ)) (code : CodeHead) (v w : GroupHead) → RepresentsHead e names texts code v
     → RepresentsHead e names texts code w → v ≡ w
 one_head e names texts (codes.Config s) v w a b = a.2 ∙ ap (λ x. of_head (config x)) (one_text names s a.0 b.0 a.1 b.1) ∙ sym b.2
-one_head e names texts codes.Choice v w a b = a ∙ sym b
 one_head e names texts (codes.Menu t) v w a b = a.2 ∙ ap (λ x. of_head (menu x)) (one_text texts t a.0 b.0 a.1 b.1) ∙ sym b.2
 one_head e names texts (codes.Condition id) v w a b = a.1 ∙ sym b.1
 one_head e names texts (codes.Comment t) v w a b = a.2 ∙ ap (λ x. of_head (comment x)) (one_text texts t a.0 b.0 a.1 b.1) ∙ sym b.2
 one_head e names texts (codes.Source t) v w a b = a.2 ∙ ap (λ x. of_head (source x)) (one_text texts t a.0 b.0 a.1 b.1) ∙ sym b.2
-one_head e names texts codes.Mainmenu v w a b = a ∙ sym b
-one_head e names texts (codes.Ends k) v w a b = a ∙ sym b
-one_head e names texts codes.FileEnd v w a b = a ∙ sym b
+one_head e names texts x v w a b = a ∙ sym b
 
 -- groups with the same number, place, head and attributes are the same
 equal_groups : (m n : Group) → m.number ≡ n.number → m.at.file ≡ n.at.file → m.at.line ≡ n.at.line → m.head ≡ n.head → m.attributes ≡ n.attributes → m ≡ n

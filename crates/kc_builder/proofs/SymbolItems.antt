@@ -35,7 +35,7 @@ use Rattle.kc_tree.specs.declared.symbol.ReverseDependency.{ReverseDependency as
 use Rattle.kc_conditions.specs.declared.group_walk.GroupConditions.{GroupConditions}
 use Rattle.kc_checks.proofs.GroupPlaces.{all_before, none_before, placed_more, shown_at}
 use Rattle.kc_conditions.proofs.GroupConditionLemmas.{conditioned_at}
-use Rattle.kc_builder.proofs.ItemLaw.{by_name, AreListed, none_listed, listed_more, listed_same, number_of, number_is, own_key_of, own_item_of, own_keys, own_items, own_law, direct_keys, direct_items, direct_law, force_key_of, force_item_of, force_keys, force_items, reverse_dependency_law}
+use Rattle.kc_builder.proofs.ItemLaw.{by_name, AreListed, none_listed, listed_more, listed_same, by_none, number_of, number_is, own_key_of, own_item_of, own_keys, own_items, own_law, direct_keys, direct_items, direct_law, force_key_of, force_item_of, force_keys, force_items, reverse_dependency_law}
 use Rattle.kc_builder.proofs.ItemViews.{pairs_keys, pairs_items, pairs_fit, prompt_item, default_item, range_item, prompt_key, default_key, range_key, prompt_fit, default_fit, range_fit, RangeStands, own_below, aim_of, reverse_dependency_key, reverse_dependency_item, reverse_dependency_fit, target_below}
 use Rattle.kc_checks.proofs.Symbols.{nameless}
 
@@ -83,8 +83,7 @@ module _ (language : Language) (n : SymbolTable) (names : List (List ℕ)) (h : 
       → ((l : CodeLine) (i : ℕ) → LineNodesExist n.arena l → i < length n.arena.nodes → IfSome (item l i) P)
       → AreListed view (own_keys G names) (own_items G m) P (length names) (prior ++ p ∷ []) new.keys.items new.items.items
   own_step view G m P item old new l more key is fit =
-      listed_more view (own_keys G names) (own_items G m) P (length names) prior old.keys.items new.keys.items (gathered_items (own_key s item) ls cs)
-      old.items.items new.items.items (gathered_items item ls cs) p l more.keys more.items
+      listed_more p l more.keys more.items
       (pairs_keys (own_key s item) (own_key_of G names x) n.arena ls cs many key ∙ ap (filter_map (own_key_of G names x)) (sym attributes)
       ∙ sym (ap (by_name (λ y. filter_map (own_key_of G names y) p.group.attributes)) name))
       (pairs_items view item (own_item_of G m p) (condition_at language p) n.arena ls cs conditions held is ∙ ap (filter_map (own_item_of G m p)) (sym attributes)
@@ -99,9 +98,7 @@ module _ (language : Language) (n : SymbolTable) (names : List (List ℕ)) (h : 
       → AreListed (views.reverse_dependency_view n.arena) (force_keys (aim_of f) names) (force_items language (aim_of f) names)
       (ReverseDependencyFits (length n.arena.nodes) (length names)) (length names) (prior ++ p ∷ []) new.keys.items new.items.items
   reverse_dependency_step f old new l more =
-      listed_more (views.reverse_dependency_view n.arena) (force_keys (aim_of f) names) (force_items language (aim_of f) names)
-      (ReverseDependencyFits (length n.arena.nodes) (length names)) (length names) prior old.keys.items new.keys.items (gathered_items (target_key n f) ls cs)
-      old.items.items new.items.items (gathered_items (gathered_reverse_dependency n f s) ls cs) p l more.keys more.items
+      listed_more p l more.keys more.items
       (pairs_keys (target_key n f) (force_key_of (aim_of f) names) n.arena ls cs many (reverse_dependency_key language n names h f)
       ∙ ap (filter_map (force_key_of (aim_of f) names)) (sym attributes)
       ∙ sym (ap (by_name (λ y. filter_map (force_key_of (aim_of f) names) p.group.attributes)) name))
@@ -120,8 +117,7 @@ module _ (language : Language) (n : SymbolTable) (names : List (List ℕ)) (h : 
       → AreListed (node_expr n.arena) (direct_keys names) (direct_items (dependency_meant language)) (λ k. k < length n.arena.nodes) (length names) (prior ++ p ∷ [])
       new.keys.items new.items.items
   direct_step d old new l k i stands =
-      listed_more (node_expr n.arena) (direct_keys names) (direct_items (dependency_meant language)) (λ j. j < length n.arena.nodes) (length names) prior old.keys.items
-      new.keys.items (s ∷ []) old.items.items new.items.items (d ∷ []) p l k i
+      listed_more p l k i
       (ap (λ m. m ∷ []) (sym number) ∙ sym (ap (by_name (λ y. number_of names y ∷ [])) name))
       (ap (λ m. m ∷ []) stands.is ∙ sym (ap (by_name (λ y. dependency_meant language p ∷ [])) name))
       (All-cons (λ j. j < length n.arena.nodes) d [] stands.within (All-nil (λ j. j < length n.arena.nodes)))
@@ -145,35 +141,12 @@ module _ (language : Language) (n : SymbolTable) (names : List (List ℕ)) (h : 
 pub nothing_more : (language : Language) (e : Exprs) (names : List (List ℕ)) (prior : List GroupInContext) (p : GroupInContext) (a : Attributes) → defined_name p.group ≡ None
     → AreGathered language e names prior a → AreGathered language e names (prior ++ p ∷ []) a
 nothing_more language e names prior p a none g = record {
-  prompts =
-      listed_same (node_expr e) (own_keys prompt_of names) (own_items prompt_of (prompt_meant language)) (λ k. k < length e.nodes) (length names) prior
-      a.prompts.keys.items a.prompts.items.items p g.prompts
-      (ap (by_name (λ x. filter_map (own_key_of prompt_of names x) p.group.attributes)) none)
-      (ap (by_name (λ x. filter_map (own_item_of prompt_of (prompt_meant language) p) p.group.attributes)) none);
-  defaults =
-      listed_same (views.default_view e) (own_keys default_of names) (own_items default_of (default_meant language)) (DefaultFits (length e.nodes)) (length names) prior
-      a.defaults.keys.items a.defaults.items.items p g.defaults
-      (ap (by_name (λ x. filter_map (own_key_of default_of names x) p.group.attributes)) none)
-      (ap (by_name (λ x. filter_map (own_item_of default_of (default_meant language) p) p.group.attributes)) none);
-  ranges =
-      listed_same (views.range_view e) (own_keys range_of names) (own_items range_of (range_meant language)) (RangeStands e) (length names) prior a.ranges.keys.items
-      a.ranges.items.items p g.ranges
-      (ap (by_name (λ x. filter_map (own_key_of range_of names x) p.group.attributes)) none)
-      (ap (by_name (λ x. filter_map (own_item_of range_of (range_meant language) p) p.group.attributes)) none);
-  selectors =
-      listed_same (views.reverse_dependency_view e) (force_keys (aim_of Select) names) (force_items language (aim_of Select) names)
-      (ReverseDependencyFits (length e.nodes) (length names)) (length names) prior a.selectors.keys.items a.selectors.items.items p g.selectors
-      (ap (by_name (λ x. filter_map (force_key_of (aim_of Select) names) p.group.attributes)) none)
-      (ap (by_name (λ x. filter_map (force_item_of language (aim_of Select) names p x) p.group.attributes)) none);
-  impliers =
-      listed_same (views.reverse_dependency_view e) (force_keys (aim_of Imply) names) (force_items language (aim_of Imply) names)
-      (ReverseDependencyFits (length e.nodes) (length names)) (length names) prior a.impliers.keys.items a.impliers.items.items p g.impliers
-      (ap (by_name (λ x. filter_map (force_key_of (aim_of Imply) names) p.group.attributes)) none)
-      (ap (by_name (λ x. filter_map (force_item_of language (aim_of Imply) names p x) p.group.attributes)) none);
-  direct =
-      listed_same (node_expr e) (direct_keys names) (direct_items (dependency_meant language)) (λ k. k < length e.nodes) (length names) prior a.direct.keys.items
-      a.direct.items.items p g.direct
-      (ap (by_name (λ x. number_of names x ∷ [])) none) (ap (by_name (λ x. dependency_meant language p ∷ [])) none);
+  prompts = listed_same p g.prompts (by_none _ none) (by_none _ none);
+  defaults = listed_same p g.defaults (by_none _ none) (by_none _ none);
+  ranges = listed_same p g.ranges (by_none _ none) (by_none _ none);
+  selectors = listed_same p g.selectors (by_none _ none) (by_none _ none);
+  impliers = listed_same p g.impliers (by_none _ none) (by_none _ none);
+  direct = listed_same p g.direct (by_none _ none) (by_none _ none);
 }
 
 -- empty lists are the attributes collected from no groups
@@ -182,15 +155,12 @@ pub nothing_gathered : (language : Language) (e : Exprs) (names : List (List ℕ
     → (a.selectors.keys.items ≡ []) × (a.selectors.items.items ≡ []) → (a.impliers.keys.items ≡ []) × (a.impliers.items.items ≡ [])
     → (a.direct.keys.items ≡ []) × (a.direct.items.items ≡ []) → AreGathered language e names [] a
 nothing_gathered language e names a p d r s i x = record {
-  prompts = rw (p.0, p.1) (none_listed (node_expr e) (own_keys prompt_of names) (own_items prompt_of (prompt_meant language)) (λ k. k < length e.nodes) (length names));
-  defaults = rw (d.0, d.1) (none_listed (views.default_view e) (own_keys default_of names) (own_items default_of (default_meant language)) (DefaultFits (length e.nodes))
-      (length names));
-  ranges = rw (r.0, r.1) (none_listed (views.range_view e) (own_keys range_of names) (own_items range_of (range_meant language)) (RangeStands e) (length names));
-  selectors = rw (s.0, s.1) (none_listed (views.reverse_dependency_view e) (force_keys (aim_of Select) names) (force_items language (aim_of Select) names)
-      (ReverseDependencyFits (length e.nodes) (length names)) (length names));
-  impliers = rw (i.0, i.1) (none_listed (views.reverse_dependency_view e) (force_keys (aim_of Imply) names) (force_items language (aim_of Imply) names)
-      (ReverseDependencyFits (length e.nodes) (length names)) (length names));
-  direct = rw (x.0, x.1) (none_listed (node_expr e) (direct_keys names) (direct_items (dependency_meant language)) (λ k. k < length e.nodes) (length names));
+  prompts = rw (p.0, p.1) none_listed;
+  defaults = rw (d.0, d.1) none_listed;
+  ranges = rw (r.0, r.1) none_listed;
+  selectors = rw (s.0, s.1) none_listed;
+  impliers = rw (i.0, i.1) none_listed;
+  direct = rw (x.0, x.1) none_listed;
 }
 
 -- the attributes collected from all groups are those of the symbols
@@ -205,20 +175,12 @@ all_gathered language e read a g = record {
     impliers = λ i l. g.impliers.below i 0 l;
     direct = λ i l. g.direct.below i 0 l;
   };
-  prompts_are = λ s x at. own_law (node_expr e) prompt_of (prompt_meant language) (λ k. k < length e.nodes) (length (names_defined read)) read a.prompts.keys.items
-      a.prompts.items.items s x g.prompts at;
-  defaults_are = λ s x at. own_law (views.default_view e) default_of (default_meant language) (DefaultFits (length e.nodes)) (length (names_defined read)) read
-      a.defaults.keys.items a.defaults.items.items s x g.defaults at;
-  ranges_are = λ s x at. own_law (views.range_view e) range_of (range_meant language) (RangeStands e) (length (names_defined read)) read a.ranges.keys.items
-      a.ranges.items.items s x g.ranges at;
-  selectors_are = λ s x at. reverse_dependency_law _ (views.reverse_dependency_view e) (aim_of Select)
-      (ReverseDependencyFits (length e.nodes) (length (names_defined read))) (length (names_defined read)) read a.selectors.keys.items a.selectors.items.items s
-      x g.selectors at;
-  impliers_are = λ s x at. reverse_dependency_law _ (views.reverse_dependency_view e) (aim_of Imply)
-      (ReverseDependencyFits (length e.nodes) (length (names_defined read))) (length (names_defined read)) read a.impliers.keys.items a.impliers.items.items s x
-      g.impliers at;
-  direct_are = λ s x at. direct_law (node_expr e) (dependency_meant language) (λ k. k < length e.nodes) (length (names_defined read)) read a.direct.keys.items
-      a.direct.items.items s x g.direct at;
+  prompts_are = λ s x at. own_law prompt_of (prompt_meant language) read s x g.prompts at;
+  defaults_are = λ s x at. own_law default_of (default_meant language) read s x g.defaults at;
+  ranges_are = λ s x at. own_law range_of (range_meant language) read s x g.ranges at;
+  selectors_are = λ s x at. reverse_dependency_law _ (aim_of Select) read s x g.selectors at;
+  impliers_are = λ s x at. reverse_dependency_law _ (aim_of Imply) read s x g.impliers at;
+  direct_are = λ s x at. direct_law (dependency_meant language) read s x g.direct at;
   prompts_fit = g.prompts.fit;
   defaults_fit = g.defaults.fit;
   ranges_fit = λ i d l. (g.ranges.fit i d l).0;

@@ -21,7 +21,7 @@ use Rattle.kc_tree_model.proofs.Consistency.Lists.{Differ, Differ-once, at_most_
 use Rattle.kc_reasons_model.specs.SymbolLines.{target_named, target_positions}
 use Rattle.kc_tree.specs.between.GroupedItems.{items_of}
 use Rattle.kc_tree.specs.between.Views.{symbol_of_name_id}
-use Rattle.kc_builder.proofs.ItemLaw.{by_name, AreListed, none_listed, listed_more, listed_same, listed_law, number_of, number_is, direct_keys, direct_items, direct_law, force_key_of, force_keys}
+use Rattle.kc_builder.proofs.ItemLaw.{by_name, AreListed, none_listed, listed_more, listed_same, by_none, listed_law, number_of, number_is, direct_keys, direct_items, direct_law, force_key_of, force_keys}
 use Rattle.kc_checks.proofs.GroupPlaces.{placed_more}
 use Rattle.kc_checks.proofs.Symbols.{named_there, nameless}
 use Rattle.kc_statements.specs.declared.statement.ReverseKind.TheVariants.{Select, Imply}
@@ -138,14 +138,12 @@ places_here S c p (Some x) name t d at named =
     ∙ sym (ap (λ o. elim o as (λ _. List Position) [ None ↦ [] | Some s ↦ attribute_positions (λ a. target_named name (S a)) p.group ]) j.1)
 
 -- the places listed under a symbol's number are those of the attributes that target it
-pub places_law : (S : Attribute → Option TargetAttribute) (count : ℕ) (read : List Group) (keys : List ℕ) (items : List CodePosition) (t : ℕ) (name : List ℕ)
+pub places_law : (S : Attribute → Option TargetAttribute) {count : ℕ} (read : List Group) {keys : List ℕ} {items : List CodePosition} (t : ℕ) (name : List ℕ)
     → AreListed position_view (force_keys S (names_defined read)) (place_items S (names_defined read)) (λ _. Unit {0}) count (groups_in_context read) keys items
     → slice_get (names_defined read) t ≡ Some name
     → map position_view (items_of t keys items) ≡ flat_map (target_positions S (contents_of read) name) (groups_in_context read)
-places_law S count read keys items t name l at =
-    let names : List (List ℕ) = names_defined read in
-    listed_law position_view (force_keys S names) (place_items S names) (target_positions S (contents_of read) name) (λ _. Unit {0}) count (groups_in_context read) keys items t
-    l (places_many S names)
+places_law S read t name l at =
+    listed_law (target_positions S (contents_of read) name) t l (places_many S (names_defined read))
     (λ p k. places_here S (contents_of read) p (defined_name p.group) name t (Differ-once (filter_map defined_name read)) at (λ x e. named_there read p x k e))
 
 -- what is gathered from groups in places
@@ -161,9 +159,9 @@ pub nothing_gathered : (names : List (List ℕ)) (found : GatheredLines) → (fo
     → (found.selectors.keys.items ≡ []) → (found.selectors.items.items ≡ []) → (found.impliers.keys.items ≡ []) → (found.impliers.items.items ≡ [])
     → AreGatheredOf names [] found
 nothing_gathered names found a b c d e f = record {
-  definitions = rw (a, b) (none_listed (λ n. n) (direct_keys names) (direct_items (λ (p : GroupInContext). p.group.number)) (λ _. Unit {0}) (length names));
-  selectors = rw (c, d) (none_listed position_view (force_keys select_of names) (place_items select_of names) (λ _. Unit {0}) (length names));
-  impliers = rw (e, f) (none_listed position_view (force_keys imply_of names) (place_items imply_of names) (λ _. Unit {0}) (length names));
+  definitions = rw (a, b) none_listed;
+  selectors = rw (c, d) none_listed;
+  impliers = rw (e, f) none_listed;
 }
 
 -- any list has what is asked of nothing
@@ -235,13 +233,12 @@ module _ (t : TreeModel) (read : List Group) (tree_is : t.tree ≡ tree_of_group
       (named : defined_name p.group ≡ Some x) (at : slice_get names s ≡ Some x) (f : p.group.at.file ≡ file)
       (own : p.group.attributes ≡ map (line_in t.exprs) ls) (held : All (LineNodesExist t.exprs) ls)
       (g : AreGatheredOf names prior old) (more : HasDefinition t s p.group.number file ls old new) where
-    force_step : (k : ReverseKind) (keys keys2 : List ℕ) (items items2 : List CodePosition)
+    force_step : (k : ReverseKind) {keys keys2 : List ℕ} {items items2 : List CodePosition}
         → AreListed position_view (force_keys (target_meant k) names) (place_items (target_meant k) names) (λ _. Unit {0}) (length names) prior keys items
         → keys2 ≡ keys ++ target_keys t k ls → items2 ≡ items ++ target_places t k file ls
         → AreListed position_view (force_keys (target_meant k) names) (place_items (target_meant k) names) (λ _. Unit {0}) (length names) (prior ++ p ∷ []) keys2 items2
-    force_step k keys keys2 items items2 l a b =
-        listed_more position_view (force_keys (target_meant k) names) (place_items (target_meant k) names) (λ _. Unit {0}) (length names) prior
-        keys keys2 (target_keys t k ls) items items2 (target_places t k file ls) p l a b
+    force_step k l a b =
+        listed_more p l a b
         (keys_are k ls held ∙ ap (filter_map (force_key_of (target_meant k) names)) (sym own)
         ∙ sym (ap (by_name (λ y. filter_map (force_key_of (target_meant k) names) p.group.attributes)) named))
         (items_are k p file ls f held ∙ ap (filter_map (place_of (target_meant k) names p)) (sym own)
@@ -254,32 +251,22 @@ module _ (t : TreeModel) (read : List Group) (tree_is : t.tree ≡ tree_of_group
 
     pub definition_more : AreGatheredOf names (prior ++ p ∷ []) new
     definition_more = record {
-      definitions = listed_more (λ n. n) (direct_keys names) (direct_items (λ (q : GroupInContext). q.group.number)) (λ _. Unit {0}) (length names) prior
-          old.definitions.keys.items new.definitions.keys.items (s ∷ []) old.definitions.items.items new.definitions.items.items (p.group.number ∷ []) p
-          g.definitions more.symbols more.numbers
+      definitions = listed_more p g.definitions more.symbols more.numbers
           (ap (λ m. m ∷ []) (sym number) ∙ sym (ap (by_name (λ y. number_of names y ∷ [])) named))
           (sym (ap (by_name (λ y. p.group.number ∷ [])) named))
           (all_items (p.group.number ∷ []))
           (All-cons (λ j. j < length names) s [] (get_below names s x at) (All-nil (λ j. j < length names)));
-      selectors = force_step Select old.selectors.keys.items new.selectors.keys.items old.selectors.items.items new.selectors.items.items g.selectors more.selected more.selectors;
-      impliers = force_step Imply old.impliers.keys.items new.impliers.keys.items old.impliers.items.items new.impliers.items.items g.impliers more.implied more.impliers;
+      selectors = force_step Select g.selectors more.selected more.selectors;
+      impliers = force_step Imply g.impliers more.implied more.impliers;
     }
 
 -- a group that defines no symbol adds nothing
 pub nothing_more : (names : List (List ℕ)) (prior : List GroupInContext) (p : GroupInContext) (found : GatheredLines) → defined_name p.group ≡ None
     → AreGatheredOf names prior found → AreGatheredOf names (prior ++ p ∷ []) found
 nothing_more names prior p found none g = record {
-  definitions = listed_same (λ n. n) (direct_keys names) (direct_items (λ (q : GroupInContext). q.group.number)) (λ _. Unit {0}) (length names) prior
-      found.definitions.keys.items found.definitions.items.items p g.definitions
-      (ap (by_name (λ x. number_of names x ∷ [])) none) (ap (by_name (λ x. p.group.number ∷ [])) none);
-  selectors = listed_same position_view (force_keys select_of names) (place_items select_of names) (λ _. Unit {0}) (length names) prior
-      found.selectors.keys.items found.selectors.items.items p g.selectors
-      (ap (by_name (λ x. filter_map (force_key_of select_of names) p.group.attributes)) none)
-      (ap (by_name (λ x. filter_map (place_of select_of names p) p.group.attributes)) none);
-  impliers = listed_same position_view (force_keys imply_of names) (place_items imply_of names) (λ _. Unit {0}) (length names) prior
-      found.impliers.keys.items found.impliers.items.items p g.impliers
-      (ap (by_name (λ x. filter_map (force_key_of imply_of names) p.group.attributes)) none)
-      (ap (by_name (λ x. filter_map (place_of imply_of names p) p.group.attributes)) none);
+  definitions = listed_same p g.definitions (by_none _ none) (by_none _ none);
+  selectors = listed_same p g.selectors (by_none _ none) (by_none _ none);
+  impliers = listed_same p g.impliers (by_none _ none) (by_none _ none);
 }
 
 unmapped : (ns : List ℕ) → map (λ n. n) ns ≡ ns
@@ -294,10 +281,9 @@ all_gathered read found g = record {
   implied = g.impliers.below;
   definitions = λ s name at.
       sym (unmapped (items_of s found.definitions.keys.items found.definitions.items.items))
-      ∙ direct_law (λ n. n) (λ (p : GroupInContext). p.group.number) (λ _. Unit {0}) (length (names_defined read)) read found.definitions.keys.items
-      found.definitions.items.items s name g.definitions at;
-  selectors = λ s name at. places_law select_of (length (names_defined read)) read found.selectors.keys.items found.selectors.items.items s name g.selectors at;
-  impliers = λ s name at. places_law imply_of (length (names_defined read)) read found.impliers.keys.items found.impliers.items.items s name g.impliers at;
+      ∙ direct_law (λ (p : GroupInContext). p.group.number) read s name g.definitions at;
+  selectors = λ s name at. places_law select_of read s name g.selectors at;
+  impliers = λ s name at. places_law imply_of read s name g.impliers at;
 }
 
 -- group by group
