@@ -39,8 +39,10 @@ listed_over z (l ∷ p) s = go (is_listed z l.member) refl (l.member == s) refl 
       → is_listed (filter (λ (k : MemberLine). not (is_listed z k.member)) p ++ z) s ≡ (is_listed p s || is_listed z s)
       → is_listed (cond (not a) (l ∷ filter (λ (k : MemberLine). not (is_listed z k.member)) p) (filter (λ (k : MemberLine). not (is_listed z k.member)) p) ++ z) s
       ≡ ((b || is_listed p s) || is_listed z s)
-  go false unlisted b same next = ap (λ t. (l.member == s) || t) next ∙ ap (λ t. t || (is_listed p s || is_listed z s)) same ∙ sym (or_assoc b (is_listed p s) (is_listed z s))
-  go true listed true same next = next ∙ ap (λ t. is_listed p s || t) (ap (is_listed z) (sym (eqb-true l.member s same)) ∙ listed) ∙ or_right (is_listed p s) true refl
+  go false unlisted b same next = ap (λ t. (l.member == s) || t) next ∙ ap (λ t. t || (is_listed p s || is_listed z s)) same
+      ∙ sym (or_assoc b (is_listed p s) (is_listed z s))
+  go true listed true same next = next ∙ ap (λ t. is_listed p s || t) (ap (is_listed z) (sym (eqb-true l.member s same)) ∙ listed)
+      ∙ or_right (is_listed p s) true refl
   go true listed false same next = next
 
 module _ (z p : List MemberLine) where

@@ -273,10 +273,12 @@ module _ (l m : Level) (is_joint : TokenKind → Bool) (join : Expr → Expr →
               → reader l n (y.front ++ us) ≡ chain is_joint join (reader m n) (length us) e us
           goes e rest y n h us same =
               reads n (y.front ++ us) ∙ ap (λ q. on_read q (λ r. chain is_joint join (reader m n) (length (y.front ++ us)) r.0 r.1)) (y.again n h us same)
-              ∙ chain_same is_joint join (reader m n) (short n) (length (y.front ++ us)) (length us) e us (omega (arith, length-append y.front us)) (omega arith)
+              ∙ chain_same is_joint join (reader m n) (short n) (length (y.front ++ us)) (length us) e us
+              (omega (arith, length-append y.front us)) (omega arith)
 
 ands_outcome : (d : ℕ) → ((ts : List Lexeme) → Outcome factor d ts (read_factor d ts)) → (ts : List Lexeme) → Outcome ands d ts (read_ands (read_factor d) ts)
-ands_outcome = level_outcome ands factor is_and both factor_short (λ n ts e x. one_factor x) (λ n ts us all o a b x f z e. more_ands o x (and_kind o.kind f) z e)
+ands_outcome = level_outcome ands factor is_and both factor_short (λ n ts e x. one_factor x)
+    (λ n ts us all o a b x f z e. more_ands o x (and_kind o.kind f) z e)
     (λ n ts. refl)
 
 ors_outcome : (d : ℕ) → ((ts : List Lexeme) → Outcome ands d ts (read_ands (read_factor d) ts)) → (ts : List Lexeme)

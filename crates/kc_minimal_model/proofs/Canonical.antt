@@ -175,7 +175,8 @@ module _ (format : FileFormat) (valid : is_name_prefix format.prefix ≡ true) (
       (file_assignment tree (map (λ s. meant tree.language values (unit_of tree s)) (minimal_symbols profile tree values)))
       (file_assignment tree (map (λ s. meant tree.language values (unit_of tree s)) (filter keeps (minimal_symbols profile tree values))))
   cut = record {
-    one_each = file_length (map (λ s. meant tree.language values (unit_of tree s)) (filter keeps (minimal_symbols profile tree values))) (empty_assignment tree) ∙ none_length (length tree.units);
+    one_each = file_length (map (λ s. meant tree.language values (unit_of tree s)) (filter keeps (minimal_symbols profile tree values))) (empty_assignment tree)
+        ∙ none_length (length tree.units);
     cut =
         λ u h. user_after (filter keeps (minimal_symbols profile tree values)) u h
         ∙ elim (cases_Bool (list_any (λ s. unit_of tree s == u) (filter keeps (minimal_symbols profile tree values)))) [

@@ -61,7 +61,8 @@ at_unit w z held u meanings is = elim is [
 by_a_line : (meanings : List LineMeaning) (held : List (Option UserValue)) (u : ℕ) → is_some (user_of (assigned_over meanings held) u) ≡ true
     → (is_some (user_of held u) ≡ true) ⊎ (list_any (eqb u) (assigned_units meanings) ≡ true)
 by_a_line [] held u some = inl some
-by_a_line (assigns_escaped w text ∷ meanings) held u some = at_unit w (TextUser text) held u meanings (by_a_line meanings (slice_set held w (Some (TextUser text))) u some)
+by_a_line (assigns_escaped w text ∷ meanings) held u some =
+    at_unit w (TextUser text) held u meanings (by_a_line meanings (slice_set held w (Some (TextUser text))) u some)
 by_a_line (assigns w x ∷ meanings) held u some =
     at_unit w (over x (user_of held w)) held u meanings (by_a_line meanings (slice_set held w (Some (over x (user_of held w)))) u some)
 by_a_line (_ ∷ meanings) held u some = by_a_line meanings held u some

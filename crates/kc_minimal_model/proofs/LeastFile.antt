@@ -182,7 +182,8 @@ module _ (format : FileFormat) (valid : is_name_prefix format.prefix ≡ true) (
   pub least_of_lines : IsLeastAssignment (length tree.units) (rule profile tree) (as_user tree.language) values
       (file_assignment tree (map (λ s. meant tree.language values (unit_of tree s)) (minimal_symbols profile tree values)))
   least_of_lines = record {
-    one_each = file_length (map (λ s. meant tree.language values (unit_of tree s)) (minimal_symbols profile tree values)) (empty_assignment tree) ∙ none_length (length tree.units);
+    one_each = file_length (map (λ s. meant tree.language values (unit_of tree s)) (minimal_symbols profile tree values)) (empty_assignment tree)
+        ∙ none_length (length tree.units);
     kept = λ u value h has kept.
         let test = kept_passes profile tree users values fitting solved u h kept in
         let unit = unit_there u h in

@@ -166,8 +166,10 @@ module _ (b : Bool) (u s : ℕ) where
   after_line : (meaning : LineMeaning) (users : List (Option UserValue)) → u < length users → IsSorted b (user_by_line u meaning) → IsSorted b (user_of users u)
       → (held (assigned meaning users) ≡ option_or (says meaning) (held users)) × IsSorted b (user_of (assigned meaning users) u)
   after_line meaning users inside e f =
-      subst (λ o. (said_to s o ≡ option_or (says meaning) (held users)) × IsSorted b o) (sym (user_after u meaning users inside)) (go (user_by_line u meaning) e) where
-        go : (o : Option UserValue) → IsSorted b o → (said_to s (laid o (user_of users u)) ≡ option_or (said_to s o) (held users)) × IsSorted b (laid o (user_of users u))
+      subst (λ o. (said_to s o ≡ option_or (says meaning) (held users)) × IsSorted b o) (sym (user_after u meaning users inside))
+      (go (user_by_line u meaning) e) where
+        go : (o : Option UserValue) → IsSorted b o
+            → (said_to s (laid o (user_of users u)) ≡ option_or (said_to s o) (held users)) × IsSorted b (laid o (user_of users u))
         go None e = (refl, f)
         go (Some x) e = (over_said b s x (user_of users u) e f, over_sorted b x (user_of users u) e f)
 

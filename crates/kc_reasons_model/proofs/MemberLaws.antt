@@ -78,7 +78,8 @@ module _ (s : ℕ) (k : MemberLine → Bool) where
     given_over earlier = given_joined (filter is_kept earlier) later ∙ go (is_listed later s) refl where
       go : (b : Bool) → is_listed later s ≡ b → (given s k (filter is_kept earlier) || given s k later) ≡ cond b (given s k later) (given s k earlier)
       go true e = ap (λ d. d || given s k later) (given_dropped e earlier)
-      go false e = ap (λ d. given s k (filter is_kept earlier) || d) (given_unlisted later e) ∙ or-false (given s k (filter is_kept earlier)) ∙ given_kept e earlier
+      go false e = ap (λ d. given s k (filter is_kept earlier) || d) (given_unlisted later e) ∙ or-false (given s k (filter is_kept earlier))
+          ∙ given_kept e earlier
 
 over_one : (s : ℕ) (x : UserValue) (o : Option UserValue) → is_given_both s (Some x) ≡ false → is_given_both s o ≡ false → is_given_both s (Some (over x o)) ≡ false
 over_one s (TriUser t) o e f = refl

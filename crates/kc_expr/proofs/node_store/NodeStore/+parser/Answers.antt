@@ -22,7 +22,8 @@ parse_ands-returns-in_err-left t c =
       sound = c.parse_factor.ensures.sound;
       extends = c.parse_factor.ensures.extends;
       names = rw p.1 tt;
-      parses = rw (p.1, p.2) (chain_first_fails ands_level (lexemes_of c.args.tokens.now) c.args.condition c.args.at c.args.depth _ c.in_err-left.ensures.parses);
+      parses = rw (p.1, p.2) (chain_first_fails ands_level
+          (lexemes_of c.args.tokens.now) c.args.condition c.args.at c.args.depth _ c.in_err-left.ensures.parses);
     }
 
 pub parse_ands-ands-init : goal.parse_ands-ands-init
@@ -30,7 +31,8 @@ parse_ands-ands-init t c = record {
   sound = c.parse_factor.ensures.sound;
   extends = c.parse_factor.ensures.extends;
   names = c.in_ok-left.ensures.names;
-  chained = chain_begins ands_level (lexemes_of c.args.tokens.now) c.args.condition c.args.at c.args.depth c.parse_factor.new.self _ _ c.in_ok-left.ensures.parses;
+  chained = chain_begins ands_level
+      (lexemes_of c.args.tokens.now) c.args.condition c.args.at c.args.depth c.parse_factor.new.self _ _ c.in_ok-left.ensures.parses;
 }
 
 pub parse_ands-returns-in_err-right : goal.parse_ands-returns-in_err-right
@@ -40,7 +42,8 @@ parse_ands-returns-in_err-right t c =
       extends = extends_on c.args.self.now c.ands.self c.parse_factor-in-ands.new.self c.ands.invariant.extends
           c.parse_factor-in-ands.ensures.extends;
       names = rw p.1 tt;
-      parses = rw (p.1, p.2) (chain_fails ands_level (lexemes_of c.args.tokens.now) c.args.condition c.args.at c.args.depth c.ands.self _ _ c.ands.invariant.chained
+      parses = rw (p.1, p.2) (chain_fails ands_level
+          (lexemes_of c.args.tokens.now) c.args.condition c.args.at c.args.depth c.ands.self _ _ c.ands.invariant.chained
           (c.is_kind_at.ensures.0 c.ands-test.true) _ c.in_err-right.ensures.parses);
     }
 
@@ -63,7 +66,8 @@ parse_ands-ands-preserved t c = record {
   names = read_joined c.args.self.now c.push.new.self _ both (λ a b. refl) c.ands.self c.parse_factor-in-ands.new.self c.ands.left c.in_ok-right.right _
       c.ands.invariant.names c.ands.invariant.sound c.parse_factor-in-ands.ensures.extends c.ands.invariant.chained.represents c.in_ok-right.ensures.names
       c.push.ensures.names c.in_ok-left-2.ensures.represents;
-  chained = chain_goes_on ands_level (lexemes_of c.args.tokens.now) c.args.condition c.args.at c.args.depth c.ands.self c.parse_factor-in-ands.new.self c.push.new.self _ _ _ _ _
+  chained = chain_goes_on ands_level
+      (lexemes_of c.args.tokens.now) c.args.condition c.args.at c.args.depth c.ands.self c.parse_factor-in-ands.new.self c.push.new.self _ _ _ _ _
       c.ands.invariant.chained (c.is_kind_at.ensures.0 c.ands-test.true) c.ands.invariant.sound c.parse_factor-in-ands.ensures.extends
       c.in_ok-right.ensures.parses c.in_ok-left-2.ensures.represents;
 }
@@ -83,7 +87,8 @@ parse_ors-returns-in_err-left t c =
       sound = c.parse_ands.ensures.sound;
       extends = c.parse_ands.ensures.extends;
       names = rw p.1 tt;
-      parses = rw (p.1, p.2) (chain_first_fails ors_level (lexemes_of c.args.tokens.now) c.args.condition c.args.at c.args.depth _ c.in_err-left.ensures.parses);
+      parses = rw (p.1, p.2) (chain_first_fails ors_level
+          (lexemes_of c.args.tokens.now) c.args.condition c.args.at c.args.depth _ c.in_err-left.ensures.parses);
     }
 
 pub parse_ors-ors-init : goal.parse_ors-ors-init
@@ -91,7 +96,8 @@ parse_ors-ors-init t c = record {
   sound = c.parse_ands.ensures.sound;
   extends = c.parse_ands.ensures.extends;
   names = c.in_ok-left.ensures.names;
-  chained = chain_begins ors_level (lexemes_of c.args.tokens.now) c.args.condition c.args.at c.args.depth c.parse_ands.new.self _ _ c.in_ok-left.ensures.parses;
+  chained = chain_begins ors_level
+      (lexemes_of c.args.tokens.now) c.args.condition c.args.at c.args.depth c.parse_ands.new.self _ _ c.in_ok-left.ensures.parses;
 }
 
 pub parse_ors-returns-in_err-right : goal.parse_ors-returns-in_err-right
@@ -101,7 +107,8 @@ parse_ors-returns-in_err-right t c =
       extends = extends_on c.args.self.now c.ors.self c.parse_ands-in-ors.new.self c.ors.invariant.extends
           c.parse_ands-in-ors.ensures.extends;
       names = rw p.1 tt;
-      parses = rw (p.1, p.2) (chain_fails ors_level (lexemes_of c.args.tokens.now) c.args.condition c.args.at c.args.depth c.ors.self _ _ c.ors.invariant.chained
+      parses = rw (p.1, p.2) (chain_fails ors_level
+          (lexemes_of c.args.tokens.now) c.args.condition c.args.at c.args.depth c.ors.self _ _ c.ors.invariant.chained
           (c.is_kind_at.ensures.0 c.ors-test.true) _ c.in_err-right.ensures.parses);
     }
 
@@ -124,7 +131,8 @@ parse_ors-ors-preserved t c = record {
   names = read_joined c.args.self.now c.push.new.self _ either (λ a b. refl) c.ors.self c.parse_ands-in-ors.new.self c.ors.left c.in_ok-right.right _
       c.ors.invariant.names c.ors.invariant.sound c.parse_ands-in-ors.ensures.extends c.ors.invariant.chained.represents c.in_ok-right.ensures.names
       c.push.ensures.names c.in_ok-left-2.ensures.represents;
-  chained = chain_goes_on ors_level (lexemes_of c.args.tokens.now) c.args.condition c.args.at c.args.depth c.ors.self c.parse_ands-in-ors.new.self c.push.new.self _ _ _ _ _
+  chained = chain_goes_on ors_level
+      (lexemes_of c.args.tokens.now) c.args.condition c.args.at c.args.depth c.ors.self c.parse_ands-in-ors.new.self c.push.new.self _ _ _ _ _
       c.ors.invariant.chained (c.is_kind_at.ensures.0 c.ors-test.true) c.ors.invariant.sound c.parse_ands-in-ors.ensures.extends c.in_ok-right.ensures.parses
       c.in_ok-left-2.ensures.represents;
 }

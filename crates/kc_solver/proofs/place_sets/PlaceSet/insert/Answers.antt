@@ -4,7 +4,8 @@ use Rattle.kc_solver.proofs.place_sets.PlaceSet.insert.Goals.{After-write_place}
 use Rattle.kc_solver.proofs.place_sets.PlaceSet.insert.Goals as goal
 
 written : (c : After-write_place) → (let set = c.args.self.now in let new = c.write_place.new.words in
-    HasWritten set.levels set.first set.size set.words.items (take set.words.len (new ++ drop (length new) set.words.items)) (64 * set.first + c.args.place) true)
+    HasWritten set.levels set.first set.size set.words.items (take set.words.len (new ++ drop (length new) set.words.items))
+    (64 * set.first + c.args.place) true)
 written c =
     let set = c.args.self.now in
     has_written _ _ _ _ _ _ _ _ set.tree (sym set.words.ok.0) (omega arith) ((rw c.deref_mut.ensures.value at c.write_place.ensures.written) set.first)

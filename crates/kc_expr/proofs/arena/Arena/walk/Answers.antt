@@ -1,1 +1,0 @@
-use Rattle.kc_expr.proofs.arena.Arena.walk.Goals as goal

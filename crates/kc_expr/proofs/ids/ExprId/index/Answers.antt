@@ -1,1 +1,0 @@
-use Rattle.kc_expr.proofs.ids.ExprId.index.Goals as goal

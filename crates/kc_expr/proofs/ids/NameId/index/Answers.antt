@@ -1,1 +1,0 @@
-use Rattle.kc_expr.proofs.ids.NameId.index.Goals as goal
