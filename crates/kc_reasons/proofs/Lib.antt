@@ -5,3 +5,4 @@ pub mod UnitHindrances
 pub mod LackingLemmas
 pub mod DecisiveLemmas
 pub mod EmptyLists
+pub mod SymbolParts
