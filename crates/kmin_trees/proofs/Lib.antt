@@ -5,3 +5,4 @@ pub mod UnfailedStops
 pub mod JobTrees
 pub mod PathLists
 pub mod KnownTrees
+pub mod ErrorExits

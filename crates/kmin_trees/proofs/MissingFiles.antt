@@ -1,6 +1,6 @@
 -- Files that count as missing while the files of a tree come in.
-use Rattle.std.proofs.Common.{◌≡◌, ℕ, suc, ◌+◌, ◌<◌, ◌≤◌, Bool, true, false, ◌⊎◌, inl, inr, List, [], ◌∷◌, length, get_or, take, Option, Some, None, Ok, Err, Result, refl, ap, ◌∙◌, arith}
-use Rattle.std.specs.Prelude.{◌≢◌, ◌++◌, bytes_eq, nat_lt, filter_map, is_some, not, IfOk, IfErr, IfNone, if◌then◌else◌}
+use Rattle.std.proofs.Common.{◌≡◌, ℕ, suc, ◌+◌, ◌<◌, ◌≤◌, Bool, true, false, ◌⊎◌, inl, inr, List, [], ◌∷◌, length, get_or, take, Option, Some, None, Ok, Err, Result, refl, sym, ap, ◌∙◌, arith}
+use Rattle.std.specs.Prelude.{◌≢◌, ◌++◌, bytes_eq, nat_lt, filter_map, is_some, option_map, not, IfOk, IfErr, IfNone, if◌then◌else◌}
 use Rattle.std.specs.List.{All}
 use Rattle.std.specs.Map.{lookup}
 use Rattle.std.proofs.lemmas.Bool.Decides.{nat_tests}
@@ -167,3 +167,14 @@ lacks_by_fault content_of root first texts a b fault (inr w) k = lacks_none faul
 pub any_err : {T E : Type 0} (r : Result T E) (P : E → Type 0) → ((e : E) → P e) → IfErr r P
 any_err (Ok x) P h = tt
 any_err (Err e) P h = h e
+
+-- by the test of its look-up a path has a text, or none
+pub has_text : {B : Type 0} (f : B → List ℕ) (found : Option B) (test : Bool) (text : Option (List ℕ)) → test ≡ is_some found → test ≡ true
+    → option_map f found ≡ text → text ≢ None
+has_text f None test text e t m = λ none. cc
+has_text f (Some x) test text e t m = λ none. cc
+
+pub lacks_text : {B : Type 0} (f : B → List ℕ) (found : Option B) (test : Bool) (text : Option (List ℕ)) → test ≡ is_some found → test ≡ false
+    → option_map f found ≡ text → text ≡ None
+lacks_text f None test text e t m = sym m
+lacks_text f (Some x) test text e t m = cc

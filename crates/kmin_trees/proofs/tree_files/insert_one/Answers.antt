@@ -1,29 +1,66 @@
-use Rattle.std.proofs.Common.{◌≡◌, None, rules, arith}
-use Rattle.std.proofs.lemmas.Grind.{common_steps, elements}
+use Rattle.std.proofs.Common.{◌≡◌, ℕ, List, None, refl, sym}
+use Rattle.std.proofs.lemmas.Bool.{false≢true}
+use Rattle.std.specs.Borrow.{Bor}
+use Rattle.kc_solver.proofs.ErrorExits.{no_value}
 use Rattle.kc_tree_model.specs.TreeFiles.{file_at}
+use Rattle.kmin_inputs.specs.FileContents.{MatchContentStart, path_below}
+use Rattle.kmin_inputs.proofs.FailureCounts.{at_most_itself}
 use Rattle.kmin_trees.proofs.TextGrowth.{inserted}
-use Rattle.kmin_trees.proofs.MissingFiles.{longer}
+use Rattle.kmin_trees.proofs.MissingFiles.{longer, has_text, lacks_text}
 use Rattle.kmin_trees.proofs.tree_files.insert_one.Goals as goal
 
-pub returns-clause-below : goal.returns-clause-below
-returns-clause-below g c =
-    let put = inserted (g.F.Files.surroundings c.args.files.now).content c.args.root.now c.args.path.now c.in-Some.bytes.items c.args.texts.now c.requires.below
-    (search rules) in
-    search rules
+pub returns-then-is_some : goal.returns-then-is_some
+returns-then-is_some g c = record {
+  same = refl;
+  below = c.requires.below;
+  inserted = λ e. absurd (false≢true e);
+  same_texts = λ _. refl;
+  missing = λ _ none. absurd (has_text (λ (b : Bor (List ℕ)). b.now) c.get.result c.is_some.result (file_at c.args.texts.now c.args.path.now)
+      c.is_some.ensures c.if-is_some.true c.get.ensures none);
+  rising = at_most_itself _;
+}
 
-pub returns-in_err-bytes-clause-below : goal.returns-in_err-bytes-clause-below
-returns-in_err-bytes-clause-below g c = grind (arith, elements)
+pub returns-in_err-bytes : goal.returns-in_err-bytes
+returns-in_err-bytes g c = record {
+  same = c.read_below.ensures.same;
+  below = c.requires.below;
+  inserted = no_value c.from_residual.result _ _ c.from_residual.ensures.1;
+  same_texts = no_value c.from_residual.result _ _ c.from_residual.ensures.1;
+  missing = no_value c.from_residual.result _ _ c.from_residual.ensures.1;
+  rising = c.read_below.ensures.rising;
+}
 
-pub returns-in_err-insert-clause-below : goal.returns-in_err-insert-clause-below
-returns-in_err-insert-clause-below g c = grind (arith, common_steps)
+pub returns-in_default : goal.returns-in_default
+returns-in_default g c = record {
+  same = c.read_below.ensures.same;
+  below = c.requires.below;
+  inserted = λ e. absurd (false≢true e);
+  same_texts = λ _. refl;
+  missing = λ _ _. rw c.in_default.is at c.in_ok-bytes.ensures.missing;
+  rising = c.read_below.ensures.rising;
+}
 
-pub returns-in_default-clause-below : goal.returns-in_default-clause-below
-returns-in_default-clause-below g c = grind (arith, common_steps)
+pub returns-in_err-insert : goal.returns-in_err-insert
+returns-in_err-insert g c = record {
+  same = c.read_below.ensures.same;
+  below = rw c.in_err-insert.ensures.err c.requires.below;
+  inserted = no_value c.from_residual-in_err-insert.result _ _ c.from_residual-in_err-insert.ensures.1;
+  same_texts = no_value c.from_residual-in_err-insert.result _ _ c.from_residual-in_err-insert.ensures.1;
+  missing = no_value c.from_residual-in_err-insert.result _ _ c.from_residual-in_err-insert.ensures.1;
+  rising = c.read_below.ensures.rising;
+}
 
-pub returns-then-is_some-clause-below : goal.returns-then-is_some-clause-below
-returns-then-is_some-clause-below g c = grind (arith, elements)
-
-pub returns-clause-inserted : goal.returns-clause-inserted
-returns-clause-inserted g c =
-    let absent : file_at c.args.texts.now c.args.path.now ≡ None = first_of (search rules, grind (arith, common_steps)) in
-    λ _. longer c.args.texts.now c.insert.new.self c.args.path.now c.deref.result.now absent c.in_ok-insert.ensures.ok
+pub returns : goal.returns
+returns g c =
+    let content_of = (g.F.Files.surroundings c.args.files.now).content in
+    let starts : MatchContentStart (content_of (path_below c.args.root.now c.args.path.now)) c.deref.result.now =
+    rw c.deref.ensures.value (rw c.in-Some.is at c.in_ok-bytes.ensures.bytes) in
+    let absent : file_at c.args.texts.now c.args.path.now ≡ None = lacks_text (λ (b : Bor (List ℕ)). b.now) c.get.result c.is_some.result _
+    c.is_some.ensures c.if-is_some.false c.get.ensures in record {
+      same = c.read_below.ensures.same;
+      below = rw c.in_ok-insert.ensures.ok (inserted content_of c.args.root.now c.args.path.now c.deref.result.now c.args.texts.now c.requires.below starts);
+      inserted = λ _. longer c.args.texts.now c.insert.new.self c.args.path.now c.deref.result.now absent c.in_ok-insert.ensures.ok;
+      same_texts = λ e. absurd (false≢true (sym e));
+      missing = λ e none. absurd (false≢true (sym e));
+      rising = c.read_below.ensures.rising;
+    }

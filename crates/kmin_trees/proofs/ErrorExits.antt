@@ -1,0 +1,30 @@
+-- What holds where a `?` returns an error.
+use Rattle.std.proofs.Common.{◌≡◌, ℕ, List, Result, Ok, Err, IfErr, refl, arith}
+use Rattle.std.specs.Result.{IsErr, IsErrAnd}
+use Rattle.kmin_report.specs.Reports.{ErrorLine}
+use Rattle.kmin_report.specs.StandardError.{SpelledBytes, TakesLines}
+use Rattle.kmin_report.specs.declared.run_error.RunError.{RunError}
+use Rattle.kmin_report.specs.declared.run_error.RunError.TheVariants.{Memory}
+use Rattle.kmin_report.specs.between.RunErrors.{status_of}
+use Rattle.kmin_options.specs.Jobs.{Settings}
+use Rattle.kmin_inputs.specs.FileContents.{Surroundings}
+use Rattle.kmin_expansions.specs.JobTexts.{TreeTexts, AreTextsOfJob}
+use Rattle.kmin_trees.specs.Stops.{StopsAtTree, for_memory}
+use Rattle.kmin_report.proofs.Results.{memory_err}
+
+-- what holds of an error is said of the result that has it
+pub with_error : {T E : Type 0} (r : Result T E) (e : E) (P : E → Type 0) → IsErrAnd r (λ y. y ≡ e) → P e → IfErr r P
+with_error (Ok x) e P h k = absurd h
+with_error (Err y) e P h k = rw h k
+
+-- the status of a run for which memory runs out isn't that of a failed call
+pub memory_not_failed : {P : Type 0} (status : ℕ) → status ≡ 6 → status ≡ 5 → P
+memory_not_failed status six five = absurd (omega arith)
+
+-- a run for which memory runs out after the texts of its tree ends at the tree, with their lines
+pub memory_stops : {T : Type 0} (r : Result T RunError) (known : Surroundings) (counted counted_after : ℕ) (settings : Settings) (t : TreeTexts)
+    (taken taken_after : SpelledBytes) (failed failed_after : ℕ) → IsErr r × IsErrAnd r (λ stop. stop ≡ Memory) → AreTextsOfJob known settings t
+    → TakesLines taken failed t.lines taken_after failed_after
+    → IfErr r (λ stop. (lines : List ErrorLine) × StopsAtTree known counted counted_after settings (status_of stop) lines × TakesLines taken failed lines taken_after failed_after)
+memory_stops r known counted counted_after settings t taken taken_after failed failed_after h are takes =
+    memory_err r _ h (λ stop status. (t.lines, for_memory t are status refl, takes))
