@@ -48,3 +48,8 @@ stops_first s a paths = before_write a [] paths [] 0 refl (tidies_none s a) (inl
 pub memory_stop : {T : Type 0} (r : Result T TidyStop) (P : TidyStop → Type 0) → IsErr r × IsErrAnd r (λ stop. stop ≡ Memory) → P Memory → IfErr r P
 memory_stop (Ok x) P h k = tt
 memory_stop (Err stop) P h k = subst P (sym h.1) k
+
+-- what holds of a reason is said of the result that has it
+pub with_stop : {T : Type 0} (r : Result T TidyStop) (stop : TidyStop) (P : TidyStop → Type 0) → IsErrAnd r (λ other. other ≡ stop) → P stop → IfErr r P
+with_stop (Ok x) stop P h k = absurd h
+with_stop (Err other) stop P h k = rw h k
