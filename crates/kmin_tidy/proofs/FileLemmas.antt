@@ -1,5 +1,5 @@
 -- Facts for `tidy_file`: from the results of its parts to a `Step` of the run.
-use Rattle.std.proofs.Common.{◌≡◌, ◌≢◌, ℕ, Bool, true, false, List, [], ◌∷◌, ◌++◌, Option, Some, None, map, length, take, cond, refl, sym, ap, ◌∙◌, subst, append-nil, inl, inr}
+use Rattle.std.proofs.Common.{◌≡◌, ◌≢◌, ℕ, Bool, true, false, List, [], ◌∷◌, ◌++◌, ◌⊎◌, Option, Some, None, map, length, take, cond, refl, sym, ap, ◌∙◌, subst, append-nil, inl, inr}
 use Rattle.std.proofs.Math.Seq.{take-append_seam}
 use Rattle.std.specs.Str.{bytes_eq}
 use Rattle.std.proofs.lemmas.Slice.Eq.{bytes_eq-Decides}
@@ -52,6 +52,7 @@ use Rattle.kmin_tidy.specs.declared.report.Problem.TheVariants.{Fault, Write, No
 use Rattle.kmin_tidy.specs.declared.report.FileReport.{FileReport}
 use Rattle.kmin_tidy.specs.declared.file_step.FileEnd.{FileEnd}
 use Rattle.kmin_tidy.specs.declared.stop.TidyStop.{TidyStop}
+use Rattle.kmin_tidy.specs.declared.stop.TidyStop.TheVariants.{Memory}
 use Rattle.kmin_tidy.proofs.RefusalLemmas.{refused_by, lines_of_problem, lines_of_notices}
 
 -- bytes for which the test `==` gives `false` differ
@@ -177,6 +178,16 @@ module _ (settled now : Settled) (format : Format) (options : TidyOptions) (byte
   has_choice_notices none =
       let empty : notices_from 1 f.meanings ≡ [] = sym f.noted ∙ ap (map notice_pair) none in
       of_choices values file_loads empty (all_noted ∙ ap (λ ns. ns ++ choice_notices (tree_of_settled settled) values f.meanings) empty)
+
+  -- a run that ends at an accepted file which isn't refused ends at that file
+  pub stops_allowed : (a b : Disk) (path : List ℕ) (stop : TidyStop) → IsReadAt (settings_of settled format options) a.state path bytes
+      → (refuses_notices options ≡ true → map notice_pair noted ≡ [])
+      → (((stop ≡ Memory) × (b ≡ a)) ⊎ ((least : List ℕ) × IsCanonicalText (file_format format) (profile_of now) (tree_of_settled now) values least
+      × StopsRewrite options.write a b path bytes least stop)) → StopsFile (settings_of settled format options) a b path stop
+  stops_allowed a b path stop read allowed (inl memory) = inl (memory.0, inl memory.1)
+  stops_allowed a b path stop read allowed (inr h) =
+      stops_rewrite (settings_of settled format options) a b path bytes h.0 (map notice_pair noted) stop
+      (record { read = read; minimal = has_minimal_file h.0 h.1; allowed = allowed }) h.2
 
 -- after a fault of replacing a file that lets the run go on, the file counts as not replaced, or not for good
 pub written_by : (a b : Disk) (path least : List ℕ) (fault : ReplaceFault) (end : FileEnd) → FaultLeaves a.state b.state path least fault

@@ -49,6 +49,11 @@ pub memory_stop : {T : Type 0} (r : Result T TidyStop) (P : TidyStop → Type 0)
 memory_stop (Ok x) P h k = tt
 memory_stop (Err stop) P h k = subst P (sym h.1) k
 
+-- a result that failed for lack of memory before a file was replaced ends the run at that file
+pub stops_for_memory : {T : Type 0} (r : Result T TidyStop) (s : TidySettings) (a : Disk) (path : List ℕ)
+    → IsErr r × IsErrAnd r (λ stop. stop ≡ Memory) → IfErr r (StopsFile s a a path)
+stops_for_memory r s a path h = memory_stop r (StopsFile s a a path) h (inl (refl, inl refl))
+
 -- what holds of a reason is said of the result that has it
 pub with_stop : {T : Type 0} (r : Result T TidyStop) (stop : TidyStop) (P : TidyStop → Type 0) → IsErrAnd r (λ other. other ≡ stop) → P stop → IfErr r P
 with_stop (Ok x) stop P h k = absurd h

@@ -124,8 +124,7 @@ fn tidy_accepted<D: WriteDisk>(
 {
     let AcceptedFile { bytes, fragment } = file;
     if is_refused_for(options, &fragment.notices) {
-        let Fragment { notices, .. } = fragment;
-        return Ok(report_of_notices(notices));
+        return Ok(report_of_lines(fragment));
     }
     let notices = solve(alloc, config, fragment)?;
     if is_refused_for(options, &notices) {
@@ -219,6 +218,16 @@ fn is_refused_for(options: TidyOptions, notices: &[Notice]) -> bool
     } else {
         false
     }
+}
+
+/// The report of a file that is refused for the notices of its lines.
+fn report_of_lines(fragment: Fragment) -> FileReport
+    ensures notices { result.notices.items ≡ fragment.notices.items }
+    ensures problem { result.problem ≡ None }
+    ensures outcome { result.outcome ≡ FileOutcome.Refused }
+{
+    let Fragment { notices, .. } = fragment;
+    report_of_notices(notices)
 }
 
 /// The report of a file that is refused for its notices.

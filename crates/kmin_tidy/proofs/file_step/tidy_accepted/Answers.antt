@@ -1,4 +1,4 @@
-use Rattle.std.proofs.Common.{◌≡◌, ◌≢◌, [], map, refl, sym, ap, ◌∙◌, append-nil, inl, inr}
+use Rattle.std.proofs.Common.{◌≡◌, ◌≢◌, [], map, refl, sym, ap, ◌∙◌, append-nil}
 use Rattle.kc_rules.specs.between.SettledViews.{tree_of_settled}
 use Rattle.kc_solver.proofs.ErrorExits.{no_value}
 use Rattle.kc_dotconfig_model.specs.between.Formats.{file_format}
@@ -6,8 +6,8 @@ use Rattle.kc_dotconfig.specs.Fragments.{notice_pair}
 use Rattle.kmin_tidy.specs.Options.{settings_of}
 use Rattle.kmin_tidy.specs.MinimalFiles.{IsReadAt, of_lines}
 use Rattle.kmin_tidy.specs.checker.Readings.{IsFragmentOf}
-use Rattle.kmin_tidy.proofs.FileLemmas.{notices_step, rewritten_step, map_some, has_minimal_file, has_choice_notices, stops_rewrite}
-use Rattle.kmin_tidy.proofs.WholeRuns.{memory_stop, with_stop}
+use Rattle.kmin_tidy.proofs.FileLemmas.{notices_step, rewritten_step, map_some, has_minimal_file, has_choice_notices, stops_allowed}
+use Rattle.kmin_tidy.proofs.WholeRuns.{stops_for_memory, with_stop}
 use Rattle.kmin_tidy.proofs.file_step.tidy_accepted.Goals as goal
 
 pub returns-then-is_refused_for : goal.returns-then-is_refused_for
@@ -22,10 +22,10 @@ returns-then-is_refused_for g c =
       step = (
         [],
         sym (append-nil c.args.text.now.items),
-        notices_step s a c.args.path.now c.report_of_notices.result c.args.file.bytes.items c.args.file.fragment.notices.items read
+        notices_step s a c.args.path.now c.report_of_lines.result c.args.file.bytes.items c.args.file.fragment.notices.items read
             (of_lines f.meanings f.accepted f.means f.noted) asked.0
-            (map_some notice_pair c.args.file.fragment.notices.items some) c.report_of_notices.ensures.notices c.report_of_notices.ensures.problem
-            c.report_of_notices.ensures.outcome,
+            (map_some notice_pair c.args.file.fragment.notices.items some) c.report_of_lines.ensures.notices c.report_of_lines.ensures.problem
+            c.report_of_lines.ensures.outcome,
       );
       stopped = tt;
     }
@@ -34,7 +34,8 @@ pub returns-in_err-notices : goal.returns-in_err-notices
 returns-in_err-notices g c = record {
   settled = c.solve.ensures.settled;
   step = no_value c.from_residual.result _ _ c.from_residual.ensures.1;
-  stopped = memory_stop c.from_residual.result _ c.from_residual.ensures (inl (refl, inl refl));
+  stopped = stops_for_memory c.from_residual.result (settings_of c.args.config.now.system c.args.format.now c.args.options)
+      (g.D.ReadDisk.disk c.args.disk.now) c.args.path.now c.from_residual.ensures;
 }
 
 pub returns-then-is_refused_for-2 : goal.returns-then-is_refused_for-2
@@ -50,12 +51,12 @@ returns-then-is_refused_for-2 g c =
       step = (
         [],
         sym (append-nil c.args.text.now.items),
-        notices_step s a c.args.path.now c.report_of_notices-then-is_refused_for-2.result c.args.file.bytes.items noted read
+        notices_step s a c.args.path.now c.report_of_notices.result c.args.file.bytes.items noted read
             (has_choice_notices c.args.config.now.system c.solve.new.config.system c.args.format.now c.args.options c.args.file.bytes.items c.args.file.fragment noted
             c.solve.new.config.users c.solve.new.config.values c.args.format.now.prefix.valid c.in_ok-notices.ensures.settled c.requires.accepted.fragment
             c.in_ok-notices.ensures.users c.in_ok-notices.ensures.solved.gives c.in_ok-notices.ensures.notices none)
-            asked.0 (map_some notice_pair noted some) c.report_of_notices-then-is_refused_for-2.ensures.notices
-            c.report_of_notices-then-is_refused_for-2.ensures.problem c.report_of_notices-then-is_refused_for-2.ensures.outcome,
+            asked.0 (map_some notice_pair noted some) c.report_of_notices.ensures.notices
+            c.report_of_notices.ensures.problem c.report_of_notices.ensures.outcome,
       );
       stopped = tt;
     }
@@ -72,16 +73,12 @@ returns-in_err-end g c =
     let read : IsReadAt s a.state c.args.path.now bytes = record { may = c.requires.may; bytes_are = rw c.deref-3.ensures.value c.requires.accepted.read } in record {
       settled = c.in_ok-notices.ensures.settled;
       step = no_value c.from_residual-in_err-end.result _ _ c.from_residual-in_err-end.ensures.1;
-      stopped = with_stop c.from_residual-in_err-end.result _ _ c.from_residual-in_err-end.ensures.1 (elim c.in_err-end.ensures.stopped [
-        | inl memory ↦ inl (memory.0, inl memory.1)
-        | inr h ↦ stops_rewrite s a b c.args.path.now bytes h.0 (map notice_pair noted) c.in_err-end.field-0.0 (record {
-          read = read;
-          minimal = has_minimal_file c.args.config.now.system c.solve.new.config.system c.args.format.now c.args.options bytes c.args.file.fragment noted
-              c.solve.new.config.users c.solve.new.config.values c.args.format.now.prefix.valid c.in_ok-notices.ensures.settled f
-              c.in_ok-notices.ensures.users c.in_ok-notices.ensures.solved.gives c.in_ok-notices.ensures.notices h.0 h.1;
-          allowed = λ asked. ap (map notice_pair) (sym c.deref-2.ensures.value ∙ c.is_refused_for-2.ensures.allowed c.if-is_refused_for-2.false asked);
-        }) h.2
-      ]);
+      stopped = with_stop c.from_residual-in_err-end.result _ _ c.from_residual-in_err-end.ensures.1
+          (stops_allowed c.args.config.now.system c.solve.new.config.system c.args.format.now c.args.options bytes c.args.file.fragment noted
+          c.solve.new.config.users c.solve.new.config.values c.args.format.now.prefix.valid c.in_ok-notices.ensures.settled f
+          c.in_ok-notices.ensures.users c.in_ok-notices.ensures.solved.gives c.in_ok-notices.ensures.notices a b c.args.path.now c.in_err-end.field-0.0 read
+          (λ asked. ap (map notice_pair) (sym c.deref-2.ensures.value ∙ c.is_refused_for-2.ensures.allowed c.if-is_refused_for-2.false asked))
+          c.in_err-end.ensures.stopped);
     }
 
 pub returns : goal.returns
