@@ -13,7 +13,7 @@ run:             # a first look: a small bundle, by a program that checks while 
 	@if make --silent --question build/kmin; then \
 	    build/kmin < $(BUNDLE); \
 	else \
-	    echo "make run: not proved: this build checks while it runs what a proof shows before; 'make build/kmin' proves and builds kmin, in about three hours of processor time" >&2; \
+	    echo "make run: not proved: this build checks while it runs what a proof shows before; 'make build/kmin' proves and builds kmin, in three to four hours of processor time" >&2; \
 	    mkdir -p build; \
 	    (cd crates/kmin && rt try < stdin 2> ../../build/try.log) || { cat build/try.log >&2; exit 1; }; \
 	fi

@@ -1,11 +1,7 @@
 -- What holds where a `?` returns an error.
-use Rattle.std.proofs.Common.{◌≡◌, Result, Ok, Err, IfErr}
+use Rattle.std.proofs.Common.{◌≡◌, Result, Ok, Err}
 use Rattle.std.specs.Result.{IsErrAnd}
-
--- what holds of an error is said of the result that has it
-pub with_error : {T E : Type 0} (r : Result T E) (e : E) (P : E → Type 0) → IsErrAnd r (λ y. y ≡ e) → P e → IfErr r P
-with_error (Ok x) e P h k = absurd h
-with_error (Err y) e P h k = rw h k
+pub use Rattle.kmin_trees.proofs.ErrorExits.{with_error}
 
 -- a value is no error
 pub value_is_no_error : {T E : Type 0} (x : T) (e : E) → Ok x ≡ Err e → ⊥

@@ -1,6 +1,7 @@
 -- What holds where a `?` returns an error.
 use Rattle.kmin_trees.proofs.Common.{◌≡◌, ℕ, List, Result, Ok, Err, IfErr, refl, arith, ErrorLine, SpelledBytes, TakesLines, RunError, status_of, Settings, Surroundings, TreeTexts, AreTextsOfJob, StopsAtTree, memory_err}
 use Rattle.std.specs.Result.{IsErr, IsErrAnd}
+use Rattle.kc_files.specs.TreeContents.{HasRisen}
 use Rattle.kmin_report.specs.declared.run_error.RunError.TheVariants.{Memory}
 use Rattle.kmin_trees.specs.Stops.{for_memory}
 
@@ -9,9 +10,10 @@ pub with_error : {T E : Type 0} (r : Result T E) (e : E) (P : E → Type 0) → 
 with_error (Ok x) e P h k = absurd h
 with_error (Err y) e P h k = rw h k
 
--- the status of a run for which memory runs out isn't that of a failed call
-pub memory_not_failed : {P : Type 0} (status : ℕ) → status ≡ 6 → status ≡ 5 → P
-memory_not_failed status six five = absurd (omega arith)
+-- memory that runs out isn't a failed call
+pub memory_unfailed : {T : Type 0} (r : Result T RunError) (counted counted_after : ℕ) → IsErr r × IsErrAnd r (λ stop. stop ≡ Memory)
+    → IfErr r (λ stop. status_of stop ≡ 5 → HasRisen counted counted_after)
+memory_unfailed r counted counted_after h = memory_err r _ h (λ stop status. λ five. absurd (omega arith))
 
 -- a run for which memory runs out after the texts of its tree ends at the tree, with their lines
 pub memory_stops : {T : Type 0} (r : Result T RunError) (known : Surroundings) (counted counted_after : ℕ) (settings : Settings) (t : TreeTexts)

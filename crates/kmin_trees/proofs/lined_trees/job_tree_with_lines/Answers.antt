@@ -1,5 +1,5 @@
 use Rattle.kmin_trees.proofs.Common.{sym, ap, ◌∙◌, no_value, memory_err, status_of, names_by_number}
-use Rattle.kmin_trees.proofs.ErrorExits.{with_error, memory_not_failed, memory_stops}
+use Rattle.kmin_trees.proofs.ErrorExits.{with_error, memory_stops, memory_unfailed}
 use Rattle.kmin_trees.proofs.lined_trees.job_tree_with_lines.Goals as goal
 
 pub returns-in_err-settled : goal.returns-in_err-settled
@@ -20,7 +20,7 @@ returns-in_err-paths g c =
       profile = no_value c.from_residual-in_err-paths.result _ _ c.from_residual-in_err-paths.ensures.1;
       stopped = memory_stops c.from_residual-in_err-paths.result _ _ _ _ a.0 _ _ _ _ c.from_residual-in_err-paths.ensures a.1 a.3;
       rising = c.kept_tree.ensures.rising;
-      failed = memory_err c.from_residual-in_err-paths.result _ c.from_residual-in_err-paths.ensures (λ stop status. memory_not_failed (status_of stop) status);
+      failed = memory_unfailed c.from_residual-in_err-paths.result _ _ c.from_residual-in_err-paths.ensures;
     }
 
 pub returns : goal.returns
