@@ -1,4 +1,4 @@
--- What stands on the lines of a tree are expressions of its arena.
+-- What is on the lines of a tree are expressions of its arena.
 use Rattle.kc_symbol_lines.proofs.Common.{◌≡◌, inl, inr, ℕ, zero, suc, ◌+◌, ◌<◌, Bool, true, false, List, [], ◌∷◌, ◌++◌, length, map, take, Option, Some, None, refl, sym, subst, ◌∙◌, arith, slice_get, flat_map, All, IfSome, Vec, All-nil, All-cons, Exprs, RepresentsHead, LineNodesExist, Group}
 use Rattle.kc_symbol_lines.proofs.Common.{GroupHead, names_defined, Has, HasLines, TreeLines, Conjuncts, Dependencies, Visibles, LocatedExpr, IsHeld, AreHeld, conjunct_given, prompt_given, each_items, EnclosingLists, position_at, located_if, parts_in, dependency_parts, prompt_parts, prompt_at}
 use Rattle.kc_symbol_lines.proofs.Common.{prompts_in, as_choice_part, shown_parts, inside_menu, inside_choice, inside_head, inside_blocks, lines_at, All-take}

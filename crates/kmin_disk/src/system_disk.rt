@@ -12,7 +12,7 @@ use std::fs;
 use std::fs::File;
 use std::io::ErrorKind;
 
-/// The disk of the system. Contracts know nothing of its files but what the calls on a new one tell.
+/// The disk of the system. Contracts know nothing of its files but what the calls on a new one show.
 #[derive(Drop)]
 pub struct SystemDisk<'a> {
     runtime: &'a HostRuntime,

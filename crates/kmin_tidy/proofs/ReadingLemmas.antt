@@ -152,7 +152,7 @@ cut_within format tree bytes number h lt =
     let k = h.first TooLarge MAX_CONFIG_BYTES (newline_count (take MAX_CONFIG_BYTES bytes) + 1) (inl ((lt, refl, refl), lt)) in
     elim k [ inl less ↦ omega (arith, less, e, lt) | inr same ↦ omega (arith, same.0, e, lt) ]
 
--- a fault of a failed read is told only of a part that isn't too large
+-- a fault of a failed read is reported only of a part that isn't too large
 pub read_within : (format : FileFormat) (tree : Tree) (bytes : List ℕ) (kind : LoadKind) (number : ℕ) → IsFaultOfPart format tree bytes kind number
     → kind ≡ Read → length bytes ≤ MAX_CONFIG_BYTES
 read_within format tree bytes kind number (in_front other first) read = absurd (other read)
