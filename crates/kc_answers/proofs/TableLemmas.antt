@@ -1,20 +1,15 @@
 -- Questions and answers, through the map that holds them.
-use Rattle.kc_answers.proofs.Common.{◌≡◌, ℕ, zero, suc, Bool, true, false, cond, List, [], ◌∷◌, ◌++◌, take, map, Option, Some, None, refl, sym, ap, ◌∙◌, Vec, bytes_eq, option_map, is_none, RecordedAnswers, questions_of, Global, bytes_eq-Decides, insert_entry, keys_of, keyword_in_table, Answer}
+use Rattle.kc_answers.proofs.Common.{◌≡◌, ℕ, zero, suc, Bool, true, false, cond, List, [], ◌∷◌, ◌++◌, take, map, Option, Some, None, refl, sym, ap, ◌∙◌, Vec, bytes_eq, option_map, is_none, RecordedAnswers, questions_of, Global, insert_entry, keys_of, keyword_in_table, Answer}
 use Rattle.kc_answers.proofs.Common.{answer_of_entry}
 use Rattle.std.specs.Prelude.{filter, not, is_some, IfOk, Result, Ok, Err, ◌||◌}
 use Rattle.kc_tree_model.specs.Limits.{is_in_list}
 use Rattle.kc_answers.specs.RunStates.{with_question}
 use Rattle.std.specs.Map.{lookup}
 use Rattle.kc_macros_model.specs.Worlds.{not_in}
+use Rattle.std.proofs.lemmas.Cmp.{nat_list_eq_equiv}
 
 pub bytes_eq_turned : (x y : List ℕ) → bytes_eq x y ≡ bytes_eq y x
-bytes_eq_turned x y = by_tests (bytes_eq x y) (bytes_eq y x) refl refl
-  where
-    by_tests : (b c : Bool) → bytes_eq x y ≡ b → bytes_eq y x ≡ c → b ≡ c
-    by_tests true true e f = refl
-    by_tests false false e f = refl
-    by_tests true false e f = let z : true ≡ false = sym ((bytes_eq-Decides y x).1 (sym ((bytes_eq-Decides x y).0 e))) ∙ f in cc
-    by_tests false true e f = let z : true ≡ false = sym ((bytes_eq-Decides x y).1 (sym ((bytes_eq-Decides y x).0 f))) ∙ e in cc
+bytes_eq_turned = nat_list_eq_equiv.symm
 
 -- an entry of the code's table of answers: the bytes of a question, and its answer, `None` for a name that isn't set
 abbrev pub Entry : Type 0

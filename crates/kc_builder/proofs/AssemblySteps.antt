@@ -1,8 +1,8 @@
 -- The collected lists represent the tree.
 use Rattle.kc_builder.proofs.Common.{◌≡◌, ℕ, zero, suc, ◌+◌, ◌<◌, ◌≤◌, ◌^◌, Bool, true, false, cond, List, [], ◌∷◌, length, map, reverse, Option, Some, None, refl, ap, sym, subst, ◌∙◌, arith, All, filter, filter_map, flat_map, slice_get, option_to_list, option_and_then, cons_option, length-map}
-use Rattle.kc_builder.proofs.Common.{All-append, All-cons, All-nil, Language, Exprs, index_of_name, Files, Group, defined_name, GroupInContext, Contents, contents_of, choice_number, names_defined, IsSound, faults_of_group, get_below, place-get, number-get, Listing, text_of_name, HasNoFaults}
-use Rattle.kc_builder.proofs.Common.{TreeModel, member_default_view, IsReadIn, RepresentsAllConditions, choice_defaults_of, opens, IsChoiceRow, AreChoiceRows, AreAttributes, AreKeys, gathered_tree, items_of, entry_from_row, IsRowOf, AreRowsOf, Summary, AreParts, GroupParts, ChoiceRow, SymbolRow}
-use Rattle.kc_builder.proofs.Common.{count_is}
+use Rattle.kc_builder.proofs.Common.{All-append, All-cons, All-nil, Language, Exprs, index_of_name, Files, Group, defined_name, GroupInContext, Contents, contents_of, choice_number, names_defined, IsSound, faults_of_group, get_below, place-get, Listing, text_of_name, HasNoFaults, TreeModel}
+use Rattle.kc_builder.proofs.Common.{member_default_view, IsReadIn, RepresentsAllConditions, choice_defaults_of, opens, IsChoiceRow, AreChoiceRows, AreAttributes, AreKeys, gathered_tree, items_of, entry_from_row, IsRowOf, AreRowsOf, Summary, AreParts, GroupParts, ChoiceRow, SymbolRow, count_is}
+use Rattle.kc_builder.proofs.Common.{reading, RepresentsListing}
 use Rattle.kc_tree_model.specs.Trees as tree
 use Rattle.kc_tree_model.specs.Contents.{begins_symbol, symbol_of, choice_of, tree_of_groups, tree_of_files}
 use Rattle.kc_tree_model.proofs.Consistency.Definitions.{sound_contents, no_first, nothing_at}
@@ -10,11 +10,9 @@ use Rattle.kc_tree_model.proofs.Consistency.Consistent.{tree_is_consistent}
 use Rattle.kc_tree_model.specs.TreeLookup.{IsConsistent}
 use Rattle.kc_tree_model.proofs.Consistency.NameLimits.{few_symbols as few_defined}
 use Rattle.kc_tree_model.proofs.Consistency.Places.{is_read}
-use Rattle.kc_tree_model.specs.TreeReading.{reading}
 use Rattle.kc_tree_model.specs.TreeFaults.{first_tree_fault, tree_faults}
 use Rattle.kc_tree_model.proofs.Consistency.Lists.{map-get}
 use Rattle.kc_tree_model.proofs.Consistency.Units.{number_is}
-use Rattle.kc_parser.specs.between.ListingView.{RepresentsListing}
 use Rattle.kc_builder.specs.checker.Assembly.{IsGathering, IsWalk}
 use Rattle.kc_conditions.specs.declared.listing_walk.WalkedListing.{WalkedListing}
 use Rattle.kc_tree.specs.between.GatheredFits.{GatheredFit}
@@ -24,6 +22,8 @@ use Rattle.kc_checks.specs.between.Summaries.{own_choice, member_in, members_at,
 use Rattle.kc_tree.specs.declared.tree_lists.TreeLists.{TreeLists}
 use Rattle.kc_checks.proofs.GroupPlaces.{placed_count}
 use Rattle.kc_checks.proofs.MemberLaw.{own_members_are}
+use Rattle.kc_checks.proofs.MemberMarks.{enclosing_below, keys_small}
+use Rattle.std.proofs.lemmas.List.Sums.{count_by-le-length, length-filter}
 use Rattle.kc_builder.proofs.UnitLaw.{unit_read, units_read, units_same}
 
 -- symbols
@@ -147,41 +147,14 @@ module _ (c : Contents) where
       All-append (λ s. s < length c.names) (members_at (own_choice c) c p) (flat_map (members_at (own_choice c) c) ps) (members_fit_at (own_choice c p) (defined_name p.group))
       (members_fit ps)
 
-  mapped_keys : (k : ℕ) (xs : List ℕ) → k < length c.choices → All (λ n. n < length c.choices) (map (λ _. k) xs)
-  mapped_keys k [] h = All-nil (λ n. n < length c.choices)
-  mapped_keys k (x ∷ xs) h = All-cons (λ n. n < length c.choices) k (map (λ _. k) xs) h (mapped_keys k xs h)
-
-  keys_fit_at : (o : Option ℕ) (x : Option (List ℕ)) → ((k : ℕ) → o ≡ Some k → k < length c.choices)
-      → All (λ n. n < length c.choices) (map (λ _. elim o as (λ _. ℕ) [ None ↦ 0 | Some k ↦ k ]) (member_in c o x))
-  keys_fit_at None x h = All-nil (λ n. n < length c.choices)
-  keys_fit_at (Some k) x h = mapped_keys k (option_to_list (option_and_then (λ y. index_of_name y c.names) x)) (h k refl)
-
-  enclosing_fits : (o : Option ℕ) (k : ℕ) → option_and_then (choice_number c) o ≡ Some k → k < length c.choices
-  enclosing_fits None k e = cc
-  enclosing_fits (Some n) k e = get_below c.choices k n (number-get n c.choices k e)
-
   own_fits : (b : Bool) (o : Option ℕ) (k : ℕ) → cond b (option_and_then (choice_number c) o) None ≡ Some k → k < length c.choices
-  own_fits true o k e = enclosing_fits o k e
+  own_fits true o k e = enclosing_below c o k e
   own_fits false o k e = cc
-
-  pub keys_fit : (ps : List GroupInContext) → All (λ n. n < length c.choices) (flat_map (member_keys_at (own_choice c) c) ps)
-  keys_fit [] = All-nil (λ n. n < length c.choices)
-  keys_fit (p ∷ ps) =
-      All-append (λ n. n < length c.choices) (member_keys_at (own_choice c) c p) (flat_map (member_keys_at (own_choice c) c) ps)
-      (keys_fit_at (own_choice c p) (defined_name p.group) (own_fits (begins_symbol c p) p.choice)) (keys_fit ps)
 
 keys_of_all : (n : ℕ) (ks : List ℕ) → All (λ k. k < n) ks → AreKeys n ks
 keys_of_all n ks h i l = h i 0 l
 
 -- few of few
-few_filtered : {A : Type 0} (f : A → Bool) (xs : List A) → length (filter f xs) ≤ length xs
-few_filtered f [] = omega arith
-few_filtered f (x ∷ xs) = by (f x) (few_filtered f xs)
-  where
-    by : (b : Bool) → length (filter f xs) ≤ length xs → length (cond b (x ∷ filter f xs) (filter f xs)) ≤ suc (length xs)
-    by true h = omega (arith, h)
-    by false h = omega (arith, h)
-
 few_mapped : {A B : Type 0} (f : A → Option B) (xs : List A) → length (filter_map f xs) ≤ length xs
 few_mapped f [] = omega arith
 few_mapped {A = A} {B = B} f (x ∷ xs) = by (f x) (few_mapped f xs)
@@ -287,8 +260,7 @@ module _ (files : Files) (root : List ℕ) (l : Listing) (symbols : List SymbolR
 
   few_choices : length g.choices.items < 2 ^ 32
   few_choices =
-      let a = few_filtered opens c.places in
-      omega (arith, a, many_places, few, as_many_choices _ g.arena (filter opens c.places) g.choices.items choice_rows)
+      omega (arith, length-filter opens c.places, count_by-le-length opens c.places, many_places, few, as_many_choices _ g.arena (filter opens c.places) g.choices.items choice_rows)
 
   few_units : length g.units.items < 2 ^ 32
   few_units =
@@ -307,7 +279,7 @@ module _ (files : Files) (root : List ℕ) (l : Listing) (symbols : List SymbolR
     few_units = few_units;
     names = rows_held g.arena c c.names g.symbols.items rows;
     keys = rw many_symbols attributes.keys;
-    member_keys = rw (many_choices, keys) (keys_of_all (length c.choices) (flat_map (member_keys_at (own_choice c) c) c.places) (keys_fit c c.places));
+    member_keys = rw (many_choices, keys) (keys_of_all (length c.choices) (flat_map (member_keys_at (own_choice c) c) c.places) (keys_small c (own_choice c) (λ p j e. own_fits c (begins_symbol c p) p.choice j e) c.places));
     member_default_keys = rw (many_choices, defaults_is) k.defaults.keys;
     prompts = attributes.prompts_fit;
     defaults = attributes.defaults_fit;

@@ -1,21 +1,16 @@
 -- The defaults of choices, as they are collected.
-use Rattle.std.proofs.Common.{take}
 use Rattle.std.specs.Prelude.{slice_index}
-use Rattle.kc_builder.proofs.Common.{◌≡◌, ℕ, zero, suc, ◌+◌, ◌<◌, ◌==◌, Bool, true, false, cond, List, [], ◌∷◌, ◌++◌, length, get_or, map, Option, Some, None, refl, ap, sym, subst, ◌∙◌, arith, append_assoc, append-nil, All, slice_get, option_map, option_and_then, option_to_list, filter, filter_map}
-use Rattle.kc_builder.proofs.Common.{flat_map, is_none, cons_option, eq-eqb, eqb-true, map-append, length-map, All-append, All-cons, All-nil, Language, Exprs, node_expr, Expr, index_of_name, attribute_in, AttributeNodesExist, SymbolTable, number_in, HasNames, line_in, RepresentsHead, Listing}
-use Rattle.kc_builder.proofs.Common.{as_many_names, names_defined, DefaultAttribute, default_of, Group, Line, of_head, open_blocks, context_of, GroupInContext, group_in_context, groups_in_context, attribute_condition, Contents, contents_of, place-get, faults_of_group, HasNoFaults}
-use Rattle.kc_builder.proofs.Common.{member_default_view, member_default_row, member_default_rows, choice_defaults_of, AreDefaultsOf, IsWalkOf, opens, own_conditions, read_before, group_at, own_lines, is_choice_code, ItemsWithKeys, GroupConditions, none_before, all_before, count_is, AreKeys}
-use Rattle.kc_builder.proofs.Common.{items_of, condition_at}
+use Rattle.kc_builder.proofs.Common.{◌≡◌, ℕ, zero, suc, ◌+◌, ◌<◌, ◌==◌, Bool, true, false, cond, List, [], ◌∷◌, ◌++◌, length, map, Option, Some, None, refl, ap, sym, subst, ◌∙◌, arith, append-nil, All, slice_get, option_map, option_and_then, filter, filter_map, flat_map, is_none, cons_option}
+use Rattle.kc_builder.proofs.Common.{eq-eqb, eqb-true, map-append, length-map, All-append, All-cons, All-nil, Language, Exprs, node_expr, Expr, index_of_name, attribute_in, SymbolTable, number_in, HasNames, line_in, RepresentsHead, Listing, as_many_names, names_defined, DefaultAttribute, default_of}
+use Rattle.kc_builder.proofs.Common.{Group, Line, of_head, open_blocks, context_of, GroupInContext, group_in_context, groups_in_context, attribute_condition, Contents, contents_of, place-get, faults_of_group, HasNoFaults, member_default_view, member_default_row, member_default_rows}
+use Rattle.kc_builder.proofs.Common.{choice_defaults_of, AreDefaultsOf, IsWalkOf, opens, own_conditions, read_before, group_at, own_lines, is_choice_code, ItemsWithKeys, GroupConditions, none_before, all_before, count_is, AreKeys, items_of, condition_at, CodeAttribute, CodeLine, RepresentsListing}
+use Rattle.kc_builder.proofs.Common.{CodeHead}
 use Rattle.std.proofs.lemmas.Bool.{false≢true}
 use Rattle.std.proofs.lemmas.Option.{slice_get_within, slice_get_past}
 use Rattle.std.proofs.lemmas.List.Concat.{flat_map-cons}
 use Rattle.kc_expr.specs.between.Names.{name_alone}
 use Rattle.kc_statements.specs.between.StatementViews.{default_in}
-use Rattle.kc_statements.specs.declared.statement.Attribute.{Attribute as CodeAttribute}
 use Rattle.kc_statements.specs.declared.statement.Attribute.TheVariants as attributes
-use Rattle.kc_parser.specs.declared.listing.Line.{Line as CodeLine}
-use Rattle.kc_parser.specs.between.ListingView.{RepresentsListing}
-use Rattle.kc_parser.specs.declared.listing.GroupHead.{GroupHead as CodeHead}
 use Rattle.kc_parser.specs.declared.listing.GroupHead.TheVariants as codes
 use Rattle.kc_tree_model.specs.Trees as tree
 use Rattle.kc_tree_model.specs.declared.fault.TreeKind.{TreeKind}
@@ -30,67 +25,9 @@ use Rattle.kc_builder.proofs.ChoiceRowSteps.{as_many_conditions, as_long, both_a
 use Rattle.kc_checks.proofs.Rounds.{numbers_of_choices, all_counted}
 use Rattle.kc_tree.specs.declared.symbol.MemberDefault.{MemberDefault}
 use Rattle.kc_checks.proofs.Symbols.{bare_is}
-
--- the value of a default whose nodes exist is a node of the arena
-pub value_there : (exprs : Exprs) (a : CodeAttribute) (v : ℕ) → AttributeNodesExist exprs a → default_value_view a ≡ Some v → v < length exprs.nodes
-value_there exprs (attributes.Typed k) v h e = cc
-value_there exprs (attributes.TypedPrompt k c) v h e = cc
-value_there exprs (attributes.TypedDefault k d) v h e = let s : d.value ≡ v = cc in let l = h.0 in omega arith
-value_there exprs (attributes.Prompt c) v h e = cc
-value_there exprs (attributes.Default d) v h e = let s : d.value ≡ v = cc in let l = h.0 in omega arith
-value_there exprs (attributes.Depends id) v h e = cc
-value_there exprs (attributes.Select s) v h e = cc
-value_there exprs (attributes.Imply s) v h e = cc
-value_there exprs (attributes.Range r) v h e = cc
-value_there exprs (attributes.Visible id) v h e = cc
-value_there exprs attributes.Help v h e = cc
-value_there exprs attributes.Modules v h e = cc
-value_there exprs attributes.Optional v h e = cc
-
--- one attribute more
-cons_front : {X : Type 0} (o : Option X) (xs ys : List X) → cons_option o xs ++ ys ≡ cons_option o (xs ++ ys)
-cons_front None xs ys = refl
-cons_front (Some x) xs ys = refl
-
-cons_one : {X : Type 0} (o : Option X) → cons_option o [] ≡ option_to_list o
-cons_one None = refl
-cons_one (Some x) = refl
-
-kept_more : (n : SymbolTable) (ls : List CodeLine) (cs : List ℕ) (i : ℕ) (d : CodeLine) (c : ℕ) → i < length ls → i < length cs
-    → member_default_rows n (take (suc i) ls) (take (suc i) cs) ≡ member_default_rows n (take i ls) (take i cs) ++ option_to_list
-    (member_default_row n (get_or ls i d) (get_or cs i c))
-kept_more n [] cs i d c h k = absurd (omega arith)
-kept_more n (l ∷ ls) [] i d c h k = absurd (omega arith)
-kept_more n (l ∷ ls) (x ∷ cs) zero d c h k = cons_one (member_default_row n l x)
-kept_more n (l ∷ ls) (x ∷ cs) (suc i) d c h k =
-    ap (cons_option (member_default_row n l x)) (kept_more n ls cs i d c (omega arith) (omega arith))
-    ∙ sym (cons_front (member_default_row n l x) (member_default_rows n (take i ls) (take i cs))
-    (option_to_list (member_default_row n (get_or ls i d) (get_or cs i c))))
-
-pub items_more : (n : SymbolTable) (ls : List CodeLine) (cs : List ℕ) (i : ℕ) (d : CodeLine) (c : ℕ) (old mid new : List MemberDefault)
-    (o : Option MemberDefault)
-    → i < length ls → length cs ≡ length ls → o ≡ member_default_row n (get_or ls i d) (get_or cs i c)
-    → mid ≡ old ++ member_default_rows n (take i ls) (take i cs) → new ≡ mid ++ option_to_list o
-    → new ≡ old ++ member_default_rows n (take (i + 1) ls) (take (i + 1) cs)
-items_more n ls cs i d c old mid new o h k e m f =
-    let s : i + 1 ≡ suc i = omega arith in
-    f ∙ ap (λ xs. xs ++ option_to_list o) m ∙ append_assoc old (member_default_rows n (take i ls) (take i cs)) (option_to_list o)
-    ∙ ap (λ xs. old ++ xs) (ap (λ x. member_default_rows n (take i ls) (take i cs) ++ option_to_list x) e ∙ sym (kept_more n ls cs i d c h (omega arith))
-    ∙ ap (λ j. member_default_rows n (take j ls) (take j cs)) (sym s))
-
-pub keys_more : (n : SymbolTable) (choice : ℕ) (ls : List CodeLine) (cs : List ℕ) (i : ℕ) (d : CodeLine) (c : ℕ) (old mid new : List ℕ)
-    (o : Option MemberDefault)
-    → i < length ls → length cs ≡ length ls → o ≡ member_default_row n (get_or ls i d) (get_or cs i c)
-    → mid ≡ old ++ map (λ (_ : MemberDefault). choice) (member_default_rows n (take i ls) (take i cs))
-    → new ≡ mid ++ map (λ (_ : MemberDefault). choice) (option_to_list o)
-    → new ≡ old ++ map (λ (_ : MemberDefault). choice) (member_default_rows n (take (i + 1) ls) (take (i + 1) cs))
-keys_more n number ls cs i d c old mid new o h k e m f =
-    let s : i + 1 ≡ suc i = omega arith in
-    let key : MemberDefault → ℕ = λ _. number in
-    f ∙ ap (λ xs. xs ++ map key (option_to_list o)) m ∙ append_assoc old (map key (member_default_rows n (take i ls) (take i cs))) (map key (option_to_list o))
-    ∙ ap (λ xs. old ++ xs) (sym (map-append key (member_default_rows n (take i ls) (take i cs)) (option_to_list o))
-    ∙ ap (map key) (ap (λ x. member_default_rows n (take i ls) (take i cs) ++ option_to_list x) e ∙ sym (kept_more n ls cs i d c h (omega arith))
-    ∙ ap (λ j. member_default_rows n (take j ls) (take j cs)) (sym s)))
+use Rattle.kc_parser.proofs.ListingGrowth.{get_last}
+use Rattle.kc_builder.proofs.ItemLaw.{items_append}
+use Rattle.kc_builder.proofs.ItemSteps.{mapped_cons}
 
 -- a choice's attributes have no fault
 append_none : {X : Type 0} (xs ys : List X) → xs ++ ys ≡ [] → (xs ≡ []) × (ys ≡ [])
@@ -173,24 +110,9 @@ module _ (language : Language) (n : SymbolTable) (symbols : List ℕ) (c : Conte
       → NamesMember (member_names c p.group.number) (default_of (attribute_in n.arena a))
       → option_map (member_default_view n.arena) (option_map (λ s. (let m : MemberDefault = record { member = s; condition = x } in m))
       (option_and_then (symbol_bare n) (default_value_view a))) ≡ option_and_then (member_default language c p) (default_of (attribute_in n.arena a))
-  one_default p k (attributes.Typed t) x f m = refl
-  one_default p k (attributes.TypedPrompt t q) x f m = refl
   one_default p k (attributes.TypedDefault t d) x f m = default_value p d.value (default_in n.arena d) x refl f m
-  one_default p k (attributes.Prompt q) x f m = refl
   one_default p k (attributes.Default d) x f m = default_value p d.value (default_in n.arena d) x refl f m
-  one_default p k (attributes.Depends id) x f m = refl
-  one_default p k (attributes.Select s) x f m = refl
-  one_default p k (attributes.Imply s) x f m = refl
-  one_default p k (attributes.Range r) x f m = refl
-  one_default p k (attributes.Visible id) x f m = refl
-  one_default p k attributes.Help x f m = refl
-  one_default p k attributes.Modules x f m = refl
-  one_default p k attributes.Optional x f m = refl
-
-  view_cons : (o : Option MemberDefault) (xs : List MemberDefault)
-      → map (member_default_view n.arena) (cons_option o xs) ≡ cons_option (option_map (member_default_view n.arena) o) (map (member_default_view n.arena) xs)
-  view_cons None xs = refl
-  view_cons (Some x) xs = refl
+  one_default p k y x f m = refl
 
   statement_cons : (p : GroupInContext) (o : Option DefaultAttribute) (l : Line) (ls : List Line) → default_of l.attribute ≡ o
       → filter_map (member_default language c p) (filter_map (λ (l : Line). default_of l.attribute) (l ∷ ls)) ≡ cons_option (option_and_then (member_default language c p) o)
@@ -209,7 +131,7 @@ module _ (language : Language) (n : SymbolTable) (symbols : List ℕ) (c : Conte
       let rest : map (node_expr n.arena) xs ≡ map (condition_at language p) (map (line_in n.arena) ls) = cc in
       let here : node_expr n.arena x ≡ condition_at language p (line_in n.arena l) = cc in
       let q = no_line_faults p.group (member_names c p.group.number) prompted (line_in n.arena l) (map (line_in n.arena) ls) f in
-      view_cons (member_default_row n l x) (member_default_rows n ls xs)
+      mapped_cons (member_default_view n.arena) (member_default_row n l x) (member_default_rows n ls xs)
       ∙ ap (λ o. cons_option o (map (member_default_view n.arena) (member_default_rows n ls xs))) (one_default p l.number l.attribute x here q.0)
       ∙ ap (cons_option (option_and_then (member_default language c p) (default_of (attribute_in n.arena l.attribute)))) (all_defaults p ls xs q.1.0 rest q.1.1)
       ∙ sym (statement_cons p (default_of (attribute_in n.arena l.attribute)) (line_in n.arena l) (map (line_in n.arena) ls) refl)
@@ -240,29 +162,18 @@ module _ (language : Language) (n : SymbolTable) (symbols : List ℕ) (c : Conte
       kept_fits l x (option_and_then (symbol_bare n) (default_value_view l.attribute)) refl (h 0 x (omega arith)) (member_default_rows n ls xs)
       (all_fit ls xs (λ k d i. h (suc k) d (omega arith)))
 
+-- items under one key are all those of this key, and none of another
+under_one : {T : Type 0} (k m : ℕ) (b : Bool) → (m == k) ≡ b → (xs : List T) → items_of k (map (λ (_ : T). m) xs) xs ≡ cond b xs []
+under_one k m true e [] = refl
+under_one k m false e [] = refl
+under_one k m true e (x ∷ xs) = rw e (ap (λ r. x ∷ r) (under_one k m true e xs))
+under_one k m false e (x ∷ xs) = rw e (under_one k m false e xs)
+
 -- items appended under key `m` come after those of `k` if the keys are equal, and don't change those of `k` if not
-pub items_after : {T : Type 0} (k m : ℕ) (keys : List ℕ) (items xs : List T) → length items ≡ length keys
+items_after : {T : Type 0} (k m : ℕ) (keys : List ℕ) (items xs : List T) → length items ≡ length keys
     → items_of k (keys ++ map (λ (_ : T). m) xs) (items ++ xs) ≡ items_of k keys items ++ cond (m == k) xs []
-items_after {T} k m [] [] [] e = by (m == k)
-  where
-    by : (b : Bool) → (let e : List T = [] in e) ≡ cond b [] []
-    by true = refl
-    by false = refl
-items_after {T} k m [] [] (x ∷ xs) e = by (m == k) refl (items_after k m [] [] xs refl)
-  where
-    by : (b : Bool) → (m == k) ≡ b → items_of k (map (λ (_ : T). m) xs) xs ≡ cond (m == k) xs []
-        → cond b (x ∷ items_of k (map (λ (_ : T). m) xs) xs) (items_of k (map (λ (_ : T). m) xs) xs) ≡ cond b (x ∷ xs) []
-    by true f r = ap (λ t. x ∷ t) (r ∙ ap (λ t. cond t xs []) f)
-    by false f r = r ∙ ap (λ t. cond t xs []) f
-items_after {T} k m [] (y ∷ items) xs e = absurd (omega arith)
-items_after {T} k m (y ∷ keys) [] xs e = absurd (omega arith)
-items_after {T} k m (y ∷ keys) (z ∷ items) xs e = by (y == k) (items_after k m keys items xs (omega arith))
-  where
-    by : (b : Bool) → items_of k (keys ++ map (λ (_ : T). m) xs) (items ++ xs) ≡ items_of k keys items ++ cond (m == k) xs []
-        → cond b (z ∷ items_of k (keys ++ map (λ (_ : T). m) xs) (items ++ xs)) (items_of k (keys ++ map (λ (_ : T). m) xs) (items ++ xs)) ≡ cond b
-        (z ∷ items_of k keys items) (items_of k keys items) ++ cond (m == k) xs []
-    by true r = ap (λ t. z ∷ t) r
-    by false r = r
+items_after {T} k m keys items xs e =
+    items_append k keys (map (λ (_ : T). m) xs) items xs (sym e) ∙ ap (λ ys. items_of k keys items ++ ys) (under_one k m (m == k) refl xs)
 
 const_keys : {T : Type 0} (m : ℕ) (xs : List T) (i : ℕ) → i < length (map (λ (_ : T). m) xs) → slice_index (map (λ (_ : T). m) xs) i < m + 1
 const_keys m [] i h = absurd (omega arith)
@@ -284,21 +195,10 @@ get_other [] y (suc k) h = refl
 get_other (x ∷ xs) y zero h = refl
 get_other (x ∷ xs) y (suc k) h = get_other xs y k (λ e. h (omega arith))
 
-pub get_last : {X : Type 0} (xs : List X) (y : X) → slice_get (xs ++ y ∷ []) (length xs) ≡ Some y
-get_last [] y = refl
-get_last (x ∷ xs) y = get_last xs y
-
 choice_given : (exprs : Exprs) (names texts : List (List ℕ)) (c : CodeHead) (m : Group) → RepresentsHead exprs names texts c m.head → is_choice_code c ≡ true
     → m.head ≡ of_head choice
-choice_given exprs names texts (codes.Config s) m h e = cc
 choice_given exprs names texts codes.Choice m h e = h
-choice_given exprs names texts (codes.Menu t) m h e = cc
-choice_given exprs names texts (codes.Condition id) m h e = cc
-choice_given exprs names texts (codes.Comment t) m h e = cc
-choice_given exprs names texts (codes.Source t) m h e = cc
-choice_given exprs names texts codes.Mainmenu m h e = cc
-choice_given exprs names texts (codes.Ends b) m h e = cc
-choice_given exprs names texts codes.FileEnd m h e = cc
+choice_given exprs names texts x m h e = cc
 
 choice_group_faults : (language : Language) (c : Contents) (p : GroupInContext) → p.group.head ≡ of_head choice
     → faults_of_group language c p ≡ faults_of_lines p.group (choice_faults (member_names c p.group.number)) false p.group.attributes

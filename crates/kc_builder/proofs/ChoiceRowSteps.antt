@@ -2,15 +2,12 @@
 use Rattle.std.proofs.Common.{◌||◌}
 use Rattle.kc_builder.proofs.Common.{◌≡◌, ℕ, suc, ◌+◌, ◌<◌, Bool, true, false, cond, List, [], ◌∷◌, ◌++◌, length, map, reverse, Some, refl, ap, sym, subst, ◌∙◌, arith, append-nil, All, filter, filter_map, slice_get, option_map, length-map, list_any, Language, Exprs, node_expr, Expr, attribute_in}
 use Rattle.kc_builder.proofs.Common.{is_prompt, prompt_of, Group, Line, open_blocks, context_of, GroupInContext, group_in_context, groups_in_context, prompt_condition, Listing, line_in, RepresentsGroup, names_defined, opens, IsChoiceRow, AreChoiceRows, conditions_at, own_conditions, read_before}
-use Rattle.kc_builder.proofs.Common.{group_at, own_lines, is_choice_code, condition_at, RepresentsConditions, RepresentsAllConditions, ChoiceRow, GroupConditions, shown_at, placed_more, none_before, all_before, count_is, conditioned_at}
+use Rattle.kc_builder.proofs.Common.{group_at, own_lines, is_choice_code, condition_at, RepresentsConditions, RepresentsAllConditions, ChoiceRow, GroupConditions, shown_at, placed_more, none_before, all_before, count_is, conditioned_at, CodeAttribute, CodeLine, RepresentsListing}
 use Rattle.std.proofs.lemmas.List.Elements.{filter-append}
 use Rattle.kc_statements.specs.between.StatementViews.{is_optional_code}
-use Rattle.kc_statements.specs.declared.statement.Attribute.{Attribute as CodeAttribute}
 use Rattle.kc_statements.specs.declared.statement.Attribute.TheVariants as attributes
 use Rattle.kc_tree_model.specs.Statements.{is_optional}
 use Rattle.kc_tree_model.specs.Conditions.{prompts_of}
-use Rattle.kc_parser.specs.declared.listing.Line.{Line as CodeLine}
-use Rattle.kc_parser.specs.between.ListingView.{RepresentsListing}
 use Rattle.kc_builder.specs.checker.ChoiceRows.{is_optional_line, choice_row, group_rows}
 use Rattle.kc_conditions.specs.between.Firsts.{first_prompt}
 use Rattle.kc_conditions.proofs.GroupConditionLemmas.{conditions_count}
@@ -29,19 +26,9 @@ module _ (language : Language) (old far : Exprs) (p : GroupInContext) where
       → option_map (node_expr far) (first_prompt ls os) ≡ slice_get (prompts_among rest) 0
       → option_map (node_expr far) (first_prompt (record { number = n; attribute = a } ∷ ls) (o ∷ os)) ≡ slice_get
       (prompts_among (record { number = n; attribute = attribute_in old a } ∷ rest)) 0
-  prompt_one n (attributes.Typed k) o os ls rest e h = h
   prompt_one n (attributes.TypedPrompt k c) o os ls rest e h = ap Some e
-  prompt_one n (attributes.TypedDefault k d) o os ls rest e h = h
   prompt_one n (attributes.Prompt c) o os ls rest e h = ap Some e
-  prompt_one n (attributes.Default d) o os ls rest e h = h
-  prompt_one n (attributes.Depends id) o os ls rest e h = h
-  prompt_one n (attributes.Select s) o os ls rest e h = h
-  prompt_one n (attributes.Imply s) o os ls rest e h = h
-  prompt_one n (attributes.Range r) o os ls rest e h = h
-  prompt_one n (attributes.Visible id) o os ls rest e h = h
-  prompt_one n attributes.Help o os ls rest e h = h
-  prompt_one n attributes.Modules o os ls rest e h = h
-  prompt_one n attributes.Optional o os ls rest e h = h
+  prompt_one n x o os ls rest e h = h
 
   prompt_first : (ls : List CodeLine) (os : List ℕ) → map (node_expr far) os ≡ map (condition_at language p) (map (line_in old) ls)
       → option_map (node_expr far) (first_prompt ls os) ≡ slice_get (prompts_among (map (line_in old) ls)) 0
@@ -60,18 +47,7 @@ module _ (language : Language) (old far : Exprs) (p : GroupInContext) where
 -- the attribute `optional`
 optional_one : (old : Exprs) (a : CodeAttribute) → is_optional_code a ≡ is_optional (attribute_in old a)
 optional_one old (attributes.Typed k) = refl
-optional_one old (attributes.TypedPrompt k c) = refl
-optional_one old (attributes.TypedDefault k d) = refl
-optional_one old (attributes.Prompt c) = refl
-optional_one old (attributes.Default d) = refl
-optional_one old (attributes.Depends id) = refl
-optional_one old (attributes.Select s) = refl
-optional_one old (attributes.Imply s) = refl
-optional_one old (attributes.Range r) = refl
-optional_one old (attributes.Visible id) = refl
-optional_one old attributes.Help = refl
-optional_one old attributes.Modules = refl
-optional_one old attributes.Optional = refl
+optional_one old x = refl
 
 optional_shown : (old : Exprs) (ls : List CodeLine) → list_any is_optional_line ls ≡ list_any (λ (l : Line). is_optional l.attribute) (map (line_in old) ls)
 optional_shown old [] = refl

@@ -18,10 +18,12 @@ pub use Rattle.kc_builder.specs.checker.Rows.{AreRowsOf, IsRowOf, row_of_symbol,
 pub use Rattle.kc_builder.specs.declared.group_parts.GroupParts.{GroupParts}
 pub use Rattle.kc_checks.proofs.GroupPlaces.{all_before, count_is, none_before, placed_more, shown_at}
 pub use Rattle.kc_checks.specs.between.FaultSearch.{HasNoFaults, choices_before}
-pub use Rattle.kc_checks.specs.between.Summaries.{IsRepresented, attributes_end, group_at, is_choice_code, own_lines, read_before}
+pub use Rattle.kc_checks.specs.between.Summaries.{IsRepresented, attributes_end, group_at, is_choice_code, no_group, own_lines, read_before}
+unfoldable pub use Rattle.kc_checks.specs.between.Summaries.{IsSummary}
 pub use Rattle.kc_checks.specs.declared.summary.Summary.{Summary}
 pub use Rattle.kc_checks.specs.declared.summary.SymbolSummary.{SymbolSummary}
 pub use Rattle.kc_conditions.proofs.GroupConditionLemmas.{conditioned_at}
+pub use Rattle.kc_conditions.proofs.Growth.{option_front}
 pub use Rattle.kc_conditions.specs.between.GroupConditions.{conditions_at, own_conditions}
 pub use Rattle.kc_conditions.specs.between.Walks.{RepresentsAllConditions, RepresentsConditions, condition_at}
 pub use Rattle.kc_conditions.specs.declared.group_walk.GroupConditions.{GroupConditions}
@@ -30,11 +32,16 @@ pub use Rattle.kc_expr.specs.Lookup.{index_of_name}
 pub use Rattle.kc_expr.specs.between.Arena.{Exprs, Represents, node_expr}
 pub use Rattle.kc_parser.proofs.NameLemmas.{as_many_names}
 pub use Rattle.kc_parser.specs.between.ListingView.{LineNodesExist, RepresentsGroup, RepresentsGroups, RepresentsHead, line_in}
+unfoldable pub use Rattle.kc_parser.specs.between.ListingView.{RepresentsListing}
 pub use Rattle.kc_parser.specs.between.MemoryFaults.{no_memory}
 pub use Rattle.kc_parser.specs.between.SymbolTable.{HasNames, number_in, text_of_name}
+pub use Rattle.kc_parser.specs.declared.listing.Group.{Group as CodeGroup}
+pub use Rattle.kc_parser.specs.declared.listing.GroupHead.{GroupHead as CodeHead}
+pub use Rattle.kc_parser.specs.declared.listing.Line.{Line as CodeLine}
 pub use Rattle.kc_parser.specs.declared.listing.Listing.{Listing}
 pub use Rattle.kc_parser.specs.declared.listing.SymbolTable.{SymbolTable}
 pub use Rattle.kc_statements.specs.between.StatementViews.{AttributeNodesExist, attribute_in, is_prompt, target_given}
+pub use Rattle.kc_statements.specs.declared.statement.Attribute.{Attribute as CodeAttribute}
 pub use Rattle.kc_statements.specs.declared.statement.ReverseKind.{ReverseKind}
 pub use Rattle.kc_statements.specs.declared.statement.ReverseKind.TheVariants.{Imply, Select}
 pub use Rattle.kc_tokens.specs.declared.language.Language.{Language}
@@ -55,7 +62,10 @@ pub use Rattle.kc_tree_model.proofs.Consistency.Lists.{Differ, Differ-once, Has,
 pub use Rattle.kc_tree_model.specs.Blocks.{Group, GroupHead, Line, closing, defined_name, from_head, is_some_block, of_head, open_blocks, side_of}
 pub use Rattle.kc_tree_model.specs.Conditions.{GroupInContext, attribute_condition, attribute_values, context_of, dependency_of, group_in_context, groups_in_context, prompt_condition}
 pub use Rattle.kc_tree_model.specs.Contents.{Contents, choice_number, contents_of, defines, definitions_of}
+unfoldable pub use Rattle.kc_tree_model.specs.Contents.{tree_of_files, tree_of_groups}
 pub use Rattle.kc_tree_model.specs.Limits.{names_defined}
 pub use Rattle.kc_tree_model.specs.Statements.{Attribute, DefaultAttribute, RangeAttribute, TargetAttribute, block_of_head, config, default_of, name_of_head, prompt_of, range_of}
 pub use Rattle.kc_tree_model.specs.TreeFaults.{faults_of_group}
+unfoldable pub use Rattle.kc_tree_model.specs.TreeFaults.{tree_faults}
 pub use Rattle.kc_tree_model.specs.TreeFiles.{Files}
+unfoldable pub use Rattle.kc_tree_model.specs.TreeReading.{reading}

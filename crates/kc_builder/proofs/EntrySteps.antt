@@ -1,18 +1,18 @@
 -- The entries of what was read, group by group.
-use Rattle.kc_builder.proofs.Common.{◌≡◌, ◌⊎◌, inl, inr, ℕ, ◌+◌, ◌-◌, ◌<◌, true, List, [], ◌∷◌, ◌++◌, length, map, reverse, Option, Some, None, refl, ap, sym, subst, ◌∙◌, All, filter_map, slice_get, option_map, option_to_list, cons_option, map-append, All-append, All-cons, All-nil, Language, Exprs}
-use Rattle.kc_builder.proofs.Common.{Represents, node_expr, Expr, block_of_head, Group, GroupHead, closing, side_of, from_head, defined_name, is_some_block, open_blocks, context_of, GroupInContext, group_in_context, groups_in_context, dependency_of, attribute_values, Contents, contents_of}
-use Rattle.kc_builder.proofs.Common.{choice_number, names_defined, Differ, Differ-once, get_below, number-get, Listing, RepresentsHead, IsWalkOf, EntryRowFits, entry_from_row, conditions_at, own_conditions, RepresentsConditions, GroupConditions, choices_before, group_at, read_before, placed_more}
+use Rattle.kc_builder.proofs.Common.{◌≡◌, ◌⊎◌, inl, inr, ℕ, ◌+◌, ◌-◌, ◌<◌, true, List, [], ◌∷◌, ◌++◌, length, map, reverse, Option, Some, None, ap, sym, subst, ◌∙◌, All, filter_map, slice_get, option_map, option_to_list, map-append, All-append, All-cons, All-nil, Language, Exprs, Represents}
+use Rattle.kc_builder.proofs.Common.{node_expr, Expr, block_of_head, Group, GroupHead, closing, side_of, from_head, defined_name, is_some_block, open_blocks, context_of, GroupInContext, group_in_context, groups_in_context, dependency_of, attribute_values, Contents, contents_of, choice_number}
+use Rattle.kc_builder.proofs.Common.{names_defined, Differ, Differ-once, get_below, number-get, Listing, RepresentsHead, IsWalkOf, EntryRowFits, entry_from_row, conditions_at, own_conditions, RepresentsConditions, GroupConditions, choices_before, group_at, read_before, placed_more, append-nil}
+use Rattle.kc_builder.proofs.Common.{CodeHead, RepresentsListing, option_front}
 use Rattle.std.specs.Prelude.{slice_index_or}
 use Rattle.std.proofs.lemmas.Option.{get_or_from_slice_get}
+use Rattle.std.proofs.lemmas.List.Elements.{filter_map-append}
 use Rattle.kc_tree_model.specs.declared.keyword.Block.TheVariants as blocks
 use Rattle.kc_tree_model.specs.Trees as tree
 use Rattle.kc_tree_model.specs.Statements.{title_of_head, visible_of}
 use Rattle.kc_tree_model.specs.Blocks.{opening, opens_choice}
 use Rattle.kc_tree_model.specs.Conditions.{conjunction_of}
 use Rattle.kc_tree_model.specs.Contents.{entry_of_head, menu_end_of}
-use Rattle.kc_parser.specs.declared.listing.GroupHead.{GroupHead as CodeHead}
 use Rattle.kc_parser.specs.declared.listing.GroupHead.TheVariants as codes
-use Rattle.kc_parser.specs.between.ListingView.{RepresentsListing}
 use Rattle.kc_builder.specs.checker.Entries.{entry_row}
 use Rattle.kc_conditions.specs.between.Walks.{RepresentsEnd}
 use Rattle.kc_tree.specs.declared.parts.EntryRow.{EntryRow}
@@ -21,22 +21,11 @@ use Rattle.kc_checks.proofs.GroupPlaces.{are_numbers, numbers_before}
 use Rattle.kc_checks.proofs.Rounds.{number_counts}
 use Rattle.kc_checks.proofs.Symbols.{place_is}
 use Rattle.kc_builder.proofs.ChoiceRowSteps.{both_at, IsBoth}
-
-filter_map-one : {A B : Type 0} (f : A → Option B) (x : A) (o : Option B) → f x ≡ o → cons_option (f x) [] ≡ option_to_list o
-filter_map-one f x None e = rw e refl
-filter_map-one f x (Some y) e = rw e refl
-
-more_by : {B : Type 0} (o : Option B) (a b z : List B) → a ≡ b ++ z → cons_option o a ≡ cons_option o b ++ z
-more_by None a b z e = e
-more_by (Some y) a b z e = ap (λ l. y ∷ l) e
+use Rattle.kc_builder.proofs.ItemSteps.{map_option}
 
 filter_map-snoc : {A B : Type 0} (f : A → Option B) (xs : List A) (x : A) → filter_map f (xs ++ x ∷ []) ≡ filter_map f xs ++ option_to_list (f x)
-filter_map-snoc f [] x = filter_map-one f x (f x) refl
-filter_map-snoc f (y ∷ xs) x = more_by (f y) (filter_map f (xs ++ x ∷ [])) (filter_map f xs) (option_to_list (f x)) (filter_map-snoc f xs x)
-
-map_option : {A B : Type 0} (f : A → B) (o : Option A) → map f (option_to_list o) ≡ option_to_list (option_map f o)
-map_option f None = refl
-map_option f (Some x) = refl
+filter_map-snoc f xs x =
+    filter_map-append f xs (x ∷ []) ∙ ap (λ ys. filter_map f xs ++ ys) (sym (option_front (f x) []) ∙ append-nil (option_to_list (f x)))
 
 abbrev pub entry_at : Language → Contents → GroupInContext → Option tree.Entry
 entry_at language C p = from_head (entry_of_head language C p) p.group.head
@@ -82,12 +71,9 @@ module _ (language : Language) (e e2 : Exprs) (texts : List (List ℕ)) (C : Con
       ∙ ap (λ x. Some (tree.comment h.0 x)) a.is
       ∙ sym (ap at_place h.2)
   entry_shown (codes.Source t) c own h k o = sym (ap at_place h.2)
-  entry_shown codes.Mainmenu c own h k o = sym (ap at_place h)
   entry_shown (codes.Ends blocks.Menu) c own h k o =
       end_shown c.ended c.dependency c.visible (menu_end_of language p.opened) (k.ended_is (ap side_of h)) ∙ sym (ap at_place h)
-  entry_shown (codes.Ends blocks.If) c own h k o = sym (ap at_place h)
-  entry_shown (codes.Ends blocks.Choice) c own h k o = sym (ap at_place h)
-  entry_shown codes.FileEnd c own h k o = sym (ap at_place h)
+  entry_shown x c own h k o = sym (ap at_place h)
 
   -- its numbers are there
   abbrev Fits : EntryRow → Type 0
@@ -113,17 +99,12 @@ module _ (language : Language) (e e2 : Exprs) (texts : List (List ℕ)) (C : Con
         (represented_unless_closing c.dependency (dependency_of (context_of language p) p.group) k.dependency_is away).within,
         (represented_unless_closing c.visible (conjunction_of ((context_of language p).visibles ++ attribute_values visible_of p.group)) k.visible_is away).within,
       )
-  entry_fits (codes.Condition id) c own h k o = All-nil Fits
   entry_fits (codes.Comment t) c own h k o =
       let away : side_of p.group.head ≡ closing → ⊥ = λ q. let z = sym (ap side_of h.2) ∙ q in cc in
       one_fits (Comment t c.dependency)
       (get_below texts t h.0 h.1, (represented_unless_closing c.dependency (dependency_of (context_of language p) p.group) k.dependency_is away).within)
-  entry_fits (codes.Source t) c own h k o = All-nil Fits
-  entry_fits codes.Mainmenu c own h k o = All-nil Fits
   entry_fits (codes.Ends blocks.Menu) c own h k o = end_fits c.ended c.dependency c.visible (menu_end_of language p.opened) (k.ended_is (ap side_of h))
-  entry_fits (codes.Ends blocks.If) c own h k o = All-nil Fits
-  entry_fits (codes.Ends blocks.Choice) c own h k o = All-nil Fits
-  entry_fits codes.FileEnd c own h k o = All-nil Fits
+  entry_fits x c own h k o = All-nil Fits
 
 -- the entries of the first groups and that of the next one
 module _ (language : Language) (l : Listing) (groups : List GroupConditions) (conditions : List ℕ) (read : List Group)

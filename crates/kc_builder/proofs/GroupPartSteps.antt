@@ -1,12 +1,8 @@
 -- What the first groups of a listing give its tree, part by part.
 use Rattle.kc_builder.proofs.Common.{◌≡◌, ℕ, ◌+◌, ◌-◌, ◌<◌, cond, List, length, map, drop, ap, sym, subst, ◌∙◌, arith, All, filter_map, All-nil, Language, Group, groups_in_context, contents_of, names_defined, Listing, SymbolTable, LineNodesExist, as_many_names, entry_from_row, EntryRowFits}
-use Rattle.kc_builder.proofs.Common.{choices_before, HasNoFaults, attributes_end, group_at, is_choice_code, own_lines, read_before, IsRepresented, all_before, count_is, none_before, conditions_at, own_conditions, GroupConditions, AreDefaultsOf, IsWalkOf, AreParts, GroupParts}
+use Rattle.kc_builder.proofs.Common.{choices_before, HasNoFaults, attributes_end, group_at, is_choice_code, own_lines, read_before, IsRepresented, all_before, count_is, none_before, conditions_at, own_conditions, GroupConditions, AreDefaultsOf, IsWalkOf, AreParts, GroupParts, tree_of_groups}
+use Rattle.kc_builder.proofs.Common.{CodeGroup, CodeLine, RepresentsListing}
 use Rattle.std.proofs.lemmas.List.Elements.{All-drop, All-take}
-use Rattle.kc_tree_model.specs.Contents.{tree_of_groups}
-use Rattle.kc_parser.specs.declared.listing.Group.{Group as CodeGroup}
-use Rattle.kc_parser.specs.declared.listing.Line.{Line as CodeLine}
-use Rattle.kc_parser.specs.between.ListingView.{RepresentsListing}
-use Rattle.kc_conditions.specs.between.GroupConditions.{IsConditioned}
 use Rattle.kc_builder.specs.checker.GroupParts.{AreEmpty, HasGroup}
 use Rattle.kc_builder.proofs.ChoiceDefaultSteps.{all_gathered, as_long_own, as_many, no_defaults, one_more}
 use Rattle.kc_builder.proofs.ChoiceRowSteps.{all_rows, no_rows, rows_more, AreRowsTo}
@@ -17,9 +13,6 @@ module _ (language : Language) (l : Listing) (groups : List GroupConditions) (co
     (w : IsWalkOf language l groups conditions read) where
   pub represented_by : IsRepresented l
   represented_by = record { read = read; shows = w.shows }
-
-  pub conditioned_by : IsConditioned groups conditions
-  conditioned_by = record { language = language; exprs = l.names.arena; texts = l.texts.items; read = read; shown = w.shown }
 
   -- what is gathered is what the first `i` groups give, of which `n` are choices
   pub record ArePartsTo (i n : ℕ) (p : GroupParts) : Type 0 where
@@ -57,8 +50,7 @@ module _ (language : Language) (l : Listing) (groups : List GroupConditions) (co
       → ArePartsTo i n old → ArePartsTo (i + 1) n2 new
   unfolding RepresentsListing
   parts_more i n n2 old new h count next more k = record {
-    attributes = gathered_more language l.names read w.shows.names l.texts.items l.lines.items l.groups.items groups conditions w.shows.groups_are w.shown
-        i old.attributes new.attributes h (omega (arith, as_many language l groups conditions read w, h)) (held_lines i) more.attributes k.attributes;
+    attributes = gathered_more language l groups conditions read w i h old.attributes new.attributes (held_lines i) more.attributes k.attributes;
     rows = rows_more language l l.names.arena groups conditions read w.shows w.shown i old.rows.items new.rows.items h more.rows k.rows;
     defaults = λ none. one_more language l groups conditions read w i n n2 old.defaults new.defaults h count next none more.default_keys more.defaults
         (k.defaults none);

@@ -1,8 +1,8 @@
 -- The items of attributes, one after another.
 use Rattle.kc_builder.proofs.Common.{◌≡◌, ℕ, suc, ◌+◌, ◌<◌, List, [], ◌∷◌, ◌++◌, length, get_or, drop, Option, Some, None, refl, ap, sym, subst, ◌∙◌, arith, append_assoc, append-nil, option_to_list, option_map, option_and_then, is_some, cons_option, list_any, drop-cons, drop-length, target_given}
 use Rattle.kc_builder.proofs.Common.{ItemsWithKeys, SymbolTable, number_in, text_of_name, ReverseDependency, ReverseKind, Select, Imply, gathered_items, gathered_prompt, gathered_default, gathered_range, own_key, HasAppended, gathered_target, target_key, gathered_reverse_dependency, Attributes}
+use Rattle.kc_builder.proofs.Common.{CodeLine, option_front}
 use Rattle.std.specs.Prelude.{map, Bool, true, false, ◌||◌}
-use Rattle.kc_parser.specs.declared.listing.Line.{Line as CodeLine}
 use Rattle.kc_builder.specs.checker.GatheredItems.{has_target}
 use Rattle.kc_builder.specs.checker.Definitions.{HasItem, HasSame, HasLine, HasOwn}
 
@@ -17,8 +17,7 @@ pub all_rest : {T : Type 0} (key : CodeLine → ℕ → Option ℕ) (item : Code
 all_rest key item old lines conditions = record { keys = refl; items = refl }
 
 consed : {T : Type 0} (o : Option T) (xs ys : List T) → xs ++ cons_option o ys ≡ (xs ++ option_to_list o) ++ ys
-consed None xs ys = ap (λ zs. zs ++ ys) (sym (append-nil xs))
-consed (Some x) xs ys = sym (append_assoc xs (x ∷ []) ys)
+consed o xs ys = ap (λ zs. xs ++ zs) (sym (option_front o ys)) ∙ sym (append_assoc xs (option_to_list o) ys)
 
 pair_more : {T : Type 0} (item : CodeLine → ℕ → Option T) (lines : List CodeLine) (conditions : List ℕ) (i c : ℕ) (d : CodeLine) → i < length lines
     → i < length conditions
@@ -33,16 +32,14 @@ pair_more item lines conditions i c d h k =
 pub rest_more : {T : Type 0} (key : CodeLine → ℕ → Option ℕ) (item : CodeLine → ℕ → Option T) (old now next : ItemsWithKeys T) (lines : List CodeLine)
     (conditions : List ℕ) (i c : ℕ) (d : CodeLine)
     → i < length lines → length conditions ≡ length lines → IsRest key item old now lines conditions i
-    → next.keys.items ≡ now.keys.items ++ option_to_list (key (get_or lines i d) (get_or conditions i c))
-    → next.items.items ≡ now.items.items ++ option_to_list (item (get_or lines i d) (get_or conditions i c))
-    → IsRest key item old next lines conditions (i + 1)
-rest_more key item old now next lines conditions i c d h e r k m =
+    → HasItem key item now next (get_or lines i d) (get_or conditions i c) → IsRest key item old next lines conditions (i + 1)
+rest_more key item old now next lines conditions i c d h e r m =
     let l : i < length conditions = omega arith in
     record {
-      keys = ap (λ ks. ks ++ gathered_items key (drop (i + 1) lines) (drop (i + 1) conditions)) k
+      keys = ap (λ ks. ks ++ gathered_items key (drop (i + 1) lines) (drop (i + 1) conditions)) m.keys
           ∙ sym (consed (key (get_or lines i d) (get_or conditions i c)) now.keys.items (gathered_items key (drop (i + 1) lines) (drop (i + 1) conditions)))
           ∙ ap (λ ks. now.keys.items ++ ks) (sym (pair_more key lines conditions i c d h l)) ∙ r.keys;
-      items = ap (λ xs. xs ++ gathered_items item (drop (i + 1) lines) (drop (i + 1) conditions)) m
+      items = ap (λ xs. xs ++ gathered_items item (drop (i + 1) lines) (drop (i + 1) conditions)) m.items
           ∙ sym (consed (item (get_or lines i d) (get_or conditions i c)) now.items.items (gathered_items item (drop (i + 1) lines) (drop (i + 1) conditions)))
           ∙ ap (λ xs. now.items.items ++ xs) (sym (pair_more item lines conditions i c d h l)) ∙ r.items;
     }
@@ -94,19 +91,31 @@ none_appended n f s old lines conditions e = record {
       (λ l c h. ap (option_map (λ _. record { by = s; condition = c })) (no_target n f l h)) lines conditions e));
 }
 
--- keys of an item that may be missing
-pub keyed : {T : Type 0} (s : ℕ) (o : Option T) → map (λ (_ : T). s) (option_to_list o) ≡ option_to_list (option_map (λ (_ : T). s) o)
-keyed s None = refl
-keyed s (Some x) = refl
+-- at most one item, mapped
+pub map_option : {A B : Type 0} (f : A → B) (o : Option A) → map f (option_to_list o) ≡ option_to_list (option_map f o)
+map_option f None = refl
+map_option f (Some x) = refl
 
 -- an item that a line gives, or none, under the number of a symbol
 pub item_given : {T : Type 0} (item : CodeLine → ℕ → Option T) (s : ℕ) (old new : ItemsWithKeys T) (l : CodeLine) (c : ℕ) (o : Option T) → o ≡ item l c
     → new.keys.items ≡ old.keys.items ++ map (λ (_ : T). s) (option_to_list o) → new.items.items ≡ old.items.items ++ option_to_list o
     → HasItem (own_key s item) item old new l c
 item_given item s old new l c o e k m = record {
-  keys = k ∙ ap (λ ks. old.keys.items ++ ks) (keyed s o ∙ ap (λ p. option_to_list (option_map (λ _. s) p)) e);
+  keys = k ∙ ap (λ ks. old.keys.items ++ ks) (map_option (λ _. s) o ∙ ap (λ p. option_to_list (option_map (λ _. s) p)) e);
   items = m ∙ ap (λ p. old.items.items ++ option_to_list p) e;
 }
+
+-- the keys of items that are all under one number
+pub mapped_cons : {T M : Type 0} (view : T → M) (o : Option T) (xs : List T) → map view (cons_option o xs) ≡ cons_option (option_map view o) (map view xs)
+mapped_cons view None xs = refl
+mapped_cons view (Some x) xs = refl
+
+pub own_keys_are : {T : Type 0} (s : ℕ) (item : CodeLine → ℕ → Option T) (lines : List CodeLine) (conditions : List ℕ)
+    → gathered_items (own_key s item) lines conditions ≡ map (λ (_ : T). s) (gathered_items item lines conditions)
+own_keys_are s item [] cs = refl
+own_keys_are s item (l ∷ ls) [] = refl
+own_keys_are s item (l ∷ ls) (c ∷ cs) =
+    ap (cons_option (own_key s item l c)) (own_keys_are s item ls cs) ∙ sym (mapped_cons (λ _. s) (item l c) (gathered_items item ls cs))
 
 -- the same items appended to an equal list
 pub appended_from : {T : Type 0} (key : CodeLine → ℕ → Option ℕ) (item : CodeLine → ℕ → Option T) (mid old new : ItemsWithKeys T) (lines : List CodeLine)
@@ -131,13 +140,6 @@ own_all s old lines conditions = record {
   others = record { selectors = refl; impliers = refl; direct = refl };
 }
 
-item_more : {T : Type 0} (key : CodeLine → ℕ → Option ℕ) (item : CodeLine → ℕ → Option T) (old now next : ItemsWithKeys T) (lines : List CodeLine)
-    (conditions : List ℕ) (i c : ℕ) (d : CodeLine)
-    → i < length lines → length conditions ≡ length lines → IsRest key item old now lines conditions i
-    → HasItem key item now next (get_or lines i d) (get_or conditions i c)
-    → IsRest key item old next lines conditions (i + 1)
-item_more key item old now next lines conditions i c d h e r m = rest_more key item old now next lines conditions i c d h e r m.keys m.items
-
 pub own_more : (s : ℕ) (old now next : Attributes) (lines : List CodeLine) (conditions : List ℕ) (i c : ℕ) (d : CodeLine)
     → i < length lines → length conditions ≡ length lines → IsOwnRest s old now lines conditions i
     → d ≡ get_or lines i d → c ≡ get_or conditions i c → HasLine s now next d c
@@ -146,9 +148,9 @@ own_more s old now next lines conditions i c d h e r line condition given =
     let m : HasLine s now next (get_or lines i d) (get_or conditions i c) =
     subst (λ l. HasLine s now next l (get_or conditions i c)) line (subst (HasLine s now next d) condition given) in
     record {
-      prompts = item_more (own_key s gathered_prompt) gathered_prompt old.prompts now.prompts next.prompts lines conditions i c d h e r.prompts m.prompts;
-      defaults = item_more (own_key s gathered_default) gathered_default old.defaults now.defaults next.defaults lines conditions i c d h e r.defaults m.defaults;
-      ranges = item_more (own_key s gathered_range) gathered_range old.ranges now.ranges next.ranges lines conditions i c d h e r.ranges m.ranges;
+      prompts = rest_more (own_key s gathered_prompt) gathered_prompt old.prompts now.prompts next.prompts lines conditions i c d h e r.prompts m.prompts;
+      defaults = rest_more (own_key s gathered_default) gathered_default old.defaults now.defaults next.defaults lines conditions i c d h e r.defaults m.defaults;
+      ranges = rest_more (own_key s gathered_range) gathered_range old.ranges now.ranges next.ranges lines conditions i c d h e r.ranges m.ranges;
       others = record {
         selectors = m.others.selectors ∙ r.others.selectors;
         impliers = m.others.impliers ∙ r.others.impliers;

@@ -2,25 +2,20 @@
 use Rattle.kc_builder.proofs.Common.{◌≡◌, ℕ, suc, ◌<◌, Bool, true, false, cond, List, [], ◌∷◌, length, map, Option, Some, None, refl, ap, sym, ◌∙◌, subst, arith, filter_map, option_map, option_and_then, All, IfSome, is_some, cons_option, All-nil, All-cons, Language, Exprs, node_expr, Expr}
 use Rattle.kc_builder.proofs.Common.{index_of_name, attribute_in, AttributeNodesExist, is_prompt, target_given, Attribute, DefaultAttribute, RangeAttribute, TargetAttribute, prompt_of, default_of, range_of, Line, context_of, GroupInContext, prompt_condition, attribute_condition, get_below}
 use Rattle.kc_builder.proofs.Common.{place-get, SymbolTable, HasNames, number_in, text_of_name, LineNodesExist, line_in, DefaultFits, ReverseDependencyFits, gathered_prompt, gathered_default, gathered_range, gathered_target, gathered_reverse_dependency, own_key, target_key, gathered_items}
-use Rattle.kc_builder.proofs.Common.{condition_at, ReverseKind, Select, Imply, ReverseDependency}
+use Rattle.kc_builder.proofs.Common.{condition_at, ReverseKind, Select, Imply, ReverseDependency, CodeAttribute, CodeLine}
 use Rattle.kc_expr.specs.Expr.{Operand}
 use Rattle.kc_expr.specs.between.Operand.{operand_alone}
-use Rattle.kc_statements.specs.declared.statement.Attribute.{Attribute as CodeAttribute}
 use Rattle.kc_statements.specs.declared.statement.Attribute.TheVariants as attributes
 use Rattle.kc_statements.specs.between.StatementViews as statement_views
 use Rattle.kc_tree_model.specs.Trees as tree
 use Rattle.kc_tree_model.specs.Statements.{select_of, imply_of}
-use Rattle.kc_parser.specs.declared.listing.Line.{Line as CodeLine}
 use Rattle.kc_tree.specs.between.Views.{RangeFits, HasOperands}
 use Rattle.kc_tree.specs.between.Views as views
 use Rattle.kc_tree.specs.declared.symbol.Range.{Range}
+use Rattle.kc_builder.proofs.ItemSteps.{mapped_cons}
 use Rattle.kc_builder.proofs.ItemLaw.{number_of, own_key_of, own_item_of, force_key_of, force_item_of, force_by}
 
 -- what lines with conditions give
-mapped_cons : {T M : Type 0} (view : T → M) (o : Option T) (xs : List T) → map view (cons_option o xs) ≡ cons_option (option_map view o) (map view xs)
-mapped_cons view None xs = refl
-mapped_cons view (Some x) xs = refl
-
 pub pairs_keys : (key : CodeLine → ℕ → Option ℕ) (K : Line → Option ℕ) (e : Exprs) (ls : List CodeLine) (cs : List ℕ) → length cs ≡ length ls
     → ((l : CodeLine) (i : ℕ) → key l i ≡ K (line_in e l)) → gathered_items key ls cs ≡ filter_map K (map (line_in e) ls)
 pairs_keys key K e [] cs n h = refl
@@ -59,19 +54,9 @@ pairs_fit P item e (l ∷ ls) (i ∷ cs) w v h =
 module _ (language : Language) (e : Exprs) (p : GroupInContext) where
   prompt_by : (a : CodeAttribute) (number i : ℕ) → node_expr e i ≡ condition_at language p (record { number = number; attribute = attribute_in e a })
       → option_map (node_expr e) (cond (is_prompt a) (Some i) None) ≡ option_map (prompt_condition (context_of language p) p.group) (prompt_of (attribute_in e a))
-  prompt_by (attributes.Typed k) n i s = refl
   prompt_by (attributes.TypedPrompt k c) n i s = ap Some s
-  prompt_by (attributes.TypedDefault k d) n i s = refl
   prompt_by (attributes.Prompt c) n i s = ap Some s
-  prompt_by (attributes.Default d) n i s = refl
-  prompt_by (attributes.Depends x) n i s = refl
-  prompt_by (attributes.Select a) n i s = refl
-  prompt_by (attributes.Imply a) n i s = refl
-  prompt_by (attributes.Range r) n i s = refl
-  prompt_by (attributes.Visible x) n i s = refl
-  prompt_by attributes.Help n i s = refl
-  prompt_by attributes.Modules n i s = refl
-  prompt_by attributes.Optional n i s = refl
+  prompt_by x n i s = refl
 
   pub prompt_item : (l : CodeLine) (i : ℕ) → LineNodesExist e l → node_expr e i ≡ condition_at language p (line_in e l)
       → option_map (node_expr e) (gathered_prompt l i) ≡ own_item_of prompt_of (λ q. prompt_condition (context_of language q) q.group) p (line_in e l)
@@ -124,19 +109,9 @@ module _ (language : Language) (e : Exprs) (p : GroupInContext) where
 module _ (e : Exprs) (names : List (List ℕ)) (x : List ℕ) (s : ℕ) (number : number_of names x ≡ s) where
   prompt_key_by : (a : CodeAttribute) (i : ℕ)
       → option_map (λ _. s) (cond (is_prompt a) (Some i) None) ≡ option_map (λ _. number_of names x) (prompt_of (attribute_in e a))
-  prompt_key_by (attributes.Typed k) i = refl
   prompt_key_by (attributes.TypedPrompt k c) i = ap Some (sym number)
-  prompt_key_by (attributes.TypedDefault k d) i = refl
   prompt_key_by (attributes.Prompt c) i = ap Some (sym number)
-  prompt_key_by (attributes.Default d) i = refl
-  prompt_key_by (attributes.Depends y) i = refl
-  prompt_key_by (attributes.Select a) i = refl
-  prompt_key_by (attributes.Imply a) i = refl
-  prompt_key_by (attributes.Range r) i = refl
-  prompt_key_by (attributes.Visible y) i = refl
-  prompt_key_by attributes.Help i = refl
-  prompt_key_by attributes.Modules i = refl
-  prompt_key_by attributes.Optional i = refl
+  prompt_key_by x i = refl
 
   pub prompt_key : (l : CodeLine) (i : ℕ) → own_key s gathered_prompt l i ≡ own_key_of prompt_of names x (line_in e l)
   prompt_key l i = prompt_key_by l.attribute i

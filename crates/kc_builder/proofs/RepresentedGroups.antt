@@ -1,11 +1,8 @@
 -- A listing represents one list of statements, so a summary of it stays one as its arena grows.
-use Rattle.kc_builder.proofs.Common.{◌≡◌, ℕ, List, [], ◌∷◌, length, reverse, Some, refl, ap, sym, subst, ◌∙◌, slice_get, slice_range, Exprs, config, Group, GroupHead, of_head, names_defined, Listing, RepresentsHead, RepresentsGroup, RepresentsGroups, Summary}
+use Rattle.kc_builder.proofs.Common.{◌≡◌, ℕ, List, [], ◌∷◌, length, reverse, Some, refl, ap, sym, subst, ◌∙◌, slice_get, slice_range, Exprs, config, Group, GroupHead, of_head, names_defined, Listing, RepresentsHead, RepresentsGroup, RepresentsGroups, Summary, CodeGroup, CodeLine, CodeHead}
+use Rattle.kc_builder.proofs.Common.{RepresentsListing}
 use Rattle.kc_tree_model.specs.Statements.{menu, comment, source}
-use Rattle.kc_parser.specs.declared.listing.Group.{Group as CodeGroup}
-use Rattle.kc_parser.specs.declared.listing.Line.{Line as CodeLine}
-use Rattle.kc_parser.specs.declared.listing.GroupHead.{GroupHead as CodeHead}
 use Rattle.kc_parser.specs.declared.listing.GroupHead.TheVariants as codes
-use Rattle.kc_parser.specs.between.ListingView.{RepresentsListing}
 use Rattle.kc_checks.specs.between.Summaries.{IsSummary, IsSummed}
 
 one_text : (texts : List (List ℕ)) (t : ℕ) (x y : List ℕ) → slice_get texts t ≡ Some x → slice_get texts t ≡ Some y → x ≡ y
@@ -14,23 +11,18 @@ one_text texts t x y a b = cc
 one_head : (e : Exprs) (names texts : List (List ℕ)) (code : CodeHead) (v w : GroupHead) → RepresentsHead e names texts code v
     → RepresentsHead e names texts code w → v ≡ w
 one_head e names texts (codes.Config s) v w a b = a.2 ∙ ap (λ x. of_head (config x)) (one_text names s a.0 b.0 a.1 b.1) ∙ sym b.2
-one_head e names texts codes.Choice v w a b = a ∙ sym b
 one_head e names texts (codes.Menu t) v w a b = a.2 ∙ ap (λ x. of_head (menu x)) (one_text texts t a.0 b.0 a.1 b.1) ∙ sym b.2
 one_head e names texts (codes.Condition id) v w a b = a.1 ∙ sym b.1
 one_head e names texts (codes.Comment t) v w a b = a.2 ∙ ap (λ x. of_head (comment x)) (one_text texts t a.0 b.0 a.1 b.1) ∙ sym b.2
 one_head e names texts (codes.Source t) v w a b = a.2 ∙ ap (λ x. of_head (source x)) (one_text texts t a.0 b.0 a.1 b.1) ∙ sym b.2
-one_head e names texts codes.Mainmenu v w a b = a ∙ sym b
-one_head e names texts (codes.Ends k) v w a b = a ∙ sym b
-one_head e names texts codes.FileEnd v w a b = a ∙ sym b
+one_head e names texts x v w a b = a ∙ sym b
 
 -- groups with the same number, place, head and attributes are the same
 equal_groups : (m n : Group) → m.number ≡ n.number → m.at.file ≡ n.at.file → m.at.line ≡ n.at.line → m.head ≡ n.head → m.attributes ≡ n.attributes → m ≡ n
 equal_groups m n number file line head attributes =
-    ap (λ x. let g : Group = record { number = x; at = m.at; head = m.head; attributes = m.attributes } in g) number
-    ∙ ap (λ x. let g : Group = record { number = n.number; at = record { file = x; line = m.at.line }; head = m.head; attributes = m.attributes } in g) file
-    ∙ ap (λ x. let g : Group = record { number = n.number; at = record { file = n.at.file; line = x }; head = m.head; attributes = m.attributes } in g) line
-    ∙ ap (λ x. let g : Group = record { number = n.number; at = n.at; head = x; attributes = m.attributes } in g) head
-    ∙ ap (λ x. let g : Group = record { number = n.number; at = n.at; head = n.head; attributes = x } in g) attributes
+    let all : (let g : Group = record { number = m.number; at = record { file = m.at.file; line = m.at.line }; head = m.head; attributes = m.attributes } in g) ≡ n =
+    rw (number, file, line, head, attributes) refl in
+    all
 
 one_group : (e : Exprs) (names texts : List (List ℕ)) (own : List CodeLine) (j k : ℕ) (code : CodeGroup) (m n : Group)
     → RepresentsGroup e names texts own j code m → RepresentsGroup e names texts own k code n → j ≡ k → m ≡ n

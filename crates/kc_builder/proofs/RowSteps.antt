@@ -1,85 +1,37 @@
 -- The rows of symbols are those of what was read.
-use Rattle.kc_builder.proofs.Common.{◌≡◌, inl, inr, ℕ, suc, ◌+◌, ◌<◌, ◌≤◌, List, [], ◌∷◌, ◌++◌, length, get_or, drop, map, reverse, Some, refl, ap, sym, subst, ◌∙◌, arith, append_assoc, append-nil, slice_get, flat_map, unwrap_or, option_map, All, drop-cons, drop-length, Exprs, Group, GroupInContext}
-use Rattle.kc_builder.proofs.Common.{groups_in_context, contents_of, defines, definitions_of, names_defined, Has, text_of_name, RepresentsGroups, Listing, as_many_names, row_of_symbol, rows_of_symbols, IsRowOf, AreRowsOf, IsRepresented, SymbolRow, SymbolSummary}
-use Rattle.std.proofs.lemmas.List.{length-reverse, reverse-append}
+use Rattle.kc_builder.proofs.Common.{◌≡◌, inl, ℕ, suc, ◌+◌, ◌<◌, ◌≤◌, List, [], ◌∷◌, ◌++◌, length, get_or, drop, map, refl, ap, sym, ◌∙◌, arith, append_assoc, append-nil, slice_get, flat_map, unwrap_or, option_map, All, drop-cons, drop-length, Exprs, Group, GroupInContext, groups_in_context}
+use Rattle.kc_builder.proofs.Common.{contents_of, defines, definitions_of, names_defined, Has, text_of_name, Listing, as_many_names, row_of_symbol, rows_of_symbols, IsRowOf, AreRowsOf, IsRepresented, SymbolRow, SymbolSummary, CodeGroup, CodeLine}
+use Rattle.std.proofs.lemmas.Option.{slice_get-get_or}
 use Rattle.kc_tree_model.specs.Contents.{kind_in_tree, type_given}
 use Rattle.kc_tree_model.proofs.Consistency.Lists.{has-filter}
 use Rattle.kc_tree_model.proofs.Consistency.Places.{group-placed}
-use Rattle.kc_parser.specs.declared.listing.Group.{Group as CodeGroup}
-use Rattle.kc_parser.specs.declared.listing.Line.{Line as CodeLine}
 use Rattle.kc_parser.specs.between.ListingView.{RepresentsLists, RepresentsListing}
-use Rattle.kc_parser.proofs.ListingGrowth.{get_more, get_last}
 use Rattle.kc_builder.specs.checker.Rows.{place_of_group, place_of_group_number}
-use Rattle.kc_checks.specs.between.Summaries.{summary_in, symbol_summaries, number_at, AreSymbolSummaries}
+use Rattle.kc_checks.specs.between.Summaries.{no_group, summary_in, symbol_summaries, number_at, AreSymbolSummaries}
+use Rattle.kc_checks.proofs.GroupPlaces.{IsNumbered, numbered}
 use Rattle.kc_checks.proofs.Symbols.{choice_is, as_many_symbols}
-
--- a group is stored at the index of its number, with its file and its line
-pub record IsKeptAs (groups : List CodeGroup) (g : Group) : Type 0 where
-  pub kept : CodeGroup
-  pub at : slice_get groups g.number ≡ Some kept
-  pub file_is : g.at.file ≡ kept.file
-  pub line_is : g.at.line ≡ kept.line
-
-more_kept : (gs : List CodeGroup) (c : CodeGroup) (g : Group) → IsKeptAs (reverse gs) g → IsKeptAs (reverse (c ∷ gs)) g
-more_kept gs c g k =
-    record {
-      kept = k.kept;
-      at = ap (λ xs. slice_get xs g.number) (reverse-append (c ∷ []) gs)
-          ∙ get_more (reverse gs) (c ∷ []) g.number k.kept k.at;
-      file_is = k.file_is;
-      line_is = k.line_is;
-    }
-
-kept_after : (e : Exprs) (names texts : List (List ℕ)) (lines : List CodeLine) (end : ℕ) (gs : List CodeGroup) (ms : List Group)
-    → RepresentsGroups e names texts lines end gs ms → length gs ≡ length ms
-kept_after e names texts lines end [] [] h = refl
-kept_after e names texts lines end [] (m ∷ ms) h = absurd h
-kept_after e names texts lines end (g ∷ gs) [] h = absurd h
-kept_after e names texts lines end (g ∷ gs) (m ∷ ms) h = ap suc (kept_after e names texts lines g.attributes gs ms h.2)
-
-kept_newest : (e : Exprs) (names texts : List (List ℕ)) (lines : List CodeLine) (end : ℕ) (gs : List CodeGroup) (ms : List Group) (g : Group)
-    → RepresentsGroups e names texts lines end gs ms → Has g ms → IsKeptAs (reverse gs) g
-kept_newest e names texts lines end [] [] g h k = absurd k
-kept_newest e names texts lines end [] (m ∷ ms) g h k = absurd h
-kept_newest e names texts lines end (c ∷ gs) [] g h k = absurd k
-kept_newest e names texts lines end (c ∷ gs) (m ∷ ms) g h (inr k) = more_kept gs c g (kept_newest e names texts lines c.attributes gs ms g h.2 k)
-kept_newest e names texts lines end (c ∷ gs) (m ∷ ms) g h (inl same) =
-    let n : m.number ≡ length (reverse gs) = h.0.number_is ∙ sym (kept_after e names texts lines c.attributes gs ms h.2) ∙ sym (length-reverse gs) in
-    subst (IsKeptAs (reverse (c ∷ gs))) same (record {
-      kept = c;
-      at = ap (λ xs. slice_get xs m.number) (reverse-append (c ∷ []) gs) ∙ ap (slice_get (reverse gs ++ c ∷ [])) n ∙ get_last (reverse gs) c;
-      file_is = h.0.file_is;
-      line_is = h.0.line_is;
-    })
-
-reversed_twice : (gs : List CodeGroup) → reverse (reverse gs) ≡ gs
-reversed_twice [] = refl
-reversed_twice (g ∷ gs) = ap reverse (reverse-append (g ∷ []) gs) ∙ reverse-append (reverse gs) (g ∷ []) ∙ ap (λ xs. g ∷ xs) (reversed_twice gs)
-
--- each group that was read is stored at the index of its number
-pub kept_as : (e : Exprs) (names texts : List (List ℕ)) (lines : List CodeLine) (groups : List CodeGroup) (read : List Group) (g : Group)
-    → RepresentsGroups e names texts lines (length lines) (reverse groups) read → Has g read → IsKeptAs groups g
-kept_as e names texts lines groups read g h k =
-    subst (λ gs. IsKeptAs gs g) (reversed_twice groups) (kept_newest e names texts lines (length lines) (reverse groups) read g h k)
-
--- the place of the first of some places
-file_of_first : (groups : List CodeGroup) (ds : List GroupInContext) → ((p : GroupInContext) → Has p ds → IsKeptAs groups p.group)
-    → (place_of_group_number groups (slice_get (flat_map number_at ds) 0)).0 ≡ unwrap_or
-    (option_map (λ (g : Group). g.at.file) (option_map (λ (p : GroupInContext). p.group) (slice_get ds 0))) 0
-file_of_first groups [] k = refl
-file_of_first groups (p ∷ ds) k = let q = k p (inl refl) in ap (λ o. (place_of_group o).0) q.at ∙ sym q.file_is
-
-line_of_first : (groups : List CodeGroup) (ds : List GroupInContext) → ((p : GroupInContext) → Has p ds → IsKeptAs groups p.group)
-    → (place_of_group_number groups (slice_get (flat_map number_at ds) 0)).1 ≡ unwrap_or
-    (option_map (λ (g : Group). g.at.line) (option_map (λ (p : GroupInContext). p.group) (slice_get ds 0))) 0
-line_of_first groups [] k = refl
-line_of_first groups (p ∷ ds) k = let q = k p (inl refl) in ap (λ o. (place_of_group o).1) q.at ∙ sym q.line_is
 
 module _ (e : Exprs) (symbols numbers : List ℕ) (texts : List (List ℕ)) (lines : List CodeLine) (groups : List CodeGroup) (read : List Group)
     (h : RepresentsLists e symbols numbers texts lines groups read) where
-  definition_kept : (name : List ℕ) (p : GroupInContext) → Has p (definitions_of (contents_of read) name) → IsKeptAs groups p.group
-  definition_kept name p k =
-      kept_as e (names_defined read) texts lines groups read p.group h.groups_are
+  -- the place of the first of some places
+  abbrev Kept : List GroupInContext → Type 0
+  Kept ds = (p : GroupInContext) → Has p ds → IsNumbered e (names_defined read) texts lines groups read p.group
+
+  file_of_first : (ds : List GroupInContext) → Kept ds → (place_of_group_number groups (slice_get (flat_map number_at ds) 0)).0
+      ≡ unwrap_or (option_map (λ (g : Group). g.at.file) (option_map (λ (p : GroupInContext). p.group) (slice_get ds 0))) 0
+  file_of_first [] k = refl
+  file_of_first (p ∷ ds) k =
+      let q = k p (inl refl) in ap (λ o. (place_of_group o).0) (slice_get-get_or groups p.group.number no_group q.below) ∙ sym q.shown.file_is
+
+  line_of_first : (ds : List GroupInContext) → Kept ds → (place_of_group_number groups (slice_get (flat_map number_at ds) 0)).1
+      ≡ unwrap_or (option_map (λ (g : Group). g.at.line) (option_map (λ (p : GroupInContext). p.group) (slice_get ds 0))) 0
+  line_of_first [] k = refl
+  line_of_first (p ∷ ds) k =
+      let q = k p (inl refl) in ap (λ o. (place_of_group o).1) (slice_get-get_or groups p.group.number no_group q.below) ∙ sym q.shown.line_is
+
+  definition_kept : (name : List ℕ) → Kept (definitions_of (contents_of read) name)
+  definition_kept name = λ p k.
+      numbered e (names_defined read) texts lines groups read h.groups_are p.group
       (group-placed p read (has-filter (defines name) (groups_in_context read) p k).0)
 
   row_is : (name : List ℕ) (id : ℕ) → id < length e.names → text_of_name e id ≡ name
@@ -88,8 +40,8 @@ module _ (e : Exprs) (symbols numbers : List ℕ) (texts : List (List ℕ)) (lin
     held = l;
     name_is = w;
     kind_is = ap (λ o. kind_in_tree o (type_given (contents_of read) name)) (choice_is read name);
-    file_is = file_of_first groups (definitions_of (contents_of read) name) (definition_kept name);
-    line_is = line_of_first groups (definitions_of (contents_of read) name) (definition_kept name);
+    file_is = file_of_first (definitions_of (contents_of read) name) (definition_kept name);
+    line_is = line_of_first (definitions_of (contents_of read) name) (definition_kept name);
     choice_is = choice_is read name;
   }
 

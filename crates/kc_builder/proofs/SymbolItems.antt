@@ -1,21 +1,19 @@
 -- The attributes that all definitions give symbols.
-use Rattle.kc_builder.proofs.Common.{◌≡◌, inl, inr, ℕ, ◌+◌, ◌<◌, List, [], ◌∷◌, ◌++◌, length, map, reverse, Option, Some, None, refl, ap, sym, ◌∙◌, subst, slice_range, filter_map, option_map, unwrap_or, All, IfSome, length-map, All-nil, All-cons, Language, Exprs, Represents, node_expr, Expr}
-use Rattle.kc_builder.proofs.Common.{Attribute, DefaultAttribute, RangeAttribute, config, name_of_head, prompt_of, default_of, range_of, Group, GroupHead, of_head, from_head, defined_name, open_blocks, side_of, closing, context_of, GroupInContext, group_in_context, groups_in_context}
-use Rattle.kc_builder.proofs.Common.{prompt_condition, attribute_condition, dependency_of, contents_of, names_defined, Differ-once, get_below, SymbolTable, HasNames, RepresentsGroups, RepresentsHead, LineNodesExist, line_in, DefaultFits, ReverseDependencyFits, conditions_at, own_conditions}
-use Rattle.kc_builder.proofs.Common.{AreAttributes, gathered_prompt, gathered_default, gathered_range, own_key, target_key, gathered_reverse_dependency, gathered_items, HasAppended, read_before, group_at, attributes_end, condition_at, RepresentsConditions, RepresentsAllConditions, ReverseKind}
-use Rattle.kc_builder.proofs.Common.{Select, Imply, Attributes, ItemsWithKeys, GroupConditions, all_before, none_before, placed_more, shown_at, conditioned_at}
+use Rattle.kc_builder.proofs.Common.{Listing, IsWalkOf, RepresentsListing, own_lines, ◌≡◌, inl, inr, ℕ, ◌+◌, ◌<◌, List, [], ◌∷◌, ◌++◌, length, map, Option, Some, None, refl, ap, sym, ◌∙◌, subst, filter_map, option_map, unwrap_or, All, IfSome, All-nil, All-cons, Language, Exprs, Represents}
+use Rattle.kc_builder.proofs.Common.{node_expr, Expr, Attribute, DefaultAttribute, RangeAttribute, config, name_of_head, prompt_of, default_of, range_of, Group, GroupHead, of_head, from_head, defined_name, open_blocks, side_of, closing, context_of, GroupInContext, group_in_context}
+use Rattle.kc_builder.proofs.Common.{groups_in_context, prompt_condition, attribute_condition, dependency_of, contents_of, names_defined, Differ-once, get_below, SymbolTable, HasNames, RepresentsHead, LineNodesExist, line_in, DefaultFits, ReverseDependencyFits, conditions_at, own_conditions}
+use Rattle.kc_builder.proofs.Common.{AreAttributes, gathered_prompt, gathered_default, gathered_range, own_key, target_key, gathered_reverse_dependency, HasAppended, read_before, group_at, condition_at, ReverseKind, Select, Imply, Attributes, ItemsWithKeys, GroupConditions, all_before, none_before}
+use Rattle.kc_builder.proofs.Common.{placed_more, CodeLine, CodeHead}
 use Rattle.kc_tree_model.specs.Trees as tree
 use Rattle.kc_tree_model.specs.Blocks.{inside}
-use Rattle.kc_parser.specs.declared.listing.Group.{Group as CodeGroup}
-use Rattle.kc_parser.specs.declared.listing.Line.{Line as CodeLine}
-use Rattle.kc_parser.specs.declared.listing.GroupHead.{GroupHead as CodeHead}
 use Rattle.kc_parser.specs.declared.listing.GroupHead.TheVariants as codes
 use Rattle.kc_tree.specs.between.Views as views
 use Rattle.kc_builder.specs.checker.Definitions.{HasDefinition, HasStatement}
 use Rattle.kc_tree.specs.declared.symbol.ReverseDependency.{ReverseDependency as CodeForce}
-use Rattle.kc_builder.proofs.ItemLaw.{by_name, AreListed, none_listed, listed_more, listed_same, number_of, number_is, own_key_of, own_item_of, own_keys, own_items, own_law, direct_keys, direct_items, direct_law, force_key_of, force_item_of, force_keys, force_items, reverse_dependency_law}
+use Rattle.kc_builder.proofs.ItemLaw.{by_name, AreListed, none_listed, listed_more, listed_same, by_none, number_of, own_key_of, own_item_of, own_keys, own_items, own_law, direct_keys, direct_items, direct_law, force_key_of, force_item_of, force_keys, force_items, reverse_dependency_law}
 use Rattle.kc_builder.proofs.ItemViews.{pairs_keys, pairs_items, pairs_fit, prompt_item, default_item, range_item, prompt_key, default_key, range_key, prompt_fit, default_fit, range_fit, RangeStands, own_below, aim_of, reverse_dependency_key, reverse_dependency_item, reverse_dependency_fit, target_below}
-use Rattle.kc_checks.proofs.Symbols.{nameless}
+use Rattle.kc_builder.proofs.ChoiceRowSteps.{as_long, both_at, IsBoth}
+use Rattle.kc_checks.proofs.Symbols.{nameless, place_is}
 
 abbrev pub prompt_meant : Language → GroupInContext → Option Expr → Expr
 prompt_meant language p = prompt_condition (context_of language p) p.group
@@ -61,8 +59,7 @@ module _ (language : Language) (n : SymbolTable) (names : List (List ℕ)) (h : 
       → ((l : CodeLine) (i : ℕ) → LineNodesExist n.arena l → i < length n.arena.nodes → IfSome (item l i) P)
       → AreListed view (own_keys G names) (own_items G m) P (length names) (prior ++ p ∷ []) new.keys.items new.items.items
   own_step view G m P item old new l more key is fit =
-      listed_more view (own_keys G names) (own_items G m) P (length names) prior old.keys.items new.keys.items (gathered_items (own_key s item) ls cs)
-      old.items.items new.items.items (gathered_items item ls cs) p l more.keys more.items
+      listed_more p l _ more.keys more.items
       (pairs_keys (own_key s item) (own_key_of G names x) n.arena ls cs many key ∙ ap (filter_map (own_key_of G names x)) (sym attributes)
       ∙ sym (ap (by_name (λ y. filter_map (own_key_of G names y) p.group.attributes)) name))
       (pairs_items view item (own_item_of G m p) (condition_at language p) n.arena ls cs conditions held is ∙ ap (filter_map (own_item_of G m p)) (sym attributes)
@@ -77,9 +74,7 @@ module _ (language : Language) (n : SymbolTable) (names : List (List ℕ)) (h : 
       → AreListed (views.reverse_dependency_view n.arena) (force_keys (aim_of f) names) (force_items language (aim_of f) names)
       (ReverseDependencyFits (length n.arena.nodes) (length names)) (length names) (prior ++ p ∷ []) new.keys.items new.items.items
   reverse_dependency_step f old new l more =
-      listed_more (views.reverse_dependency_view n.arena) (force_keys (aim_of f) names) (force_items language (aim_of f) names)
-      (ReverseDependencyFits (length n.arena.nodes) (length names)) (length names) prior old.keys.items new.keys.items (gathered_items (target_key n f) ls cs)
-      old.items.items new.items.items (gathered_items (gathered_reverse_dependency n f s) ls cs) p l more.keys more.items
+      listed_more p l _ more.keys more.items
       (pairs_keys (target_key n f) (force_key_of (aim_of f) names) n.arena ls cs many (reverse_dependency_key language n names h f)
       ∙ ap (filter_map (force_key_of (aim_of f) names)) (sym attributes)
       ∙ sym (ap (by_name (λ y. filter_map (force_key_of (aim_of f) names) p.group.attributes)) name))
@@ -98,8 +93,7 @@ module _ (language : Language) (n : SymbolTable) (names : List (List ℕ)) (h : 
       → AreListed (node_expr n.arena) (direct_keys names) (direct_items (dependency_meant language)) (λ k. k < length n.arena.nodes) (length names) (prior ++ p ∷ [])
       new.keys.items new.items.items
   direct_step d old new l k i stands =
-      listed_more (node_expr n.arena) (direct_keys names) (direct_items (dependency_meant language)) (λ j. j < length n.arena.nodes) (length names) prior old.keys.items
-      new.keys.items (s ∷ []) old.items.items new.items.items (d ∷ []) p l k i
+      listed_more p l (d ∷ []) k i
       (ap (λ m. m ∷ []) (sym number) ∙ sym (ap (by_name (λ y. number_of names y ∷ [])) name))
       (ap (λ m. m ∷ []) stands.is ∙ sym (ap (by_name (λ y. dependency_meant language p ∷ [])) name))
       (All-cons (λ j. j < length n.arena.nodes) d [] stands.within (All-nil (λ j. j < length n.arena.nodes)))
@@ -123,35 +117,12 @@ module _ (language : Language) (n : SymbolTable) (names : List (List ℕ)) (h : 
 pub nothing_more : (language : Language) (e : Exprs) (names : List (List ℕ)) (prior : List GroupInContext) (p : GroupInContext) (a : Attributes) → defined_name p.group ≡ None
     → AreGathered language e names prior a → AreGathered language e names (prior ++ p ∷ []) a
 nothing_more language e names prior p a none g = record {
-  prompts =
-      listed_same (node_expr e) (own_keys prompt_of names) (own_items prompt_of (prompt_meant language)) (λ k. k < length e.nodes) (length names) prior
-      a.prompts.keys.items a.prompts.items.items p g.prompts
-      (ap (by_name (λ x. filter_map (own_key_of prompt_of names x) p.group.attributes)) none)
-      (ap (by_name (λ x. filter_map (own_item_of prompt_of (prompt_meant language) p) p.group.attributes)) none);
-  defaults =
-      listed_same (views.default_view e) (own_keys default_of names) (own_items default_of (default_meant language)) (DefaultFits (length e.nodes)) (length names) prior
-      a.defaults.keys.items a.defaults.items.items p g.defaults
-      (ap (by_name (λ x. filter_map (own_key_of default_of names x) p.group.attributes)) none)
-      (ap (by_name (λ x. filter_map (own_item_of default_of (default_meant language) p) p.group.attributes)) none);
-  ranges =
-      listed_same (views.range_view e) (own_keys range_of names) (own_items range_of (range_meant language)) (RangeStands e) (length names) prior a.ranges.keys.items
-      a.ranges.items.items p g.ranges
-      (ap (by_name (λ x. filter_map (own_key_of range_of names x) p.group.attributes)) none)
-      (ap (by_name (λ x. filter_map (own_item_of range_of (range_meant language) p) p.group.attributes)) none);
-  selectors =
-      listed_same (views.reverse_dependency_view e) (force_keys (aim_of Select) names) (force_items language (aim_of Select) names)
-      (ReverseDependencyFits (length e.nodes) (length names)) (length names) prior a.selectors.keys.items a.selectors.items.items p g.selectors
-      (ap (by_name (λ x. filter_map (force_key_of (aim_of Select) names) p.group.attributes)) none)
-      (ap (by_name (λ x. filter_map (force_item_of language (aim_of Select) names p x) p.group.attributes)) none);
-  impliers =
-      listed_same (views.reverse_dependency_view e) (force_keys (aim_of Imply) names) (force_items language (aim_of Imply) names)
-      (ReverseDependencyFits (length e.nodes) (length names)) (length names) prior a.impliers.keys.items a.impliers.items.items p g.impliers
-      (ap (by_name (λ x. filter_map (force_key_of (aim_of Imply) names) p.group.attributes)) none)
-      (ap (by_name (λ x. filter_map (force_item_of language (aim_of Imply) names p x) p.group.attributes)) none);
-  direct =
-      listed_same (node_expr e) (direct_keys names) (direct_items (dependency_meant language)) (λ k. k < length e.nodes) (length names) prior a.direct.keys.items
-      a.direct.items.items p g.direct
-      (ap (by_name (λ x. number_of names x ∷ [])) none) (ap (by_name (λ x. dependency_meant language p ∷ [])) none);
+  prompts = listed_same p g.prompts (by_none _ none) (by_none _ none);
+  defaults = listed_same p g.defaults (by_none _ none) (by_none _ none);
+  ranges = listed_same p g.ranges (by_none _ none) (by_none _ none);
+  selectors = listed_same p g.selectors (by_none _ none) (by_none _ none);
+  impliers = listed_same p g.impliers (by_none _ none) (by_none _ none);
+  direct = listed_same p g.direct (by_none _ none) (by_none _ none);
 }
 
 -- empty lists are the attributes collected from no groups
@@ -160,15 +131,12 @@ pub nothing_gathered : (language : Language) (e : Exprs) (names : List (List ℕ
     → (a.selectors.keys.items ≡ []) × (a.selectors.items.items ≡ []) → (a.impliers.keys.items ≡ []) × (a.impliers.items.items ≡ [])
     → (a.direct.keys.items ≡ []) × (a.direct.items.items ≡ []) → AreGathered language e names [] a
 nothing_gathered language e names a p d r s i x = record {
-  prompts = rw (p.0, p.1) (none_listed (node_expr e) (own_keys prompt_of names) (own_items prompt_of (prompt_meant language)) (λ k. k < length e.nodes) (length names));
-  defaults = rw (d.0, d.1) (none_listed (views.default_view e) (own_keys default_of names) (own_items default_of (default_meant language)) (DefaultFits (length e.nodes))
-      (length names));
-  ranges = rw (r.0, r.1) (none_listed (views.range_view e) (own_keys range_of names) (own_items range_of (range_meant language)) (RangeStands e) (length names));
-  selectors = rw (s.0, s.1) (none_listed (views.reverse_dependency_view e) (force_keys (aim_of Select) names) (force_items language (aim_of Select) names)
-      (ReverseDependencyFits (length e.nodes) (length names)) (length names));
-  impliers = rw (i.0, i.1) (none_listed (views.reverse_dependency_view e) (force_keys (aim_of Imply) names) (force_items language (aim_of Imply) names)
-      (ReverseDependencyFits (length e.nodes) (length names)) (length names));
-  direct = rw (x.0, x.1) (none_listed (node_expr e) (direct_keys names) (direct_items (dependency_meant language)) (λ k. k < length e.nodes) (length names));
+  prompts = rw (p.0, p.1) none_listed;
+  defaults = rw (d.0, d.1) none_listed;
+  ranges = rw (r.0, r.1) none_listed;
+  selectors = rw (s.0, s.1) none_listed;
+  impliers = rw (i.0, i.1) none_listed;
+  direct = rw (x.0, x.1) none_listed;
 }
 
 -- the attributes collected from all groups are those of the symbols
@@ -183,20 +151,12 @@ all_gathered language e read a g = record {
     impliers = λ i l. g.impliers.below i 0 l;
     direct = λ i l. g.direct.below i 0 l;
   };
-  prompts_are = λ s x at. own_law (node_expr e) prompt_of (prompt_meant language) (λ k. k < length e.nodes) (length (names_defined read)) read a.prompts.keys.items
-      a.prompts.items.items s x g.prompts at;
-  defaults_are = λ s x at. own_law (views.default_view e) default_of (default_meant language) (DefaultFits (length e.nodes)) (length (names_defined read)) read
-      a.defaults.keys.items a.defaults.items.items s x g.defaults at;
-  ranges_are = λ s x at. own_law (views.range_view e) range_of (range_meant language) (RangeStands e) (length (names_defined read)) read a.ranges.keys.items
-      a.ranges.items.items s x g.ranges at;
-  selectors_are = λ s x at. reverse_dependency_law _ (views.reverse_dependency_view e) (aim_of Select)
-      (ReverseDependencyFits (length e.nodes) (length (names_defined read))) (length (names_defined read)) read a.selectors.keys.items a.selectors.items.items s
-      x g.selectors at;
-  impliers_are = λ s x at. reverse_dependency_law _ (views.reverse_dependency_view e) (aim_of Imply)
-      (ReverseDependencyFits (length e.nodes) (length (names_defined read))) (length (names_defined read)) read a.impliers.keys.items a.impliers.items.items s x
-      g.impliers at;
-  direct_are = λ s x at. direct_law (node_expr e) (dependency_meant language) (λ k. k < length e.nodes) (length (names_defined read)) read a.direct.keys.items
-      a.direct.items.items s x g.direct at;
+  prompts_are = λ s x at. own_law prompt_of (prompt_meant language) read s x g.prompts at;
+  defaults_are = λ s x at. own_law default_of (default_meant language) read s x g.defaults at;
+  ranges_are = λ s x at. own_law range_of (range_meant language) read s x g.ranges at;
+  selectors_are = λ s x at. reverse_dependency_law _ (aim_of Select) read s x g.selectors at;
+  impliers_are = λ s x at. reverse_dependency_law _ (aim_of Imply) read s x g.impliers at;
+  direct_are = λ s x at. direct_law (dependency_meant language) read s x g.direct at;
   prompts_fit = g.prompts.fit;
   defaults_fit = g.defaults.fit;
   ranges_fit = λ i d l. (g.ranges.fit i d l).0;
@@ -211,66 +171,56 @@ open_still : (w : GroupHead) (x : List ℕ) → w ≡ of_head (config x) → sid
 open_still w x e c = let d : inside ≡ closing = sym (ap side_of e) ∙ c in cc
 
 -- group by group
-module _ (language : Language) (n : SymbolTable) (read : List Group) (h : HasNames n.arena n.symbols.items n.numbers.items (names_defined read)) (texts : List (List ℕ))
-    (lines : List CodeLine) (groups : List CodeGroup) (conditioned : List GroupConditions) (conditions : List ℕ)
-    (shown : RepresentsGroups n.arena (names_defined read) texts lines (length lines) (reverse groups) read)
-    (walked : RepresentsAllConditions language n.arena texts conditions (length conditions) (reverse conditioned) read) where
-  gathered_definition : (i s : ℕ) (old new : Attributes) → i < length groups → i < length conditioned → (group_at groups i).head ≡ codes.Config s
-      → All (LineNodesExist n.arena) (slice_range lines (group_at groups i).attributes (attributes_end groups lines i))
-      → AreGathered language n.arena (names_defined read) (groups_in_context (read_before i read)) old
-      → HasDefinition n s old new (slice_range lines (group_at groups i).attributes (attributes_end groups lines i)) (own_conditions conditioned conditions i)
-      (conditions_at conditioned i).dependency
-      → AreGathered language n.arena (names_defined read) (groups_in_context (read_before (i + 1) read)) new
-  gathered_definition i s old new l m w held g more =
-      let t = shown_at n.arena (names_defined read) texts lines groups read shown i l in
-      let q = conditioned_at _ n.arena texts conditions conditioned read walked i m in
-      let prior : List Group = read_before i read in
-      let both : q.group ∷ prior ≡ t.group ∷ prior = sym q.now ∙ t.now in
-      let same : q.group ≡ t.group = cc in
-      let p : GroupInContext = group_in_context (open_blocks 0 prior) t.group in
-      let ls : List CodeLine = slice_range lines (group_at groups i).attributes (attributes_end groups lines i) in
-      let cs : List ℕ = own_conditions conditioned conditions i in
-      let c = subst (λ k. RepresentsConditions language n.arena texts cs (conditions_at conditioned i) (group_in_context (open_blocks 0 prior) k)) same q.shown in
-      let what = subst (λ v. RepresentsHead n.arena (names_defined read) texts v t.group.head) w t.shown.head in
-      let name : defined_name t.group ≡ Some what.0 = ap (from_head name_of_head) what.2 in
-      let number : number_of (names_defined read) what.0 ≡ s = ap (λ o. unwrap_or o 0)
-      (number_is (names_defined read) what.0 s (Differ-once (filter_map defined_name read)) what.1) in
-      let conds : map (node_expr n.arena) cs ≡ map (condition_at language p) (map (line_in n.arena) ls) = c.own_are ∙ ap (map (condition_at language p)) t.shown.attributes in
-      let many : length cs ≡ length ls = sym (length-map cs (node_expr n.arena)) ∙ ap length conds ∙ length-map (map (line_in n.arena) ls) (condition_at language p)
-      ∙ length-map ls (line_in n.arena) in
-      let stands : Represents n.arena (conditions_at conditioned i).dependency (dependency_meant language p) = elim c.dependency_is
-      [ inl closes ↦ absurd (open_still t.group.head what.0 what.2 closes) | inr d ↦ d ] in
-      subst (λ ps. AreGathered language n.arena (names_defined read) ps new) (sym (placed_more read i t.group t.now))
-      (definition_step _ n (names_defined read) h (groups_in_context prior) p what.0 s ls cs name number (get_below (names_defined read) s what.0 what.1) many
-      held c.held t.shown.attributes conds (conditions_at conditioned i).dependency old new g more stands)
+module _ (language : Language) (l : Listing) (groups : List GroupConditions) (conditions : List ℕ) (read : List Group)
+    (w : IsWalkOf language l groups conditions read) (i : ℕ) (h : i < length l.groups.items) where
+  abbrev both : IsBoth language l l.names.arena groups conditions read w.shows w.shown i
+  both = both_at language l l.names.arena groups conditions read w.shows w.shown i h
 
-  gathered_other : (i : ℕ) (a : Attributes) → i < length groups → ((s : ℕ) → (group_at groups i).head ≡ codes.Config s → ⊥)
-      → AreGathered language n.arena (names_defined read) (groups_in_context (read_before i read)) a
-      → AreGathered language n.arena (names_defined read) (groups_in_context (read_before (i + 1) read)) a
-  gathered_other i a l w g =
-      let t = shown_at n.arena (names_defined read) texts lines groups read shown i l in
-      let prior : List Group = read_before i read in
-      let p : GroupInContext = group_in_context (open_blocks 0 prior) t.group in
-      subst (λ ps. AreGathered language n.arena (names_defined read) ps a) (sym (placed_more read i t.group t.now))
-      (nothing_more _ n.arena (names_defined read) (groups_in_context prior) p a
-      (nameless n.arena (names_defined read) texts (group_at groups i).head t.group.head t.shown.head w) g)
+  abbrev place : GroupInContext
+  place = group_in_context (open_blocks 0 (read_before i read)) both.group
+
+  abbrev AreFrom : List GroupInContext → Attributes → Type 0
+  AreFrom places a = AreGathered language l.names.arena (names_defined read) places a
+
+  gathered_definition : (s : ℕ) (old new : Attributes) → (group_at l.groups.items i).head ≡ codes.Config s
+      → All (LineNodesExist l.names.arena) (own_lines l i) → AreFrom (groups_in_context (read_before i read)) old
+      → HasDefinition l.names s old new (own_lines l i) (own_conditions groups conditions i) (conditions_at groups i).dependency
+      → AreFrom (groups_in_context (read_before (i + 1) read)) new
+  unfolding RepresentsListing
+  gathered_definition s old new head held g more =
+      let c = both.conditioned in
+      let what = subst (λ v. RepresentsHead l.names.arena (names_defined read) l.texts.items v both.group.head) head both.shown.head in
+      let name : defined_name both.group ≡ Some what.0 = ap (from_head name_of_head) what.2 in
+      let number : number_of (names_defined read) what.0 ≡ s = ap (λ o. unwrap_or o 0)
+      (place_is (names_defined read) what.0 s (Differ-once (filter_map defined_name read)) what.1) in
+      let conds : map (node_expr l.names.arena) (own_conditions groups conditions i) ≡ map (condition_at language place) (map (line_in l.names.arena) (own_lines l i)) =
+      c.own_are ∙ ap (map (condition_at language place)) both.shown.attributes in
+      let stands : Represents l.names.arena (conditions_at groups i).dependency (dependency_meant language place) = elim c.dependency_is
+      [ inl closes ↦ absurd (open_still both.group.head what.0 what.2 closes) | inr d ↦ d ] in
+      subst (λ ps. AreFrom ps new) (sym (placed_more read i both.group both.now))
+      (definition_step _ l.names (names_defined read) w.shows.names (groups_in_context (read_before i read)) place what.0 s (own_lines l i)
+      (own_conditions groups conditions i) name number (get_below (names_defined read) s what.0 what.1)
+      (as_long language l l.names.arena groups conditions read w.shows w.shown i h)
+      held c.held both.shown.attributes conds (conditions_at groups i).dependency old new g more stands)
+
+  gathered_other : (a : Attributes) → ((s : ℕ) → (group_at l.groups.items i).head ≡ codes.Config s → ⊥) → AreFrom (groups_in_context (read_before i read)) a
+      → AreFrom (groups_in_context (read_before (i + 1) read)) a
+  gathered_other a other g =
+      subst (λ ps. AreFrom ps a) (sym (placed_more read i both.group both.now))
+      (nothing_more _ l.names.arena (names_defined read) (groups_in_context (read_before i read)) place a
+      (nameless l.names.arena (names_defined read) l.texts.items (group_at l.groups.items i).head both.group.head both.shown.head other) g)
 
   -- the attributes gathered from the first `i` groups, with those of the next group, are those of the first `i + 1`
-  pub gathered_more : (i : ℕ) (old new : Attributes) → i < length groups → i < length conditioned
-      → All (LineNodesExist n.arena) (slice_range lines (group_at groups i).attributes (attributes_end groups lines i))
-      → HasStatement (group_at groups i).head n old new (slice_range lines (group_at groups i).attributes (attributes_end groups lines i))
-      (own_conditions conditioned conditions i) (conditions_at conditioned i).dependency
-      → AreGathered language n.arena (names_defined read) (groups_in_context (read_before i read)) old
-      → AreGathered language n.arena (names_defined read) (groups_in_context (read_before (i + 1) read)) new
-  gathered_more i old new l m held more g = by (group_at groups i).head refl more
+  pub gathered_more : (old new : Attributes) → All (LineNodesExist l.names.arena) (own_lines l i)
+      → HasStatement (group_at l.groups.items i).head l.names old new (own_lines l i) (own_conditions groups conditions i) (conditions_at groups i).dependency
+      → AreFrom (groups_in_context (read_before i read)) old → AreFrom (groups_in_context (read_before (i + 1) read)) new
+  gathered_more old new held more g = by (group_at l.groups.items i).head refl more
     where
-      by : (w : CodeHead) → (group_at groups i).head ≡ w
-          → HasStatement w n old new (slice_range lines (group_at groups i).attributes (attributes_end groups lines i)) (own_conditions conditioned conditions i)
-          (conditions_at conditioned i).dependency
-          → AreGathered language n.arena (names_defined read) (groups_in_context (read_before (i + 1) read)) new
-      by (codes.Config s) e x = gathered_definition i s old new l m e held g x
-      by w e x = subst (AreGathered language n.arena (names_defined read) (groups_in_context (read_before (i + 1) read))) (sym x)
-          (gathered_other i old l (λ s a. cc) g)
+      by : (v : CodeHead) → (group_at l.groups.items i).head ≡ v
+          → HasStatement v l.names old new (own_lines l i) (own_conditions groups conditions i) (conditions_at groups i).dependency
+          → AreFrom (groups_in_context (read_before (i + 1) read)) new
+      by (codes.Config s) e x = gathered_definition s old new e held g x
+      by v e x = subst (AreFrom (groups_in_context (read_before (i + 1) read))) (sym x) (gathered_other old (λ s a. cc) g)
 
 pub gathered_none : (language : Language) (e : Exprs) (names : List (List ℕ)) (read : List Group) (a : Attributes) → AreGathered language e names [] a
     → AreGathered language e names (groups_in_context (read_before 0 read)) a

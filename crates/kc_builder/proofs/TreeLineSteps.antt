@@ -1,11 +1,10 @@
 -- The lines of a tree are those of the reading that gives it.
-use Rattle.kc_builder.proofs.Common.{◌≡◌, ℕ, ◌<◌, ◌^◌, List, length, ap, sym, subst, Exprs, Represents, Group, Files, Listing, TreeModel}
+use Rattle.kc_builder.proofs.Common.{◌≡◌, ℕ, ◌<◌, ◌^◌, List, length, ap, sym, subst, Exprs, Represents, Group, Files, Listing, TreeModel, RepresentsListing}
 use Rattle.kc_value.specs.declared.tri.Tri.TheVariants.{N}
 use Rattle.kc_expr.specs.Expr.{alone, constant}
 use Rattle.kc_tree_model.specs.TreeReading.{Outcome, reading}
 use Rattle.kc_tree_model.specs.TreesOfFiles.{origin_of, IsTreeOfFiles}
 use Rattle.kc_tree_model.proofs.ReadingLaws.ReadingCompleteness.{whole_read}
-use Rattle.kc_parser.specs.between.ListingView.{RepresentsListing}
 use Rattle.kc_builder.specs.between.TreeLines.{HasLines, IsTreeWithLines}
 use Rattle.kc_builder.specs.declared.tree_lines.TreeLines.{TreeLines}
 

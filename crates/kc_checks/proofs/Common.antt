@@ -13,18 +13,25 @@ pub use Rattle.std.specs.Prelude.{All, bytes_eq, filter_map, flat_map, is_none, 
 pub use Rattle.kc_checks.specs.between.FaultSearch.{AreSmall, choices_before}
 pub use Rattle.kc_checks.specs.between.Summaries.{attributes_end, choices_at, choices_opened_after, enclosing_choice, first_in_definitions, first_is, first_summary, group_at, innermost_choice, is_choice_code, member_in, member_key, member_keys_at, members_at, no_group, number_at, open_choices}
 pub use Rattle.kc_checks.specs.between.Summaries.{own_choice, read_before, summary_in, symbol_summaries, type_in}
+unfoldable pub use Rattle.kc_checks.specs.between.Summaries.{IsSummary}
 pub use Rattle.kc_checks.specs.checker.Kinds.{choice_around, definition_kind}
 pub use Rattle.kc_checks.specs.checker.Marks.{AreMarked, WereMarked}
 pub use Rattle.kc_checks.specs.checker.MissingPaths.{is_absent, paths_in, with_absent, with_all, with_path}
 pub use Rattle.kc_checks.specs.checker.SummarySteps.{nothing_known}
+unfoldable pub use Rattle.kc_checks.specs.checker.SummarySteps.{IsSummedTo}
 pub use Rattle.kc_checks.specs.declared.summary.Summary.{Summary}
 pub use Rattle.kc_checks.specs.declared.summary.SymbolSummary.{SymbolSummary}
+pub use Rattle.kc_expr.specs.Expr.{modules as modules_name}
 pub use Rattle.kc_expr.specs.Lookup.{index_of_name}
 pub use Rattle.kc_expr.specs.between.Arena.{Exprs}
 pub use Rattle.kc_parser.proofs.NameLemmas.{as_many_names}
 pub use Rattle.kc_parser.specs.between.ListingView.{RepresentsGroups, RepresentsHead, line_in}
+unfoldable pub use Rattle.kc_parser.specs.between.ListingView.{RepresentsListing}
 pub use Rattle.kc_parser.specs.between.MemoryFaults.{no_memory}
 pub use Rattle.kc_parser.specs.between.SymbolTable.{text_of_name}
+pub use Rattle.kc_parser.specs.declared.listing.Group.{Group as CodeGroup}
+pub use Rattle.kc_parser.specs.declared.listing.GroupHead.{GroupHead as CodeHead}
+pub use Rattle.kc_parser.specs.declared.listing.Line.{Line as CodeLine}
 pub use Rattle.kc_parser.specs.declared.listing.Listing.{Listing}
 pub use Rattle.kc_statements.specs.between.StatementViews.{attribute_in, default_in}
 pub use Rattle.kc_tokens.specs.declared.language.Language.{Language}
@@ -32,7 +39,7 @@ pub use Rattle.kc_tree_model.proofs.Consistency.Lists.{Differ, Differ-once, Has,
 pub use Rattle.kc_tree_model.proofs.Consistency.Places.{group-placed}
 pub use Rattle.kc_tree_model.proofs.Consistency.Units.{has_mapped}
 pub use Rattle.kc_tree_model.proofs.ReadingLaws.TreesOfRelation.{wanted_related}
-pub use Rattle.kc_tree_model.specs.Blocks.{Group, GroupHead, Line, defined_name, from_head, of_head, open_blocks, opens_choice, sourced_path}
+pub use Rattle.kc_tree_model.specs.Blocks.{Group, Group as ModelGroup, GroupHead, Line, defined_name, from_head, of_head, open_blocks, opens_choice, sourced_path}
 pub use Rattle.kc_tree_model.specs.Conditions.{GroupInContext, attribute_values, group_in_context, groups_in_context}
 pub use Rattle.kc_tree_model.specs.Contents.{Contents, bare_name, begins_symbol, choice_number, choice_of_symbol, contents_of, defines, definitions_of, is_first_definition, is_member_of, member_names, type_given}
 pub use Rattle.kc_tree_model.specs.Limits.{names_defined, without_repeats}

@@ -1,18 +1,16 @@
 -- The first fault of a definition, of an attribute, and of lines.
 use Rattle.kc_checks.proofs.Common.{◌≡◌, ℕ, suc, ◌+◌, ◌<◌, ◌≤◌, Bool, true, false, cond, ◌&&◌, ◌||◌, List, [], ◌∷◌, ◌++◌, length, get_or, drop, map, Option, Some, None, refl, ap, sym, ◌∙◌, arith, not, slice_get, is_some, is_none, bytes_eq, option_map, option_or, Language, Kind, Exprs, TreeFault}
 use Rattle.kc_checks.proofs.Common.{default_of, prompt_of, Group, Line, GroupInContext, Contents, choice_of_symbol, is_first_definition, type_given, is_again_in_choice, is_no_member_kind, may_follow_member, definition_faults, attribute_faults, choice_faults, faults_at, faults_of_lines, is_no_member}
-use Rattle.kc_checks.proofs.Common.{attribute_in, line_in, definition_kind, SymbolSummary}
+use Rattle.kc_checks.proofs.Common.{attribute_in, line_in, definition_kind, SymbolSummary, modules_name, CodeLine}
 use Rattle.std.specs.List.{list_all}
 use Rattle.std.proofs.Math.Seq.{drop-cons}
 use Rattle.std.proofs.lemmas.List.{drop_all}
 use Rattle.kc_tokens.specs.declared.language.Language.TheVariants.{Strict, Linux}
-use Rattle.kc_expr.specs.Expr.{modules as modules_name}
 use Rattle.kc_tree_model.specs.declared.fault.TreeKind.{TreeKind}
 use Rattle.kc_tree_model.specs.Statements.{Attribute}
 use Rattle.kc_tree_model.specs.TreeFaults.{is_added_attribute, when, is_wrong_reverse_dependency}
 use Rattle.kc_statements.specs.declared.statement.Attribute.{Attribute as CodeAttribute}
 use Rattle.kc_statements.specs.declared.statement.Attribute.TheVariants as attributes
-use Rattle.kc_parser.specs.declared.listing.Line.{Line as CodeLine}
 use Rattle.kc_checks.specs.checker.Kinds.{is_added_code, is_added_line, may_follow_code, typed_kind, choice_kind}
 use Rattle.kc_checks.proofs.SymbolSummaries.{first_of_both}
 

@@ -1,24 +1,18 @@
 -- The faults of a group, from the summary of its symbol.
-use Rattle.std.proofs.Common.{◌==◌}
 use Rattle.std.specs.Prelude.{IfSome}
 use Rattle.kc_checks.proofs.Common.{◌≡◌, inl, ◌&&◌, ℕ, zero, suc, ◌+◌, ◌-◌, ◌<◌, ◌≤◌, Bool, true, false, cond, List, [], ◌∷◌, length, get_or, map, replicate, reverse, Option, Some, None, refl, ap, sym, subst, ◌∙◌, arith, filter, slice_get, slice_index, slice_range, filter_map, flat_map, is_some}
 use Rattle.kc_checks.proofs.Common.{nat_lt, option_and_then, option_map, bytes_eq, All, list_any, option_or, flat_map-append, length-map, get_or_from_slice_get, Language, Exprs, index_of_name, TreeFault, config, choice, Group, GroupHead, of_head, defined_name, open_blocks, opens_choice}
 use Rattle.kc_checks.proofs.Common.{GroupInContext, group_in_context, groups_in_context, Contents, contents_of, choice_number, defines, definitions_of, is_first_definition, member_names, names_defined, is_again_in_choice, is_no_member_kind, may_follow_member, attribute_faults, choice_faults}
 use Rattle.kc_checks.proofs.Common.{definition_faults, faults_at, faults_of_lines, kind_of, Has, Differ-once, get_below, has-at, has-filter, map-get, number-get, text_of_name, Listing, RepresentsGroups, RepresentsHead, line_in, choice_around, definition_kind, AreMarked, WereMarked, AreSmall}
-use Rattle.kc_checks.proofs.Common.{choices_before, summary_in, attributes_end, enclosing_choice, first_is, first_in_definitions, group_at, member_keys_at, members_at, number_at, read_before, SymbolSummary}
+use Rattle.kc_checks.proofs.Common.{choices_before, summary_in, attributes_end, enclosing_choice, first_is, first_in_definitions, group_at, member_keys_at, members_at, number_at, read_before, SymbolSummary, ◌==◌, modules_name, CodeGroup, CodeLine, CodeHead, RepresentsListing}
 use Rattle.std.proofs.lemmas.Bool.{ltb-true}
 use Rattle.std.proofs.lemmas.List.{get_or_past}
-use Rattle.kc_expr.specs.Expr.{modules as modules_name}
 use Rattle.kc_tree_model.specs.Blocks.{file_end}
 use Rattle.kc_tree_model.specs.Contents.{choice_of_first_definition}
 use Rattle.kc_tree_model.specs.TreeFaults.{is_same_choice, faults_of_group, faults_of_head, tree_faults}
 use Rattle.kc_tree_model.proofs.Consistency.Lists.{at-has, get-map}
-use Rattle.kc_parser.specs.declared.listing.Group.{Group as CodeGroup}
-use Rattle.kc_parser.specs.declared.listing.Line.{Line as CodeLine}
-use Rattle.kc_parser.specs.declared.listing.GroupHead.{GroupHead as CodeHead}
 use Rattle.kc_parser.specs.declared.listing.GroupHead.TheVariants as codes
 use Rattle.kc_parser.specs.between.SymbolTable.{HasNames}
-use Rattle.kc_parser.specs.between.ListingView.{RepresentsListing}
 use Rattle.kc_tree.specs.between.GroupedItems.{items_at, IsGrouped}
 use Rattle.kc_tree_model.proofs.Consistency.Units.{first_of_choice}
 use Rattle.kc_checks.specs.between.FaultSearch.{AreFaultless, AreMembersByChoice}
@@ -27,7 +21,7 @@ use Rattle.kc_checks.proofs.SymbolSummaries.{first_of_both, first_number_is}
 use Rattle.kc_checks.proofs.GroupPlaces.{all_before, are_numbers, count_is, none_before, numbers_before, place_numbered, placed_before, placed_count, shown_at}
 use Rattle.kc_checks.proofs.FaultKinds.{definition_is, fault_of, first_mapped}
 use Rattle.kc_checks.proofs.Rounds.{begins_is, number_counts, enclosing_numbered}
-use Rattle.kc_checks.proofs.MemberMarks.{are_marked, keys_small, member_defined}
+use Rattle.kc_checks.proofs.MemberMarks.{are_marked, enclosing_below, keys_small, member_defined}
 use Rattle.kc_checks.proofs.MemberLaw.{members_are, same_choice}
 use Rattle.kc_checks.proofs.Symbols.{choice_is, place_is, statement_by}
 
@@ -323,7 +317,8 @@ pub keys_fit : (read : List Group) (keys : List ℕ) (choices : ℕ)
     → keys ≡ flat_map (member_keys_at (enclosing_choice (contents_of read)) (contents_of read)) (groups_in_context read)
     → choices ≡ length (contents_of read).choices → (i : ℕ) → i < length keys → slice_index keys i < choices
 keys_fit read keys choices known n i h =
-    let small = subst (All (λ k. k < length (contents_of read).choices)) (sym known) (keys_small (contents_of read) (groups_in_context read)) i 0 h in
+    let all = keys_small (contents_of read) (enclosing_choice (contents_of read)) (λ p j e. enclosing_below (contents_of read) p.choice j e) (groups_in_context read) in
+    let small = subst (All (λ k. k < length (contents_of read).choices)) (sym known) all i 0 h in
     omega arith
 
 -- what is grouped by the keys of members are the members of each choice

@@ -8,6 +8,7 @@ pub mod MissingPathLists
 pub mod MissingPaths
 pub mod ReadSteps
 pub mod Rounds
+pub mod StoredParts
 pub mod SummarySteps
 pub mod SymbolSummaries
 pub mod Symbols

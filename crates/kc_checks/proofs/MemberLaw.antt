@@ -1,7 +1,6 @@
 -- The members of a choice are the items under its number.
-use Rattle.std.proofs.Common.{◌==◌}
 use Rattle.kc_checks.proofs.Common.{◌≡◌, ℕ, Bool, true, false, ◌&&◌, cond, List, [], ◌∷◌, ◌++◌, filter, Option, Some, None, refl, ap, sym, ◌∙◌, slice_get, filter_map, flat_map, option_to_list, option_and_then, cons_option, eqb-true, eq-eqb, index_of_name, defined_name, GroupInContext, Contents}
-use Rattle.kc_checks.proofs.Common.{begins_symbol, choice_number, is_member_of, member_names, number-get, enclosing_choice, own_choice, member_in, members_at, member_key, member_keys_at}
+use Rattle.kc_checks.proofs.Common.{begins_symbol, choice_number, is_member_of, member_names, number-get, enclosing_choice, own_choice, member_in, members_at, member_key, member_keys_at, ◌==◌}
 use Rattle.kc_tree_model.specs.Contents.{own_member_names}
 use Rattle.kc_tree.specs.between.GroupedItems.{items_of}
 use Rattle.kc_tree.proofs.GroupingLaw.{grouped_is}
@@ -20,10 +19,6 @@ some_of true f x rest = refl
 some_of false f x rest = refl
 
 module _ (c : Contents) (k g : ℕ) (number : choice_number c g ≡ Some k) where
-  -- the symbol of a name
-  own : Option (List ℕ) → List ℕ
-  own x = option_to_list (option_and_then (λ n. index_of_name n c.names) x)
-
   away : (n : ℕ) → choice_number c n ≡ None → (n == g) ≡ false
   away n e = by_same (n == g) refl
     where

@@ -1,8 +1,7 @@
 -- The members of a choice, and their marks.
-use Rattle.std.proofs.Common.{◌==◌}
 use Rattle.kc_checks.proofs.Common.{◌≡◌, ℕ, ◌<◌, Bool, true, false, List, length, get_or, Option, Some, None, refl, ap, sym, subst, ◌∙◌, arith, filter, All, slice_get, slice_index, filter_map, flat_map, is_some, option_and_then, list_any, eq-eqb, index_of_name, Group, defined_name, GroupInContext}
-use Rattle.kc_checks.proofs.Common.{groups_in_context, Contents, contents_of, choice_number, is_member_of, member_names, names_defined, Has, filter_map-has, get_below, has-at, has-filter, has-place, number-get, place-get, has_mapped, AreMarked, WereMarked, enclosing_choice, member_in, member_key}
-use Rattle.kc_checks.proofs.Common.{member_keys_at, members_at}
+use Rattle.kc_checks.proofs.Common.{groups_in_context, Contents, contents_of, choice_number, is_member_of, member_names, names_defined, Has, filter_map-has, get_below, has-at, has-filter, has-place, number-get, place-get, has_mapped, AreMarked, WereMarked, member_in, member_key, member_keys_at}
+use Rattle.kc_checks.proofs.Common.{members_at, ◌==◌}
 use Rattle.std.proofs.lemmas.Option.{slice_get-get_or}
 use Rattle.kc_tree_model.proofs.Consistency.Lists.{any-has, has-any, has-filter_map, has_flat_map}
 use Rattle.kc_checks.proofs.Symbols.{named_there}
@@ -18,25 +17,21 @@ members_small names members =
     (λ s h. let r = has-filter_map (λ x. index_of_name x names) members s h in get_below names s r.0 (place-get r.0 names s r.2))
 
 -- the choice of a member is there
-key_in : (c : Contents) (p : GroupInContext) (o : Option ℕ) (x : Option (List ℕ)) (s : ℕ) → enclosing_choice c p ≡ o → Has s (member_in c o x)
-    → (j : ℕ) × (enclosing_choice c p ≡ Some j)
-key_in c p None x s e h = absurd h
-key_in c p (Some j) x s e h = (j, e)
+key_in : (c : Contents) (around : Option ℕ) (o : Option ℕ) (x : Option (List ℕ)) (s : ℕ) → around ≡ o → Has s (member_in c o x) → (j : ℕ) × (around ≡ Some j)
+key_in c around None x s e h = absurd h
+key_in c around (Some j) x s e h = (j, e)
 
-no_round : (c : Contents) (j : ℕ) → option_and_then (choice_number c) None ≡ Some j → ⊥
-no_round c j h = cc
+pub enclosing_below : (c : Contents) (o : Option ℕ) (j : ℕ) → option_and_then (choice_number c) o ≡ Some j → j < length c.choices
+enclosing_below c None j h = cc
+enclosing_below c (Some n) j h = get_below c.choices j n (number-get n c.choices j h)
 
-enclosing_below : (c : Contents) (p : GroupInContext) (j : ℕ) (o : Option ℕ) → p.choice ≡ o → option_and_then (choice_number c) o ≡ Some j
-    → j < length c.choices
-enclosing_below c p j None e h = absurd (no_round c j h)
-enclosing_below c p j (Some n) e h = get_below c.choices j n (number-get n c.choices j h)
-
-pub keys_small : (c : Contents) (ps : List GroupInContext) → All (λ k. k < length c.choices) (flat_map (member_keys_at (enclosing_choice c) c) ps)
-keys_small c ps = all_has (λ k. k < length c.choices) (flat_map (member_keys_at (enclosing_choice c) c) ps) (λ k h.
-    let r = has_flat_map (member_keys_at (enclosing_choice c) c) ps k h in
-    let m = has_mapped (λ _. member_key (enclosing_choice c) r.0) (members_at (enclosing_choice c) c r.0) k r.2 in
-    let j = key_in c r.0 (enclosing_choice c r.0) (defined_name r.0.group) m.0 refl m.1 in
-    let below = enclosing_below c r.0 j.0 r.0.choice refl j.1 in
+pub keys_small : (c : Contents) (around : GroupInContext → Option ℕ) → ((p : GroupInContext) (j : ℕ) → around p ≡ Some j → j < length c.choices)
+    → (ps : List GroupInContext) → All (λ k. k < length c.choices) (flat_map (member_keys_at around c) ps)
+keys_small c around small ps = all_has (λ k. k < length c.choices) (flat_map (member_keys_at around c) ps) (λ k h.
+    let r = has_flat_map (member_keys_at around c) ps k h in
+    let m = has_mapped (λ _. member_key around r.0) (members_at around c r.0) k r.2 in
+    let j = key_in c (around r.0) (around r.0) (defined_name r.0.group) m.0 refl m.1 in
+    let below = small r.0 j.0 j.1 in
     let is : j.0 ≡ k = sym (ap (λ o. elim o as (λ _. ℕ) [ None ↦ 0 | Some i ↦ i ]) j.1) ∙ m.2 in
     omega arith)
 

@@ -1,14 +1,9 @@
 -- The absent paths of what was read.
 use Rattle.kc_checks.proofs.Common.{◌≡◌, ℕ, List, [], ◌∷◌, ◌++◌, length, refl, ap, sym, ◌∙◌, arith, drop, ◌≤◌, Option, Some, None, reverse, filter_map, drop-length, Exprs, Files, Group, GroupHead, from_head, sourced_path, without_repeats, names_defined, Listing, RepresentsHead, RepresentsGroups}
-use Rattle.kc_checks.proofs.Common.{is_absent, with_absent, with_all}
-use Rattle.std.specs.Prelude.{filter}
+use Rattle.kc_checks.proofs.Common.{is_absent, with_absent, with_all, filter, CodeGroup, CodeLine, CodeHead, RepresentsListing}
 use Rattle.std.proofs.lemmas.List.{reverse-reverse, reverse-append}
 use Rattle.kc_tree_model.specs.Statements.{path_of_head}
-use Rattle.kc_parser.specs.declared.listing.Group.{Group as CodeGroup}
-use Rattle.kc_parser.specs.declared.listing.Line.{Line as CodeLine}
-use Rattle.kc_parser.specs.declared.listing.GroupHead.{GroupHead as CodeHead}
 use Rattle.kc_parser.specs.declared.listing.GroupHead.TheVariants as codes
-use Rattle.kc_parser.specs.between.ListingView.{RepresentsListing}
 use Rattle.kc_checks.specs.checker.MissingPaths.{path_in}
 use Rattle.kc_checks.proofs.MissingPaths.{once_kept}
 

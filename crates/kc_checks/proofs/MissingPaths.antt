@@ -1,6 +1,5 @@
 -- Lists of paths without repeats.
-use Rattle.kc_checks.proofs.Common.{◌≡◌, ℕ, Bool, true, false, List, [], ◌∷◌, ◌++◌, ◌||◌, map, refl, ap, sym, ◌∙◌, cond, bytes_eq, list_any, map-append, without_repeats, with_path}
-use Rattle.std.specs.Prelude.{filter}
+use Rattle.kc_checks.proofs.Common.{◌≡◌, ℕ, Bool, true, false, List, [], ◌∷◌, ◌++◌, ◌||◌, map, refl, ap, sym, ◌∙◌, cond, bytes_eq, list_any, map-append, without_repeats, with_path, filter}
 use Rattle.std.proofs.lemmas.Slice.Eq.{bytes_eq-Decides}
 use Rattle.std.proofs.lemmas.Bool.{false_from_ne_true}
 use Rattle.kc_tree_model.specs.Limits.{is_in_list}

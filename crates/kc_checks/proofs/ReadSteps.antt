@@ -1,12 +1,10 @@
 -- The faults and the absent paths of files.
 use Rattle.std.proofs.Common.{◌≢◌}
-use Rattle.std.specs.Prelude.{filter}
-use Rattle.kc_checks.proofs.Common.{◌≡◌, ◌⊎◌, inl, inr, ℕ, List, [], ◌∷◌, ◌++◌, refl, sym, ◌∙◌, Option, Some, None, Err, slice_get, filter_map, Language, TreeFault, Files, Group, sourced_path, without_repeats, wanted_related, Listing, no_memory, is_absent}
+use Rattle.kc_checks.proofs.Common.{◌≡◌, ◌⊎◌, inl, inr, ℕ, List, [], ◌∷◌, ◌++◌, refl, sym, ◌∙◌, Option, Some, None, Err, slice_get, filter_map, Language, TreeFault, Files, Group, sourced_path, without_repeats, wanted_related, Listing, no_memory, is_absent, filter, RepresentsListing}
 use Rattle.kc_tree_model.specs.TreeReading.{Outcome, reading, lenient_reading, wanted_by, paths_or_fault, files_wanted}
 use Rattle.kc_tree_model.specs.TreeFaults.{tree_faults, first_tree_fault, first_fault_after}
 use Rattle.kc_tree_model.specs.TreesOfFiles.{IsReportedFault, AreWanted}
 use Rattle.kc_tree_model.proofs.ReadingLaws.TreesOfRelation.{reported_related}
-use Rattle.kc_parser.specs.between.ListingView.{RepresentsListing}
 
 after_some : (language : Language) (o : Outcome) (f : TreeFault) → o.fault ≡ Some f → first_fault_after language o ≡ Some f
 after_some language o f e = rw e refl

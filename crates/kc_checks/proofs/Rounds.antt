@@ -1,7 +1,7 @@
 -- The enclosing choice of each group.
 use Rattle.kc_checks.proofs.Common.{◌≡◌, inl, inr, ℕ, suc, ◌+◌, ◌-◌, ◌<◌, Bool, true, false, cond, List, [], ◌∷◌, ◌++◌, length, drop, map, reverse, Option, Some, refl, ap, sym, subst, ◌∙◌, arith, append-nil, length-append, filter, option_and_then, option_map, ◌==◌, eq-eqb, eqb-true, map-append}
 use Rattle.kc_checks.proofs.Common.{filter-append, Exprs, choice, Group, GroupHead, of_head, open_blocks, opens_choice, GroupInContext, group_in_context, groups_in_context, Contents, contents_of, choice_number, Has, has-filter, group-placed, has_mapped, RepresentsHead, RepresentsGroups, read_before}
-use Rattle.kc_checks.proofs.Common.{group_at, innermost_choice, choices_opened_after, is_choice_code, open_choices}
+use Rattle.kc_checks.proofs.Common.{group_at, innermost_choice, choices_opened_after, is_choice_code, open_choices, CodeHead, CodeGroup, CodeLine}
 use Rattle.kc_tree_model.specs.Statements.{menu, source}
 use Rattle.kc_tree_model.specs.Blocks.{side_of, opening, closing, inside}
 use Rattle.kc_tree_model.specs.Conditions.{choice_among}
@@ -10,10 +10,7 @@ use Rattle.kc_tree_model.proofs.NestedTrees.OpenBlocks.{open_inside, popped, pus
 use Rattle.kc_tree_model.proofs.Consistency.Lists.{filter-has, has-number, number_of_more}
 use Rattle.kc_tree_model.proofs.Consistency.Places.{choice_read}
 use Rattle.kc_tree_model.proofs.Consistency.Units.{mapped_has}
-use Rattle.kc_parser.specs.declared.listing.GroupHead.{GroupHead as CodeHead}
 use Rattle.kc_parser.specs.declared.listing.GroupHead.TheVariants as codes
-use Rattle.kc_parser.specs.declared.listing.Group.{Group as CodeGroup}
-use Rattle.kc_parser.specs.declared.listing.Line.{Line as CodeLine}
 use Rattle.kc_checks.proofs.GroupPlaces.{AreNumbers, all_before, none_before, placed_before, shown_at}
 
 -- the numbers of the groups that open choices, in reading order

@@ -3,12 +3,9 @@ use Rattle.kc_checks.proofs.Common.{◌≡◌, inl, ℕ, ◌+◌, ◌-◌, ◌<�
 use Rattle.kc_checks.proofs.Common.{option_map, option_to_list, ◌==◌, cons_option, eq-eqb, flat_map-append, map-append, filter-append, get_or_from_slice_get, Kind, Exprs, index_of_name, name_of_head, type_of, Group, from_head, defined_name, open_blocks, opens_choice, GroupInContext}
 use Rattle.kc_checks.proofs.Common.{group_in_context, groups_in_context, attribute_values, Contents, begins_symbol, contents_of, choice_number, defines, is_first_definition, names_defined, Has, Differ-once, has-filter, map-get, text_same, group-placed, RepresentsGroups, RepresentsHead}
 use Rattle.kc_checks.proofs.Common.{attributes_end, choices_opened_after, enclosing_choice, first_summary, group_at, innermost_choice, is_choice_code, member_in, member_key, member_keys_at, members_at, number_at, open_choices, own_choice, read_before, summary_in, symbol_summaries, type_in}
-use Rattle.kc_checks.proofs.Common.{nothing_known, Summary, SymbolSummary}
+use Rattle.kc_checks.proofs.Common.{nothing_known, Summary, SymbolSummary, CodeGroup, CodeLine, CodeHead}
 use Rattle.kc_tree_model.specs.declared.ids.Unit.{Unit as TreeUnit}
 use Rattle.kc_tree_model.specs.declared.ids.Unit.TheVariants.{Symbol as of_symbol, Choice as of_choice}
-use Rattle.kc_parser.specs.declared.listing.Group.{Group as CodeGroup}
-use Rattle.kc_parser.specs.declared.listing.Line.{Line as CodeLine}
-use Rattle.kc_parser.specs.declared.listing.GroupHead.{GroupHead as CodeHead}
 use Rattle.kc_parser.specs.declared.listing.GroupHead.TheVariants as codes
 use Rattle.kc_tree.specs.declared.items_with_keys.ItemsWithKeys.{ItemsWithKeys}
 use Rattle.kc_checks.specs.between.Summaries.{choice_begun, own_unit, AreMembers, IsSummary, IsSummaryOf}

@@ -1,9 +1,8 @@
 -- The summaries of symbols.
 use Rattle.kc_checks.proofs.Common.{◌≡◌, ℕ, zero, suc, Bool, true, false, cond, List, [], ◌∷◌, ◌++◌, set, map, filter, Option, Some, None, refl, ap, sym, ◌∙◌, arith, append-nil, slice_get, filter_map, flat_map, option_map, bytes_eq, option_to_list, ◌==◌, cons_option, option_or, flat_map-append}
 use Rattle.kc_checks.proofs.Common.{filter-append, Kind, Exprs, attribute_in, config, name_of_head, type_of, Line, of_head, from_head, defined_name, GroupInContext, attribute_values, Contents, defines, text_same, Differ, at_most_once, first_in_definitions, first_is, number_at, choices_at}
-use Rattle.kc_checks.proofs.Common.{enclosing_choice, summary_in, first_summary, symbol_summaries, type_in, SymbolSummary}
+use Rattle.kc_checks.proofs.Common.{enclosing_choice, summary_in, first_summary, symbol_summaries, type_in, SymbolSummary, CodeLine}
 use Rattle.kc_tree_model.proofs.Consistency.Lists.{same_text}
-use Rattle.kc_parser.specs.declared.listing.Line.{Line as CodeLine}
 
 -- the first element of two joined lists is the first of the front list, or if that is empty, of the back list
 pub first_of_both : {A : Type 0} (xs ys : List A) → slice_get (xs ++ ys) 0 ≡ option_or (slice_get xs 0) (slice_get ys 0)

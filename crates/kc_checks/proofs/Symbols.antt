@@ -2,7 +2,7 @@
 use Rattle.kc_checks.proofs.Common.{◌≡◌, inl, inr, ℕ, ◌+◌, ◌<◌, Bool, true, cond, List, [], ◌∷◌, ◌++◌, length, get_or, replicate, map, reverse, Option, Some, None, refl, ap, sym, subst, ◌∙◌, arith, append-nil, slice_get, filter_map, flat_map, is_some, option_and_then, option_map, option_to_list}
 use Rattle.kc_checks.proofs.Common.{cons_option, flat_map-append, length-map, get_or_from_slice_get, Kind, Exprs, index_of_name, name_of_head, type_of, Group, Line, GroupHead, from_head, defined_name, open_blocks, GroupInContext, group_in_context, groups_in_context, attribute_values, Contents}
 use Rattle.kc_checks.proofs.Common.{contents_of, bare_name, choice_number, choice_of_symbol, defines, definitions_of, type_given, names_defined, kind_of, Has, Differ, at_most_once, has-at, get_below, has-filter, has-place, map-get, place-get, filter_map-has, group-placed, RepresentsGroups}
-use Rattle.kc_checks.proofs.Common.{RepresentsHead, line_in, summary_in, symbol_summaries, choices_at, group_at, read_before, type_in, SymbolSummary}
+use Rattle.kc_checks.proofs.Common.{RepresentsHead, line_in, summary_in, symbol_summaries, choices_at, group_at, read_before, type_in, SymbolSummary, CodeGroup, CodeLine, CodeHead}
 use Rattle.kc_expr.specs.Expr.{Expr, constant, alone}
 use Rattle.kc_expr.specs.between.Names.{name_alone}
 use Rattle.kc_tree_model.specs.Statements.{DefaultAttribute}
@@ -11,9 +11,6 @@ use Rattle.kc_tree_model.specs.TreeFaults.{kind_or_bool, is_selectable}
 use Rattle.kc_value.specs.Kinds.{is_tri_kind}
 use Rattle.kc_tree_model.proofs.Consistency.Definitions.{defined}
 use Rattle.kc_tree_model.proofs.Consistency.Lists.{once-has}
-use Rattle.kc_parser.specs.declared.listing.Group.{Group as CodeGroup}
-use Rattle.kc_parser.specs.declared.listing.Line.{Line as CodeLine}
-use Rattle.kc_parser.specs.declared.listing.GroupHead.{GroupHead as CodeHead}
 use Rattle.kc_parser.specs.declared.listing.GroupHead.TheVariants as codes
 use Rattle.kc_checks.proofs.SymbolSummaries.{types_of_lines}
 use Rattle.kc_checks.proofs.GroupPlaces.{placed_more, shown_at}

@@ -1,6 +1,5 @@
 -- Conjunctions with a conjunct appended.
-use Rattle.kc_conditions.proofs.Common.{◌≡◌, ℕ, ◌<◌, List, [], ◌∷◌, ◌++◌, length, length-append, Option, Some, refl, ap, sym, subst, ◌∙◌, arith, Exprs, Represents, node_expr, Expr, conjunction_of, Conjoins, conjunct}
-use Rattle.std.proofs.lemmas.List.{append-nil}
+use Rattle.kc_conditions.proofs.Common.{◌≡◌, ℕ, ◌<◌, List, [], ◌∷◌, ◌++◌, length, length-append, Option, Some, refl, ap, sym, subst, ◌∙◌, arith, Exprs, Represents, node_expr, Expr, conjunction_of, Conjoins, conjunct, append-nil}
 use Rattle.kc_expr.specs.Expr.{both}
 use Rattle.kc_tree_model.specs.Conditions.{conjunction_from}
 

@@ -1,13 +1,14 @@
--- Joined expressions stay so as the arena grows.
+-- Joined expressions are what the definition has there, and stay so as the arena grows.
 use Rattle.std.proofs.Common.{append_assoc}
 use Rattle.kc_conditions.proofs.Common.{◌≡◌, ℕ, ◌<◌, Bool, true, false, cond, List, [], ◌∷◌, ◌++◌, length, get_or, take, map, Option, Some, None, suc, ◌+◌, refl, ap, sym, subst, ◌∙◌, arith, append-nil, All, IfSome, Exprs, Represents, node_expr, Grows, Expr, represents_on, AttributeNodesExist}
-use Rattle.kc_conditions.proofs.Common.{is_prompt, conjunct_given, grows_on, node_held, node_same, LineNodesExist, conjunction_of, visible_conjunct, Conjoins, conjunct, conjunct_views, AreJoined, AreAppended, condition_view, line_condition, or_yes, Dependencies, Visibles, EntryConditions}
+use Rattle.kc_conditions.proofs.Common.{is_prompt, conjunct_given, grows_on, node_held, node_same, LineNodesExist, conjunction_of, visible_conjunct, Conjoins, conjunct, conjunct_views, AreJoined, AreAppended, condition_view, line_condition, or_yes, Dependencies, Visibles, EntryConditions, line_in}
+use Rattle.kc_conditions.proofs.Common.{CodeAttribute, CodeLine, Line, Attribute, depends_of, visible_of}
 use Rattle.std.proofs.lemmas.List.{map-append, take_more}
 use Rattle.std.proofs.lemmas.List.Elements.{All-append, All-cons, All-nil}
-use Rattle.kc_statements.specs.between.StatementViews.{IfNodeExists, if_given}
-use Rattle.kc_statements.specs.declared.statement.Attribute.{Attribute as CodeAttribute}
+use Rattle.std.specs.List.{cons_option}
+use Rattle.std.specs.Prelude.{filter_map, option_map, option_to_list}
+use Rattle.kc_statements.specs.between.StatementViews.{IfNodeExists, attribute_in, if_given}
 use Rattle.kc_statements.specs.declared.statement.Attribute.TheVariants as attributes
-use Rattle.kc_parser.specs.declared.listing.Line.{Line as CodeLine}
 use Rattle.kc_statements.specs.declared.statement.Conjuncts.{Conjuncts}
 
 pub conjoins_on : (old new : Exprs) → Grows old new → (o : Option ℕ) (es : List Expr) → Conjoins old o es → Conjoins new o es
@@ -39,55 +40,51 @@ joined_on old new g e ds vs own j = record {
   shown_is = conjoins_on old new g e.shown (ds ++ visible_conjunct vs) j.shown_is;
 }
 
+-- the `depends on` or the `visible if` of an attribute, as the first argument asks; `None` for any other attribute
+abbrev pub part_meant : Conjuncts → Attribute → Option Expr
+part_meant Dependencies a = depends_of a
+part_meant Visibles a = visible_of a
+
+pub part_is : (e : Exprs) (part : Conjuncts) (a : CodeAttribute) → option_map (node_expr e) (conjunct_given part a) ≡ part_meant part (attribute_in e a)
+part_is e Dependencies (attributes.Depends i) = refl
+part_is e Dependencies a = refl
+part_is e Visibles (attributes.Visible i) = refl
+part_is e Visibles a = refl
+
+pub option_front : {X : Type 0} (o : Option X) (xs : List X) → option_to_list o ++ xs ≡ cons_option o xs
+option_front None xs = refl
+option_front (Some x) xs = refl
+
+pub parts_given : (e : Exprs) (part : Conjuncts) (lines : List CodeLine)
+    → conjunct_views part e lines ≡ filter_map (λ (l : Line). part_meant part l.attribute) (map (line_in e) lines)
+parts_given e part [] = refl
+parts_given e part (l ∷ lines) =
+    option_front (option_map (node_expr e) (conjunct_given part l.attribute)) (conjunct_views part e lines)
+    ∙ ap (λ o. cons_option o (conjunct_views part e lines)) (part_is e part l.attribute)
+    ∙ ap (cons_option (part_meant part (attribute_in e l.attribute))) (parts_given e part lines)
+
 -- the conjunct of an attribute whose nodes exist is a node of the arena
 pub reported_there : (w : Conjuncts) (exprs : Exprs) (a : CodeAttribute) → AttributeNodesExist exprs a
     → IfSome (conjunct_given w a) (λ i. i < length exprs.nodes)
-reported_there Dependencies exprs (attributes.Typed k) h = tt
-reported_there Dependencies exprs (attributes.TypedPrompt k c) h = tt
-reported_there Dependencies exprs (attributes.TypedDefault k d) h = tt
-reported_there Dependencies exprs (attributes.Prompt c) h = tt
-reported_there Dependencies exprs (attributes.Default d) h = tt
 reported_there Dependencies exprs (attributes.Depends id) h = h
-reported_there Dependencies exprs (attributes.Select s) h = tt
-reported_there Dependencies exprs (attributes.Imply s) h = tt
-reported_there Dependencies exprs (attributes.Range r) h = tt
-reported_there Dependencies exprs (attributes.Visible id) h = tt
-reported_there Dependencies exprs attributes.Help h = tt
-reported_there Dependencies exprs attributes.Modules h = tt
-reported_there Dependencies exprs attributes.Optional h = tt
-reported_there Visibles exprs (attributes.Typed k) h = tt
-reported_there Visibles exprs (attributes.TypedPrompt k c) h = tt
-reported_there Visibles exprs (attributes.TypedDefault k d) h = tt
-reported_there Visibles exprs (attributes.Prompt c) h = tt
-reported_there Visibles exprs (attributes.Default d) h = tt
-reported_there Visibles exprs (attributes.Depends id) h = tt
-reported_there Visibles exprs (attributes.Select s) h = tt
-reported_there Visibles exprs (attributes.Imply s) h = tt
-reported_there Visibles exprs (attributes.Range r) h = tt
+reported_there Dependencies exprs x h = tt
 reported_there Visibles exprs (attributes.Visible id) h = h
-reported_there Visibles exprs attributes.Help h = tt
-reported_there Visibles exprs attributes.Modules h = tt
-reported_there Visibles exprs attributes.Optional h = tt
+reported_there Visibles exprs x h = tt
 
-if_there : (exprs : Exprs) (c : Option ℕ) → IfNodeExists exprs c → IfSome c (λ i. i < length exprs.nodes)
+pub if_there : (exprs : Exprs) (c : Option ℕ) → IfNodeExists exprs c → IfSome c (λ i. i < length exprs.nodes)
 if_there exprs None h = tt
 if_there exprs (Some i) h = h
 
 -- the `if` of an attribute whose nodes exist is a node of the arena
 pub if_node_exists : (exprs : Exprs) (a : CodeAttribute) → AttributeNodesExist exprs a → IfSome (if_given a) (λ i. i < length exprs.nodes)
-if_node_exists exprs (attributes.Typed k) h = tt
 if_node_exists exprs (attributes.TypedPrompt k c) h = if_there exprs c h
 if_node_exists exprs (attributes.TypedDefault k d) h = if_there exprs d.condition h.1
 if_node_exists exprs (attributes.Prompt c) h = if_there exprs c h
 if_node_exists exprs (attributes.Default d) h = if_there exprs d.condition h.1
-if_node_exists exprs (attributes.Depends id) h = tt
 if_node_exists exprs (attributes.Select s) h = if_there exprs s.condition h.1
 if_node_exists exprs (attributes.Imply s) h = if_there exprs s.condition h.1
 if_node_exists exprs (attributes.Range r) h = if_there exprs r.condition h.2
-if_node_exists exprs (attributes.Visible id) h = tt
-if_node_exists exprs attributes.Help h = tt
-if_node_exists exprs attributes.Modules h = tt
-if_node_exists exprs attributes.Optional h = tt
+if_node_exists exprs x h = tt
 
 reported_append : (w : Conjuncts) (exprs : Exprs) (xs ys : List CodeLine)
     → conjunct_views w exprs (xs ++ ys) ≡ conjunct_views w exprs xs ++ conjunct_views w exprs ys

@@ -1,16 +1,12 @@
 -- Steps of a walk through the groups.
 use Rattle.std.proofs.Common.{inl, inr, length-drop, drop-cons, add-one}
-use Rattle.std.specs.Prelude.{option_to_list, filter_map}
 use Rattle.std.proofs.lemmas.List.{reverse-append, take-append-le, drop-append-le}
 use Rattle.std.proofs.Math.Seq.{drop-append_seam}
 use Rattle.kc_conditions.proofs.Common.{◌≡◌, ℕ, suc, ◌+◌, ◌-◌, ◌<◌, ◌≤◌, Bool, true, false, cond, List, [], ◌∷◌, ◌++◌, length, get_or, take, drop, map, reverse, Option, Some, None, refl, ap, sym, subst, ◌∙◌, arith, append-nil, length-append, All, IfSome, slice_get, slice_range, take_all}
-use Rattle.kc_conditions.proofs.Common.{is_linux_6_12, Language, Exprs, Represents, node_expr, Grows, Expr, AttributeNodesExist, is_prompt, conjunct_given, LineNodesExist, RepresentsHead, line_in, node_held, node_same, grows_same, choice, condition, Group, of_head, open_blocks, conjunction_of}
-use Rattle.kc_conditions.proofs.Common.{visible_conjunct, dependencies_of, context, group_in_context, Conjoins, conjunct, conjunct_views, AreJoined, AreAppended, condition_view, line_condition, first_prompt, RepresentsPrompt, GroupHeadNodesExist, or_yes, RepresentsEnclosing, RepresentsConditions}
-use Rattle.kc_conditions.proofs.Common.{RepresentsAllConditions, HasWalked, Dependencies, Visibles, EnclosingConditions, EntryConditions, GroupConditions, grows_on}
-use Rattle.kc_statements.specs.between.StatementViews.{attribute_in}
-use Rattle.kc_statements.specs.declared.statement.Attribute.{Attribute as CodeAttribute}
+use Rattle.kc_conditions.proofs.Common.{is_linux_6_12, Language, Exprs, Represents, node_expr, Grows, Expr, AttributeNodesExist, is_prompt, LineNodesExist, RepresentsHead, line_in, node_held, node_same, grows_same, choice, condition, Group, of_head, open_blocks, conjunction_of, visible_conjunct}
+use Rattle.kc_conditions.proofs.Common.{dependencies_of, context, group_in_context, Conjoins, conjunct, conjunct_views, AreJoined, AreAppended, condition_view, line_condition, first_prompt, RepresentsPrompt, GroupHeadNodesExist, or_yes, RepresentsEnclosing, RepresentsConditions}
+use Rattle.kc_conditions.proofs.Common.{RepresentsAllConditions, HasWalked, Dependencies, Visibles, EnclosingConditions, EntryConditions, GroupConditions, grows_on, option_to_list, filter_map, attribute_in, CodeAttribute, CodeLine}
 use Rattle.kc_statements.specs.declared.statement.Attribute.TheVariants as attributes
-use Rattle.kc_parser.specs.declared.listing.Line.{Line as CodeLine}
 use Rattle.kc_parser.specs.declared.listing.GroupHead.{GroupHead as CodeHead}
 use Rattle.kc_parser.specs.declared.listing.GroupHead.TheVariants as codes
 use Rattle.kc_statements.proofs.GrownArenas.{attribute_same}
@@ -21,9 +17,9 @@ use Rattle.kc_tree_model.specs.Conditions.{attribute_values, shown_condition, in
 use Rattle.kc_tree_model.specs.Contents.{menu_end_of}
 use Rattle.kc_tree_model.proofs.NestedTrees.OpenBlocks.{pushed, popped, open_inside}
 use Rattle.kc_conditions.specs.between.Firsts.{RepresentsInside, is_end}
-use Rattle.kc_conditions.specs.between.Walks.{condition_among, condition_at, RepresentsEnd, RepresentsEnclosings, innermost_enclosing, IsWalked}
+use Rattle.kc_conditions.specs.between.Walks.{condition_among, condition_at, RepresentsEnd, RepresentsEnclosings, innermost_enclosing}
 use Rattle.kc_conditions.specs.declared.group_walk.GroupWalk.{GroupWalk}
-use Rattle.kc_conditions.proofs.Growth.{conjoins_on, joined_on, represent_on, held_on, represents_all, condition_on}
+use Rattle.kc_conditions.proofs.Growth.{parts_given, conjoins_on, joined_on, represent_on, held_on, represents_all, condition_on}
 
 -- an attribute that is no prompt is passed over in the search for the first prompt
 pub first_step : (lines : List CodeLine) (conditions : List ℕ) (i : ℕ) (d : CodeLine) → i < length lines → length conditions ≡ length lines
@@ -55,9 +51,7 @@ opens_none e names texts (codes.Menu t) w h a b i d o = absurd (b t refl)
 opens_none e names texts (codes.Condition id) w h a b i d o = absurd (i id refl)
 opens_none e names texts (codes.Comment t) w h a b i d o = (let z : inside ≡ opening = rw h.2 at o in cc)
 opens_none e names texts (codes.Source t) w h a b i d o = absurd (d t refl)
-opens_none e names texts codes.Mainmenu w h a b i d o = (let z : inside ≡ opening = rw h at o in cc)
-opens_none e names texts (codes.Ends k) w h a b i d o = (let z : closing ≡ opening = rw h at o in cc)
-opens_none e names texts codes.FileEnd w h a b i d o = (let z : closing ≡ opening = rw h at o in cc)
+opens_none e names texts x w h a b i d o = (let z = ap side_of (sym h) ∙ o in cc)
 
 pub menu_inside : (language : Language) (exprs : Exprs) (texts : List (List ℕ)) (y t : ℕ) (title : List ℕ) (m : Group) (c : EntryConditions) (opened : List Group)
     → m.head ≡ of_head (menu title) → slice_get texts t ≡ Some title
@@ -110,12 +104,19 @@ source_inside language exprs texts y path m a opened e h = record {
 }
 
 -- the conditions on top of the walk's stack are those inside the innermost open block
-pub top_shown : (language : Language) (exprs : Exprs) (texts : List (List ℕ)) (y : ℕ) (rs : List EnclosingConditions) (gs : List Group) → RepresentsEnclosings language exprs texts y rs gs
+top_shown : (language : Language) (exprs : Exprs) (texts : List (List ℕ)) (y : ℕ) (rs : List EnclosingConditions) (gs : List Group) → RepresentsEnclosings language exprs texts y rs gs
     → RepresentsEnclosing language exprs texts y (innermost_enclosing rs) gs
 top_shown language exprs texts y [] [] h = record { dependencies_are = refl; visibles_are = refl; ends = refl }
 top_shown language exprs texts y [] (g ∷ gs) h = absurd h
 top_shown language exprs texts y (a ∷ outer) [] h = absurd h
 top_shown language exprs texts y (a ∷ outer) (g ∷ gs) h = h.0
+
+-- they are those that the walk takes from there
+pub enclosing_shown : (language : Language) (texts : List (List ℕ)) (w : GroupWalk) (before : List Group) (a : EnclosingConditions) → HasWalked language texts w before
+    → a ≡ innermost_enclosing (reverse w.stack.items) → RepresentsEnclosing language w.arena texts w.yes a (open_blocks 0 before)
+enclosing_shown language texts w before a walked is =
+    subst (λ x. RepresentsEnclosing language w.arena texts w.yes x (open_blocks 0 before)) (sym is)
+    (top_shown language w.arena texts w.yes (reverse w.stack.items) (open_blocks 0 before) (walked w.arena (grows_same w.arena)).stack_is)
 
 outer_shown : (language : Language) (exprs : Exprs) (texts : List (List ℕ)) (y : ℕ) (rs : List EnclosingConditions) (gs : List Group) → RepresentsEnclosings language exprs texts y rs gs
     → RepresentsEnclosings language exprs texts y (drop 1 rs) (drop 1 gs)
@@ -124,69 +125,10 @@ outer_shown language exprs texts y [] (g ∷ gs) h = absurd h
 outer_shown language exprs texts y (a ∷ outer) [] h = absurd h
 outer_shown language exprs texts y (a ∷ outer) (g ∷ gs) h = h.1
 
--- the values of attributes, by the code and by the definition
-depends_one : (exprs : Exprs) (n : ℕ) (a : CodeAttribute) (xs : List Expr) (rest : List Line) → xs ≡ filter_map (λ (l : Line). depends_of l.attribute) rest
-    → conjunct exprs (conjunct_given Dependencies a) ++ xs ≡ filter_map (λ (l : Line). depends_of l.attribute)
-    (record { number = n; attribute = attribute_in exprs a } ∷ rest)
-depends_one exprs n (attributes.Typed k) xs rest e = e
-depends_one exprs n (attributes.TypedPrompt k c) xs rest e = e
-depends_one exprs n (attributes.TypedDefault k d) xs rest e = e
-depends_one exprs n (attributes.Prompt c) xs rest e = e
-depends_one exprs n (attributes.Default d) xs rest e = e
-depends_one exprs n (attributes.Depends id) xs rest e = ap (λ es. node_expr exprs id ∷ es) e
-depends_one exprs n (attributes.Select s) xs rest e = e
-depends_one exprs n (attributes.Imply s) xs rest e = e
-depends_one exprs n (attributes.Range r) xs rest e = e
-depends_one exprs n (attributes.Visible id) xs rest e = e
-depends_one exprs n attributes.Help xs rest e = e
-depends_one exprs n attributes.Modules xs rest e = e
-depends_one exprs n attributes.Optional xs rest e = e
-
-depends_given : (exprs : Exprs) (lines : List CodeLine)
-    → conjunct_views Dependencies exprs lines ≡ filter_map (λ (l : Line). depends_of l.attribute) (map (line_in exprs) lines)
-depends_given exprs [] = refl
-depends_given exprs (l ∷ lines) =
-    depends_one exprs l.number l.attribute (conjunct_views Dependencies exprs lines) (map (line_in exprs) lines) (depends_given exprs lines)
-
--- the values of attributes, by the code and by the definition
-visible_one : (exprs : Exprs) (n : ℕ) (a : CodeAttribute) (xs : List Expr) (rest : List Line) → xs ≡ filter_map (λ (l : Line). visible_of l.attribute) rest
-    → conjunct exprs (conjunct_given Visibles a) ++ xs ≡ filter_map (λ (l : Line). visible_of l.attribute)
-    (record { number = n; attribute = attribute_in exprs a } ∷ rest)
-visible_one exprs n (attributes.Typed k) xs rest e = e
-visible_one exprs n (attributes.TypedPrompt k c) xs rest e = e
-visible_one exprs n (attributes.TypedDefault k d) xs rest e = e
-visible_one exprs n (attributes.Prompt c) xs rest e = e
-visible_one exprs n (attributes.Default d) xs rest e = e
-visible_one exprs n (attributes.Depends id) xs rest e = e
-visible_one exprs n (attributes.Select s) xs rest e = e
-visible_one exprs n (attributes.Imply s) xs rest e = e
-visible_one exprs n (attributes.Range r) xs rest e = e
-visible_one exprs n (attributes.Visible id) xs rest e = ap (λ es. node_expr exprs id ∷ es) e
-visible_one exprs n attributes.Help xs rest e = e
-visible_one exprs n attributes.Modules xs rest e = e
-visible_one exprs n attributes.Optional xs rest e = e
-
-visible_given : (exprs : Exprs) (lines : List CodeLine)
-    → conjunct_views Visibles exprs lines ≡ filter_map (λ (l : Line). visible_of l.attribute) (map (line_in exprs) lines)
-visible_given exprs [] = refl
-visible_given exprs (l ∷ lines) =
-    visible_one exprs l.number l.attribute (conjunct_views Visibles exprs lines) (map (line_in exprs) lines) (visible_given exprs lines)
-
 -- the condition of an attribute, by the code and by the definition
 condition_one : (exprs : Exprs) (ds vs : List Expr) (a : CodeAttribute) → condition_view exprs ds vs a ≡ condition_among ds vs (attribute_in exprs a)
 condition_one exprs ds vs (attributes.Typed k) = refl
-condition_one exprs ds vs (attributes.TypedPrompt k c) = refl
-condition_one exprs ds vs (attributes.TypedDefault k d) = refl
-condition_one exprs ds vs (attributes.Prompt c) = refl
-condition_one exprs ds vs (attributes.Default d) = refl
-condition_one exprs ds vs (attributes.Depends id) = refl
-condition_one exprs ds vs (attributes.Select s) = refl
-condition_one exprs ds vs (attributes.Imply s) = refl
-condition_one exprs ds vs (attributes.Range r) = refl
-condition_one exprs ds vs (attributes.Visible id) = refl
-condition_one exprs ds vs attributes.Help = refl
-condition_one exprs ds vs attributes.Modules = refl
-condition_one exprs ds vs attributes.Optional = refl
+condition_one exprs ds vs x = refl
 
 conditions_given : (exprs : Exprs) (ds vs : List Expr) (lines : List CodeLine)
     → map (line_condition exprs ds vs) lines ≡ map (λ (l : Line). condition_among ds vs l.attribute) (map (line_in exprs) lines)
@@ -247,28 +189,19 @@ pushed_shown language exprs texts xs own c cs before m e h rest = (
 
 pub end_side : (exprs : Exprs) (names texts : List (List ℕ)) (what : CodeHead) (m : Group) → RepresentsHead exprs names texts what m.head → is_end what ≡ true
     → side_of m.head ≡ closing
-end_side exprs names texts (codes.Config s) m h e = cc
-end_side exprs names texts codes.Choice m h e = cc
-end_side exprs names texts (codes.Menu t) m h e = cc
-end_side exprs names texts (codes.Condition id) m h e = cc
-end_side exprs names texts (codes.Comment t) m h e = cc
-end_side exprs names texts (codes.Source t) m h e = cc
-end_side exprs names texts codes.Mainmenu m h e = cc
 end_side exprs names texts (codes.Ends b) m h e = rw h refl
 end_side exprs names texts codes.FileEnd m h e = rw h refl
+end_side exprs names texts x m h e = cc
 
 pub other_side : (exprs : Exprs) (names texts : List (List ℕ)) (what : CodeHead) (m : Group) → RepresentsHead exprs names texts what m.head
     → is_end what ≡ false
     → side_of m.head ≡ closing → ⊥
-other_side exprs names texts (codes.Config s) m h e f = let k : inside ≡ closing = ap side_of (sym h.2) ∙ f in cc
-other_side exprs names texts codes.Choice m h e f = let k : opening ≡ closing = ap side_of (sym h) ∙ f in cc
-other_side exprs names texts (codes.Menu t) m h e f = let k : opening ≡ closing = ap side_of (sym h.2) ∙ f in cc
-other_side exprs names texts (codes.Condition id) m h e f = let k : opening ≡ closing = ap side_of (sym h.1) ∙ f in cc
-other_side exprs names texts (codes.Comment t) m h e f = let k : inside ≡ closing = ap side_of (sym h.2) ∙ f in cc
-other_side exprs names texts (codes.Source t) m h e f = let k : opening ≡ closing = ap side_of (sym h.2) ∙ f in cc
-other_side exprs names texts codes.Mainmenu m h e f = let k : inside ≡ closing = ap side_of (sym h) ∙ f in cc
-other_side exprs names texts (codes.Ends b) m h e f = cc
-other_side exprs names texts codes.FileEnd m h e f = cc
+other_side exprs names texts (codes.Config s) m h e f = let k = ap side_of (sym h.2) ∙ f in cc
+other_side exprs names texts (codes.Menu t) m h e f = let k = ap side_of (sym h.2) ∙ f in cc
+other_side exprs names texts (codes.Condition id) m h e f = let k = ap side_of (sym h.1) ∙ f in cc
+other_side exprs names texts (codes.Comment t) m h e f = let k = ap side_of (sym h.2) ∙ f in cc
+other_side exprs names texts (codes.Source t) m h e f = let k = ap side_of (sym h.2) ∙ f in cc
+other_side exprs names texts x m h e f = let k = ap side_of (sym h) ∙ f in cc
 
 reverse_push : {A : Type 0} (xs : List A) (x : A) → reverse (xs ++ x ∷ []) ≡ x ∷ reverse xs
 reverse_push xs x = reverse-append xs (x ∷ [])
@@ -293,11 +226,8 @@ stack_entered language exprs texts y stack (Some a) m before side h s = rw (push
 module _ (language : Language) (w new : GroupWalk) (texts : List (List ℕ)) (before : List Group) (m : Group) (mid far : Exprs) (e : EntryConditions) (lines : List CodeLine)
     (walked : HasWalked language texts w before) (held : All (LineNodesExist w.arena) lines) (attributes_are : m.attributes ≡ map (line_in w.arena) lines)
     (to_mid : Grows w.arena mid) (to_far : Grows mid far) where
-  here : IsWalked language w.arena texts w before
-  here = walked w.arena (grows_same w.arena)
-
   top : RepresentsEnclosing language w.arena texts w.yes (innermost_enclosing (reverse w.stack.items)) (open_blocks 0 before)
-  top = top_shown _ w.arena texts w.yes (reverse w.stack.items) (open_blocks 0 before) here.stack_is
+  top = enclosing_shown language texts w before _ walked refl
 
   pub entry_is : ((ds vs : List Expr) → Conjoins w.arena (innermost_enclosing (reverse w.stack.items)).dependencies ds
       → Conjoins w.arena (innermost_enclosing (reverse w.stack.items)).visibles vs
@@ -305,9 +235,9 @@ module _ (language : Language) (w new : GroupWalk) (texts : List (List ℕ)) (be
       → AreJoined mid e (dependencies_of (context (is_linux_6_12 language) (open_blocks 0 before)) m) (context (is_linux_6_12 language) (open_blocks 0 before)).visibles (attribute_values visible_of m)
   entry_is f =
       let j = f (context (is_linux_6_12 language) (open_blocks 0 before)).dependencies (context (is_linux_6_12 language) (open_blocks 0 before)).visibles top.dependencies_are top.visibles_are in
-      let d : conjunct_views Dependencies w.arena lines ≡ attribute_values depends_of m = depends_given w.arena lines
+      let d : conjunct_views Dependencies w.arena lines ≡ attribute_values depends_of m = parts_given w.arena Dependencies lines
       ∙ ap (filter_map (λ (l : Line). depends_of l.attribute)) (sym attributes_are) in
-      let v : conjunct_views Visibles w.arena lines ≡ attribute_values visible_of m = visible_given w.arena lines
+      let v : conjunct_views Visibles w.arena lines ≡ attribute_values visible_of m = parts_given w.arena Visibles lines
       ∙ ap (filter_map (λ (l : Line). visible_of l.attribute)) (sym attributes_are) in
       subst (λ ds. AreJoined mid e ((context (is_linux_6_12 language) (open_blocks 0 before)).dependencies ++ ds) (context (is_linux_6_12 language) (open_blocks 0 before)).visibles
       (attribute_values visible_of m)) d
@@ -406,15 +336,8 @@ inside_on language old new texts y m opened (Some a) g h = (h.0, around_on _ old
 
 pub what_on : (old new : Exprs) (names texts : List (List ℕ)) (c : CodeHead) (w : GroupHead) → Grows old new → RepresentsHead old names texts c w
     → RepresentsHead new names texts c w
-what_on old new names texts (codes.Config s) w g h = h
-what_on old new names texts codes.Choice w g h = h
-what_on old new names texts (codes.Menu t) w g h = h
 what_on old new names texts (codes.Condition id) w g h = (node_held old new id g h.0, rw (node_same old new id g h.0) h.1)
-what_on old new names texts (codes.Comment t) w g h = h
-what_on old new names texts (codes.Source t) w g h = h
-what_on old new names texts codes.Mainmenu w g h = h
-what_on old new names texts (codes.Ends b) w g h = h
-what_on old new names texts codes.FileEnd w g h = h
+what_on old new names texts x w g h = h
 
 -- the first prompt
 abbrev prompts_among : List Expr → List Expr → List Line → List Expr
@@ -425,19 +348,9 @@ prompt_one : (old far : Exprs) (ds vs : List Expr) (n : ℕ) (a : CodeAttribute)
     → RepresentsPrompt far (first_prompt ls os) (slice_get (prompts_among ds vs rest) 0)
     → RepresentsPrompt far (first_prompt (record { number = n; attribute = a } ∷ ls) (o ∷ os))
     (slice_get (prompts_among ds vs (record { number = n; attribute = attribute_in old a } ∷ rest)) 0)
-prompt_one old far ds vs n (attributes.Typed k) o os ls rest l e h = h
 prompt_one old far ds vs n (attributes.TypedPrompt k c) o os ls rest l e h = record { within = l; is = e }
-prompt_one old far ds vs n (attributes.TypedDefault k d) o os ls rest l e h = h
 prompt_one old far ds vs n (attributes.Prompt c) o os ls rest l e h = record { within = l; is = e }
-prompt_one old far ds vs n (attributes.Default d) o os ls rest l e h = h
-prompt_one old far ds vs n (attributes.Depends id) o os ls rest l e h = h
-prompt_one old far ds vs n (attributes.Select s) o os ls rest l e h = h
-prompt_one old far ds vs n (attributes.Imply s) o os ls rest l e h = h
-prompt_one old far ds vs n (attributes.Range r) o os ls rest l e h = h
-prompt_one old far ds vs n (attributes.Visible id) o os ls rest l e h = h
-prompt_one old far ds vs n attributes.Help o os ls rest l e h = h
-prompt_one old far ds vs n attributes.Modules o os ls rest l e h = h
-prompt_one old far ds vs n attributes.Optional o os ls rest l e h = h
+prompt_one old far ds vs n x o os ls rest l e h = h
 
 prompt_first : (old far : Exprs) (ds vs : List Expr) (ls : List CodeLine) (os : List ℕ) → All (λ i. i < length far.nodes) os
     → map (node_expr far) os ≡ map (line_condition old ds vs) ls
@@ -488,12 +401,5 @@ module _ (old mid far : Exprs) (before after : List ℕ) (ds vs : List Expr) (li
 -- the expression of a stored `if` statement that represents one of the model is a node of the arena
 pub what_held : (exprs : Exprs) (names texts : List (List ℕ)) (c : CodeHead) (w : GroupHead) → RepresentsHead exprs names texts c w
     → GroupHeadNodesExist (length exprs.nodes) c
-what_held exprs names texts (codes.Config s) w h = tt
-what_held exprs names texts codes.Choice w h = tt
-what_held exprs names texts (codes.Menu t) w h = tt
 what_held exprs names texts (codes.Condition id) w h = h.0
-what_held exprs names texts (codes.Comment t) w h = tt
-what_held exprs names texts (codes.Source t) w h = tt
-what_held exprs names texts codes.Mainmenu w h = tt
-what_held exprs names texts (codes.Ends b) w h = tt
-what_held exprs names texts codes.FileEnd w h = tt
+what_held exprs names texts x w h = tt

@@ -14,7 +14,8 @@ pub use Rattle.std.specs.Ordering.{match_ordering, nat_cmp}
 pub use Rattle.std.specs.Prelude.{Err, IfErr, IfOk, IfSome, Ok, OnOk, Result, is_some, option_map, slice_get, slice_index, slice_set}
 pub use Rattle.std.specs.declared.cmp.Ordering.{Ordering}
 pub use Rattle.std.specs.declared.cmp.Ordering.TheVariants.{Equal, Greater, Less}
-pub use Rattle.kc_dotconfig.specs.Fragments.{FitsTree, changes_of, notice_pair, users_of}
+pub use Rattle.kc_dotconfig.specs.Fragments.{FitsTree, changes_of, users_of}
+pub use Rattle.kc_dotconfig_model.specs.between.Notices.{notice_pair}
 pub use Rattle.kc_dotconfig.specs.between.MeaningViews.{IsWithin, meaning_view}
 pub use Rattle.kc_dotconfig.specs.checker.Accumulation.{AcceptsBytes, EndsBadly, EndsWell, Holds, IsGathered}
 pub use Rattle.kc_dotconfig.specs.checker.GatheredLines.{IsPlain, held_in, joined, lines_in, lines_more, lines_user, value_in, with_unit}

@@ -39,7 +39,7 @@ kept_push (k ∷ lines) l =
 pub lines_over : (lines : List MemberLine) (l : MemberLine) → lines_user (lines ++ l ∷ []) ≡ over (LinesUser (l ∷ [])) (Some (lines_user lines))
 lines_over lines l = ap (λ x. LinesUser x) (kept_push lines l)
 
--- what stands at a unit in a list of pairs after an insertion
+-- what is at a unit in a list of pairs after an insertion
 pub at_same : (u : ℕ) → is_at (nat_cmp u) u ≡ true
 at_same u = ap (λ o. is_eq o) (sym (nat_cmp_is u u Equal refl))
 
@@ -130,7 +130,7 @@ pub joined_push : (es : List (ℕ × UserValue)) (gathered : List (ℕ × Vec Me
 joined_push es [] g = refl
 joined_push es (f ∷ gathered) g = joined_push (with_unit es f.0 f.1.items) gathered g
 
--- no unit is at or above a number that no value stands at or above
+-- no unit is at or above a number that no value is at or above
 pub below_of_none : (n : ℕ) (es : List (ℕ × UserValue)) → ((u : ℕ) → n ≤ u → value_in es u ≡ None) → AreBelow n es
 below_of_none n [] none = tt
 below_of_none n (e ∷ es) none = (first (split e.0 n), below_of_none n es rest) where

@@ -5,8 +5,6 @@ use Rattle.kc_tree_model.specs.Trees.{Tree}
 use Rattle.kc_solver.specs.Changes.{changed_users}
 use Rattle.kc_rules_model.specs.declared.values.UserValue.{UserValue}
 use Rattle.kc_rules_model.specs.Shapes.{user_fits}
-use Rattle.kc_dotconfig_model.specs.declared.notice.Notice.{Notice}
-use Rattle.kc_dotconfig_model.specs.declared.notice.NoticeKind.{NoticeKind}
 use Rattle.kc_dotconfig_model.specs.ConfigFiles.{empty_assignment}
 
 -- the changes that set each unit of a list to its user value
@@ -16,10 +14,6 @@ changes_of assigns = map (λ (a : ℕ × UserValue). (a.0, Some a.1)) assigns
 -- the assignment to a tree's units that has the user values of a list and no others
 abbrev pub users_of : Tree → List (ℕ × UserValue) → List (Option UserValue)
 users_of tree assigns = changed_users (changes_of assigns) (empty_assignment tree)
-
--- a notice as a pair: its line, counted from 1, and its kind
-abbrev pub notice_pair : Notice → ℕ × NoticeKind
-notice_pair notice = (notice.line, notice.kind)
 
 -- the units of `assigns` ascend strictly and are units of `tree`, and each user value has the shape of its unit
 pub record FitsTree (tree : Tree) (assigns : List (ℕ × UserValue)) : Type 0 where

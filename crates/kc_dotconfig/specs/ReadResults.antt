@@ -11,7 +11,8 @@ use Rattle.kc_dotconfig_model.specs.ConfigFiles.{FileMeans, file_assignment, not
 use Rattle.kc_dotconfig_model.specs.OtherChoices.{choice_lines_from}
 use Rattle.kc_dotconfig_model.specs.LoadFaults.{complete, cut_short, OccursAt, IsFirstFault, IsAccepted}
 use Rattle.kc_dotconfig.specs.declared.fragment.Fragment.{Fragment}
-use Rattle.kc_dotconfig.specs.Fragments.{users_of, notice_pair}
+use Rattle.kc_dotconfig.specs.Fragments.{users_of}
+use Rattle.kc_dotconfig_model.specs.between.Notices.{notice_pair}
 
 -- a configuration file was read to its end and has no fault, and `f` has its assignment, its notices and its lines of members
 pub record IsReadAs (format : FileFormat) (tree : Tree) (before after : Option (List ℕ)) (f : Fragment) : Type 0 where

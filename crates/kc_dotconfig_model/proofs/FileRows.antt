@@ -92,7 +92,7 @@ names_are_as_written : (line_meaning config tree_a (codes "CONFIG_A =y") ≡ Som
 unfolding line_meaning
 names_are_as_written = (refl, refl, refl, refl, refl)
 
--- without a prefix a name stands in the file as in the tree, and a line that begins with `#` is a comment or an unset line
+-- without a prefix a name is in the file as in the tree, and a line that begins with `#` is a comment or an unset line
 names_without_prefix : (line_meaning (escaped []) tree_a (codes "A=y") ≡ Some (assigns 0 (TriUser Y)))
     × (line_meaning (escaped []) tree_a (codes "# A is not set") ≡ Some (assigns 0 (TriUser N)))
     × (line_meaning (escaped []) tree_a (codes "CONFIG_A=y") ≡ Some (notice UnknownSymbol))

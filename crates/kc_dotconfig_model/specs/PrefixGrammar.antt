@@ -5,7 +5,7 @@ use Rattle.kc_value.specs.declared.limits.TheConstants.{MAX_PREFIX_BYTES}
 use Rattle.kc_tree_model.specs.TreeLookup.{is_name_byte}
 
 -- whether a text can come before the names in configuration files: at most `MAX_PREFIX_BYTES` letters, digits and `_`; the empty
--- text where names stand there as in the tree
+-- text where names are there as in the tree
 abbrev pub is_name_prefix : List ℕ → Bool
 is_name_prefix text = nat_le (length text) MAX_PREFIX_BYTES && list_all is_name_byte text
 

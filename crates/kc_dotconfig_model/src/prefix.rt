@@ -7,7 +7,7 @@ use kc_tree_model::are_name_bytes;
 use kc_value::MAX_PREFIX_BYTES;
 
 /// What comes before the names in configuration files: a prefix, of 1 to `MAX_PREFIX_BYTES` letters, digits and `_`, or nothing,
-/// where names stand there as in the tree.
+/// where names are there as in the tree.
 ///
 /// It has no model, to which the bytes past its length would be lost, and `Copy` needs them: public clauses cite `prefix_bytes`.
 #[derive(Clone, Copy)]
@@ -37,7 +37,7 @@ impl Prefix {
         Prefix { bytes, len: 7 }
     }
 
-    /// No prefix: names stand in configuration files as in the tree.
+    /// No prefix: names are in configuration files as in the tree.
     pub fn none() -> Prefix
         ensures { prefix_bytes result ≡ [] }
     {

@@ -110,13 +110,7 @@ operator_no_word Word h = let z : ⊥ = cc in absurd z
 operator_no_word x h = refl
 
 pub turned : (x y : List ℕ) → bytes_eq x y ≡ bytes_eq y x
-turned x y = by_tests (bytes_eq x y) (bytes_eq y x) refl refl
-  where
-    by_tests : (a b : Bool) → bytes_eq x y ≡ a → bytes_eq y x ≡ b → a ≡ b
-    by_tests true true e f = refl
-    by_tests false false e f = refl
-    by_tests true false e f = let z : true ≡ false = sym (nat_list_eq_equiv.refl x) ∙ ap (λ v. bytes_eq v x) (same_text x y e) ∙ f in z
-    by_tests false true e f = let z : false ≡ true = sym e ∙ ap (λ v. bytes_eq x v) (same_text y x f) ∙ nat_list_eq_equiv.refl x in z
+turned = nat_list_eq_equiv.symm
 
 help_text_in : (w : List ℕ) → is_in_list w help_words ≡ is_help_text w
 help_text_in w = ap (λ b. b || (bytes_eq (codes "---help---") w || false)) (turned (codes "help") w)

@@ -87,7 +87,7 @@ pub fn place_at(places: &[Position], number: usize) -> Option<Position>
     }
 }
 
-/// The selects or the implies of a symbol, with the word before each of their lines, and their places, if these are told.
+/// The selects or the implies of a symbol, with the word before each of their lines, and their places, if these are shown.
 #[derive(Clone, Copy)]
 struct Forces<'a> {
     word: &'a str,
@@ -150,7 +150,7 @@ fn push_forcing_lines(
     Ok(())
 }
 
-/// Appends a line for each of the selects of a symbol with these numbers, and where, as far as places are told.
+/// Appends a line for each of the selects of a symbol with these numbers, and where, as far as places are shown.
 fn push_selects(
     out: &mut Vec<u8>,
     by: &Context<'_>,
@@ -169,7 +169,7 @@ fn push_selects(
     push_forcing_lines(out, by, selects, selected_by)
 }
 
-/// Appends a line for each select and imply of a symbol that is among its reasons, and where, as far as places are told.
+/// Appends a line for each select and imply of a symbol that is among its reasons, and where, as far as places are shown.
 fn push_forces(
     out: &mut Vec<u8>,
     by: &Context<'_>,

@@ -11,7 +11,7 @@ use super::words::wanted_text;
 use kc_reasons::LowPart;
 use std::alloc::AllocError;
 
-/// A part of a condition that is too low, as a text tells it: with the place of its line, or without.
+/// A part of a condition that is too low, as a text has it: with the place of its line, or without.
 pub(crate) trait PartText {
     ghost use Rattle.std.specs.Prelude.{ℕ, List};
     ghost use Rattle.kc_expr.specs.between.Arena.{Exprs};

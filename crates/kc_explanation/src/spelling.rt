@@ -26,7 +26,7 @@ pub enum SpelledToken {
     Close,
 }
 
-/// Where an expression stands, by which it has parentheses or not.
+/// Where an expression is, by which it has parentheses or not.
 #[derive(Clone, Copy)]
 enum OperandPlace {
     /// As a whole, or at the left of `||`: anything.
@@ -68,7 +68,7 @@ fn is_enclosed(place: OperandPlace, parts: &ExprParts<'_>) -> bool
     }
 }
 
-/// Where an expression stands that stands in the place of another one at a place.
+/// Where an expression is that takes the place of another one at a place.
 fn past_shown(place: OperandPlace) -> OperandPlace
     ensures { result ≡ past_shown place }
 {

@@ -3,15 +3,10 @@ use Rattle.kc_files.proofs.Common.{◌≡◌, ℕ, Bool, true, false, cond, List
 use Rattle.kc_files.proofs.Common.{keyword_in_table, seen_as}
 use Rattle.std.specs.Borrow.{Bor}
 use Rattle.std.proofs.lemmas.List.{map-append}
+use Rattle.std.proofs.lemmas.Cmp.{nat_list_eq_equiv}
 
 pub bytes_eq_turned : (x y : List ℕ) → bytes_eq x y ≡ bytes_eq y x
-bytes_eq_turned x y = by_tests (bytes_eq x y) (bytes_eq y x) refl refl
-  where
-    by_tests : (b c : Bool) → bytes_eq x y ≡ b → bytes_eq y x ≡ c → b ≡ c
-    by_tests true true e f = refl
-    by_tests false false e f = refl
-    by_tests true false e f = let z : true ≡ false = sym ((bytes_eq-Decides y x).1 (sym ((bytes_eq-Decides x y).0 e))) ∙ f in cc
-    by_tests false true e f = let z : true ≡ false = sym ((bytes_eq-Decides x y).1 (sym ((bytes_eq-Decides y x).0 f))) ∙ e in cc
+bytes_eq_turned = nat_list_eq_equiv.symm
 
 pub bytes_eq_same : (x : List ℕ) → bytes_eq x x ≡ true
 bytes_eq_same x = (bytes_eq-Decides x x).1 refl

@@ -8,7 +8,7 @@ same_place : {X Y : Type 0} (f : X → Y) (p : Y → Bool) (xs : List X) → pos
 same_place f p [] = refl
 same_place f p (x ∷ xs) = ap (λ n. cond (not (p (f x))) (1 + n) 0) (same_place f p xs)
 
--- it stands where it stands in the list that this one represents
+-- it is where it is in the list that this one represents
 pub position_mapped : {X Y : Type 0} (f : X → Y) (p : Y → Bool) (xs : List X) → position (λ x. p (f x)) xs ≡ position p (map f xs)
 position_mapped f p xs =
     sym (ap (λ n. cond (nat_lt n (length (map f xs))) (Some n) None) (same_place f p xs)

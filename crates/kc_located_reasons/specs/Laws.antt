@@ -9,7 +9,7 @@ use Rattle.kc_reasons_model.specs.Reasons.{ExplainedRun, LowPart, low_part, name
 use Rattle.kc_located_reasons.specs.LocatedNeeds.{LocatedPart, prompts_lack_at, dependencies_lack_at}
 use Rattle.kc_located_reasons.specs.GivenPlaces.{given_place}
 
--- a part as a run tells it
+-- a part as a run shows it
 abbrev pub told : ExplainedRun → LocatedPart → LowPart
 told run p = low_part run p.at p.part
 

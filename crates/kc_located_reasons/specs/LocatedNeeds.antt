@@ -1,4 +1,4 @@
--- What conditions lack, with the places of the lines on which it stands.
+-- What conditions lack, with the places of the lines that have it.
 use Rattle.std.specs.Prelude.{List, [], map, flat_map, if◌then◌else◌}
 use Rattle.kc_value.specs.declared.tri.Tri.{Tri}
 use Rattle.kc_expr.specs.Expr.{Environment}

@@ -1,4 +1,4 @@
-//! What a symbol's prompts and dependencies lack, and on which lines it stands.
+//! What a symbol's prompts and dependencies lack, and which lines have it.
 ghost use Rattle.std.specs.Prelude.{◌≡◌, ◌<◌, [], length, IfOk};
 ghost use Rattle.kc_tree.specs.between.Views.{symbol_view, SymbolFits};
 ghost use Rattle.kc_evaluation.specs.checker.ValuationView.{valuation_tree, valuation_exprs, valuation_values};

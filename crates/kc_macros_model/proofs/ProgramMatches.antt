@@ -68,7 +68,7 @@ EndsAs w F end (fails f) = failed f ≡ end
 EndsAs w F end stops = stopped ≡ end
 EndsAs w F end (does e k) = F e × EndsAs w F end (k (reply w e))
 
--- whether an ending of the second program tells something of the first: a value does, and a stop where no answers are lacking
+-- whether an ending of the second program says something of the first: a value does, and a stop where no answers are lacking
 abbrev pub Tells : {A : Type 0} → (lacking : Bool) → Ending A → Type 0
 Tells lacking (returned x) = Unit {0}
 Tells lacking (failed f) = ⊥
@@ -80,7 +80,7 @@ Returned R (returned y) x = R x y
 Returned R (failed f) x = ⊥
 Returned R stopped x = ⊥
 
--- where the second program's end tells something, the fact holds along the first, which returns only a related value
+-- where the second program's end says something, the fact holds along the first, which returns only a related value
 pub record Related (c : Comparison) {A : Type 0} (R : A → A → Type 0) (p m : Program A) : Type 0 where
   pub along : (end : Ending A) → Tells c.lacking end → EndsAs c.second c.known end m → AlongRun c.first c.lacking c.shown (Returned R end) p
 

@@ -1,4 +1,4 @@
--- Expanded lines by their numbers: each logical line stands at the number that it has in the file that is read.
+-- Expanded lines by their numbers: each logical line is at the number that it has in the file that is read.
 use Rattle.std.specs.Prelude.{◌≡◌, ℕ, zero, suc, ◌+◌, ◌==◌, List, [], ◌∷◌, take, drop, map, if◌then◌else◌}
 use Rattle.kc_tree_model.specs.LogicalLines.{PhysicalLine, without_return, is_continued, joined_bytes, continuation_count}
 use Rattle.kc_macros_model.specs.ReadingStates.{ReadingState, WrittenLine}
@@ -28,7 +28,7 @@ AreEmpty written n [] = Unit {0}
 AreEmpty written n (l ∷ ls) = (written n ≡ []) × AreEmpty written (n + 1) ls
 
 -- a logical line, given its physical lines, has the number `n` in an expanded file and this expanded text: the physical lines are
--- as they were read if that is the text of the logical line, else the text stands at `n`, and the lines after it are empty
+-- as they were read if that is the text of the logical line, else the text is at `n`, and the lines after it are empty
 pub data Stands (written : ℕ → List ℕ) (n : ℕ) (first : PhysicalLine) (joined : List PhysicalLine) (text : List ℕ) : List ℕ → Type 0 where
   as_read : AreAsRead written n (first ∷ joined) → Stands written n first joined text text
   replaced : {new : List ℕ} → written n ≡ new → AreEmpty written (n + 1) joined → Stands written n first joined text new

@@ -59,7 +59,7 @@ pub fn unused_answers_change_nothing()
 {}
 
 /// Where neither an answer nor the first file's path has a newline, an expanded file has its lines under the numbers that they have
-/// in the file that was read for it: what a logical line becomes stands at the number of its first physical line, the other
+/// in the file that was read for it: what a logical line becomes is at the number of its first physical line, the other
 /// lines that it took are empty, and a line that stays, or is of a help text, is as it was read. An expanded file has as many
 /// newlines as the file that was read for it. Any other file of an expanded tree is the list of the files of one `source` line.
 pub fn lines_are_kept()

@@ -7,7 +7,7 @@ use Rattle.kc_rules_model.specs.declared.values.UnitValue.{UnitValue}
 use Rattle.kc_dotconfig_model.specs.Formats.{FileFormat}
 use Rattle.kc_dotconfig_model.specs.declared.notice.Notice.{Notice}
 use Rattle.kc_dotconfig_model.specs.ConfigFiles.{notices_from}
-use Rattle.kc_dotconfig.specs.Fragments.{notice_pair}
+use Rattle.kc_dotconfig_model.specs.between.Notices.{notice_pair}
 use Rattle.kc_dotconfig.specs.ReadResults.{ReportsFault}
 use Rattle.kc_minimal.specs.declared.minimisation.RunFault.{RunFault}
 use Rattle.kc_minimal.specs.declared.minimisation.RunFault.TheVariants.{Load, Memory, Write}

@@ -98,7 +98,7 @@ y_stays values u s (l ∷ lines) ys all other any = go (s == l.member) refl (y_s
   ]
 
 module _ (language : Language) (values : List UnitValue) (u : ℕ) where
-  -- after the unit's own value: it stays its own, or comes behind true assignments
+  -- after the unit's own value: it stays its own, or comes after true assignments
   after_meant : (x : UserValue) → user_meant language values u ≡ Some x → (before after : Bool) → after ≡ true → (o : Option UserValue)
       → IsGiven language values u before o → IsGiven language values u after (Some (over x o))
   after_meant x is before after e o (inl held) =

@@ -81,7 +81,7 @@ fn is_by_imply(case: Case) -> bool
     matches!(case, Case::Tri(TriCase::Imply | TriCase::Dependency, _))
 }
 
-/// Whether the selects are told: where they are given, and where the symbol is selected above its direct dependency.
+/// Whether the selects are listed: where they are given, and where the symbol is selected above its direct dependency.
 fn are_selects_told(
     under: &Valuation<'_>,
     symbol: &Symbol<'_>,
@@ -94,7 +94,7 @@ fn are_selects_told(
     is_by_select(case, hindrance) || is_symbol_unmet(under, symbol)
 }
 
-/// The selects or implies that decide, if they are told.
+/// The selects or implies that decide, if they are listed.
 fn decisive_if(
     alloc: Global,
     under: &Valuation<'_>,

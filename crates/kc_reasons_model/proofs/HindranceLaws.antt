@@ -82,7 +82,7 @@ looked_for p MemberHidden all = all.1.1.1.1.1.1.1.1.1.0
 looked_for p LaterY all = all.1.1.1.1.1.1.1.1.1.1.0
 looked_for p FirstOfAll all = all.1.1.1.1.1.1.1.1.1.1.1.0
 
--- a tristate's value with the user value a, where r and l tell whether `m` becomes `y`
+-- a tristate's value with the user value a, where r and l say whether `m` becomes `y`
 abbrev with_user : (r l : Bool) → (a v s un : Tri) → Tri
 with_user r l a v s un =
     let t = tri_or (cond (not (is_n v)) (tri_and a v) un) s in
@@ -402,7 +402,7 @@ missed_hindered profile tree users values s symbol solves is inside fits one =
     ∙ ap (λ v. is_missed_as symbol.choice s (user_of users u) v) (solves.holds u inside)
     ∙ missed_as profile tree u s values symbol.choice (user_of users u) fits one (no_lines_alone tree s symbol is)
 
--- what is told is what was found
+-- what is reported is what was found
 found_unless : (b : Bool) (o : Option Hindrance) (h : Hindrance) → cond b None o ≡ Some h → o ≡ Some h
 found_unless true o h e = absurd (cc)
 found_unless false o h e = e

@@ -23,7 +23,7 @@ module _ (u s : ℕ) where
   abbrev At : ℕ → List (List LineMeaning) → ℕ → AssigningPlace → Type 0
   At f files k p = IsPlaceIn u s f files k p
 
-  -- behind one more file
+  -- after one more file
   shift : (f : ℕ) (meanings : List LineMeaning) (files : List (List LineMeaning)) (k : ℕ) (p : AssigningPlace) → At (f + 1) files k p → At f (meanings ∷ files) (suc k) p
   shift f meanings files k p h = record { meanings = h.meanings; is = h.is; number = (let e = h.number in omega arith); here = h.here }
 

@@ -1,4 +1,4 @@
--- The parts that stand on lines are those of the condition.
+-- The parts that are on lines are those of the condition.
 use Rattle.kc_reasons_model.proofs.Common.{◌≡◌, ℕ, Bool, true, false, cond, List, [], ◌∷◌, ◌++◌, map, filter, Option, Some, None, slice_get, unwrap_or, refl, sym, ◌∙◌, ap, append_assoc, append-nil, cons_option, filter_map, flat_map, option_map, option_to_list, filter-append, Tri, N, M, Expr}
 use Rattle.kc_reasons_model.proofs.Common.{Environment, alone, constant, both, shown, is_n, Attribute, prompt_of, Group, Line, Context, context, attribute_values, attribute_condition, prompt_condition, Part, conjuncts, lacks, lacking, LocatedExpr, LocatedContext, located_dependencies}
 use Rattle.kc_reasons_model.proofs.Common.{located_prompt, located_context, wanted_of, lacking_located}
@@ -36,7 +36,7 @@ module _ (names : Environment) where
     go None rest = rest
     go (Some e) rest = ap (λ xs. lacking names t e ++ xs) rest
 
-  -- what stands round a place, with its lines
+  -- what is around a place, with its lines
   record Same (t : Tri) (enclosing : Context) (stood : LocatedContext) : Type 0 where
     dependencies : flat_map (lacking names t) enclosing.dependencies ≡ lacking_located names t stood.dependencies
     visibles : flat_map (lacking names t) enclosing.visibles ≡ lacking_located names t stood.visibles

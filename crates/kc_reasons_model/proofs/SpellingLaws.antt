@@ -51,7 +51,7 @@ read _ zero _ plain fits = absurd (omega arith)
 pub read_back : SpelledIsReadBack
 read_back e plain = read ors (depth ors e) e plain (omega arith)
 
--- what is escaped stands for the text
+-- what is escaped means the text
 unescaped_escaped : (x : List ℕ) → unescaped false (flat_map escaped_byte x) ≡ x
 unescaped_escaped [] = refl
 unescaped_escaped (c ∷ cs) = go (c == 34) refl (c == 92) refl (unescaped_escaped cs) where
@@ -60,7 +60,7 @@ unescaped_escaped (c ∷ cs) = go (c == 34) refl (c == 92) refl (unescaped_escap
   go false e true f rest = ap (λ t. c ∷ t) rest
   go false e false f rest = rw f (ap (λ t. c ∷ t) rest)
 
--- what stands between the quotes of a spelling
+-- what is between the quotes of a spelling
 between : (ts : List ℕ) → between_quotes (34 ∷ (ts ++ 34 ∷ [])) ≡ ts
 between ts =
     let xs = ts ++ 34 ∷ [] in

@@ -349,7 +349,7 @@ descend_ended levels words word was small =
 
 -- ---- the calls
 
--- a set after one bit of its last level is written in a copy of its words, which is put back in front of what stood behind them
+-- a set after one bit of its last level is written in a copy of its words, which is put back in front of what was after them
 pub record HasWritten (levels first size : ℕ) (old new : List ℕ) (bit : ℕ) (on : Bool) : Type 0 where
   pub tree : IsTree levels first size new
   pub here : has new bit ≡ on

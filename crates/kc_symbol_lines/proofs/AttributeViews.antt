@@ -1,25 +1,14 @@
 -- What an attribute of the code is, by the definitions.
-use Rattle.kc_symbol_lines.proofs.Common.{◌≡◌, ℕ, ◌<◌, cond, length, Option, Some, None, refl, option_map, IfSome, Expr, Exprs, node_expr, attribute_in, if_in, AttributeNodesExist, Attribute, TargetAttribute, Conjuncts, Dependencies, Visibles, ReverseKind, conjunct_given, prompt_given, is_given}
-use Rattle.kc_statements.specs.between.StatementViews.{IfNodeExists}
-use Rattle.kc_statements.specs.declared.statement.Attribute.{Attribute as CodeAttribute}
+use Rattle.kc_symbol_lines.proofs.Common.{◌≡◌, ◌<◌, cond, length, Option, Some, None, refl, option_map, IfSome, Exprs, attribute_in, if_in, AttributeNodesExist, Attribute, TargetAttribute, ReverseKind, prompt_given, is_given, CodeAttribute}
+use Rattle.kc_conditions.proofs.Growth.{if_there}
 use Rattle.kc_statements.specs.declared.statement.Attribute.TheVariants as attributes
 use Rattle.kc_tree_model.specs.Statements as model
 use Rattle.kc_symbol_lines.specs.declared.own_lines.Given.TheVariants as given
 use Rattle.kc_statements.specs.declared.statement.ReverseKind.TheVariants as kinds
 
-abbrev pub part_meant : Conjuncts → Attribute → Option Expr
-part_meant Dependencies a = model.depends_of a
-part_meant Visibles a = model.visible_of a
-
 abbrev pub target_meant : ReverseKind → Attribute → Option TargetAttribute
 target_meant kinds.Select a = model.select_of a
 target_meant kinds.Imply a = model.imply_of a
-
-pub part_is : (e : Exprs) (part : Conjuncts) (a : CodeAttribute) → option_map (node_expr e) (conjunct_given part a) ≡ part_meant part (attribute_in e a)
-part_is e Dependencies (attributes.Depends i) = refl
-part_is e Dependencies a = refl
-part_is e Visibles (attributes.Visible i) = refl
-part_is e Visibles a = refl
 
 pub prompt_is : (e : Exprs) (a : CodeAttribute) → option_map (if_in e) (prompt_given a) ≡ model.prompt_of (attribute_in e a)
 prompt_is e (attributes.TypedPrompt k c) = refl
@@ -38,17 +27,7 @@ range_is e x (attributes.Range r) = refl
 range_is e x a = refl
 
 -- the expressions of attributes are nodes of the arena
-pub part_held : (e : Exprs) (part : Conjuncts) (a : CodeAttribute) → AttributeNodesExist e a → IfSome (conjunct_given part a) (λ i. i < length e.nodes)
-part_held e Dependencies (attributes.Depends i) h = h
-part_held e Dependencies a h = tt
-part_held e Visibles (attributes.Visible i) h = h
-part_held e Visibles a h = tt
-
-if_held : (e : Exprs) (c : Option ℕ) → IfNodeExists e c → IfSome c (λ i. i < length e.nodes)
-if_held e None h = tt
-if_held e (Some i) h = h
-
 pub prompt_held : (e : Exprs) (a : CodeAttribute) → AttributeNodesExist e a → IfSome (prompt_given a) (λ c. IfSome c (λ i. i < length e.nodes))
-prompt_held e (attributes.TypedPrompt k c) h = if_held e c h
-prompt_held e (attributes.Prompt c) h = if_held e c h
+prompt_held e (attributes.TypedPrompt k c) h = if_there e c h
+prompt_held e (attributes.Prompt c) h = if_there e c h
 prompt_held e a h = tt

@@ -1,29 +1,20 @@
 -- The blocks around each group.
 use Rattle.std.proofs.Common.{below_more, length-append}
-use Rattle.kc_symbol_lines.proofs.Common.{◌≡◌, ℕ, zero, suc, ◌+◌, ◌<◌, List, [], ◌∷◌, ◌++◌, length, drop, map, Option, Some, None, refl, ap, sym, ◌∙◌, subst, arith, slice_get, unwrap_or, option_map, IfSome, All, All-nil, All-cons, Exprs, RepresentsHead, Group, GroupHead, side_of, opening, closing}
-use Rattle.kc_symbol_lines.proofs.Common.{inside, open_blocks, read_before, block_at, block_after, IsChain, open_numbers, HasBlocksTo}
-use Rattle.kc_parser.specs.declared.listing.GroupHead.{GroupHead as CodeHead}
+use Rattle.std.proofs.Math.Seq.{get_or-append_seam}
+use Rattle.std.proofs.lemmas.List.{get_or_append_left}
+use Rattle.kc_symbol_lines.proofs.Common.{◌≡◌, ℕ, suc, ◌+◌, ◌<◌, List, [], ◌∷◌, ◌++◌, length, drop, map, Option, Some, None, refl, ap, sym, ◌∙◌, subst, arith, unwrap_or, option_map, IfSome, All, All-nil, All-cons, Exprs, RepresentsHead, Group, side_of, opening, closing, inside, open_blocks}
+use Rattle.kc_symbol_lines.proofs.Common.{read_before, block_at, block_after, IsChain, open_numbers, HasBlocksTo, unwrap_or-slice_get, CodeHead}
 use Rattle.kc_parser.specs.declared.listing.GroupHead.TheVariants as codes
 use Rattle.kc_tree_model.proofs.NestedTrees.OpenBlocks.{pushed, popped, open_inside}
 use Rattle.kc_symbol_lines.specs.checker.Blocks.{outer_block}
 
-get_first : {X : Type 0} (xs ys : List X) (i : ℕ) → i < length xs → slice_get (xs ++ ys) i ≡ slice_get xs i
-get_first [] ys i h = absurd (omega arith)
-get_first (x ∷ xs) ys zero h = refl
-get_first (x ∷ xs) ys (suc i) h = get_first xs ys i (omega arith)
-
-get_last : {X : Type 0} (xs : List X) (x : X) (i : ℕ) → i ≡ length xs → slice_get (xs ++ x ∷ []) i ≡ Some x
-get_last xs x i e = ap (slice_get (xs ++ x ∷ [])) e ∙ at_end xs
-  where
-    at_end : (ys : List _) → slice_get (ys ++ x ∷ []) (length ys) ≡ Some x
-    at_end [] = refl
-    at_end (y ∷ ys) = at_end ys
-
 pub kept_at : (blocks : List (Option ℕ)) (x : Option ℕ) (i : ℕ) → i < length blocks → block_at (blocks ++ x ∷ []) i ≡ block_at blocks i
-kept_at blocks x i h = ap (λ o. unwrap_or o None) (get_first blocks (x ∷ []) i h)
+kept_at blocks x i h =
+    unwrap_or-slice_get (blocks ++ x ∷ []) i None ∙ get_or_append_left blocks (x ∷ []) None i h ∙ sym (unwrap_or-slice_get blocks i None)
 
 new_at : (blocks : List (Option ℕ)) (x : Option ℕ) (i : ℕ) → i ≡ length blocks → block_at (blocks ++ x ∷ []) i ≡ x
-new_at blocks x i e = ap (λ o. unwrap_or o None) (get_last blocks x i e)
+new_at blocks x i e =
+    ap (block_at (blocks ++ x ∷ [])) e ∙ unwrap_or-slice_get (blocks ++ x ∷ []) (length blocks) None ∙ get_or-append_seam blocks x [] None
 
 -- a chain stays one as blocks are appended
 pub chain_more : (blocks : List (Option ℕ)) (x block : Option ℕ) (numbers : List ℕ) → IsChain blocks block numbers → IsChain (blocks ++ x ∷ []) block numbers
@@ -88,12 +79,6 @@ pub record IsWalked (i : ℕ) (blocks : List (Option ℕ)) (block : Option ℕ) 
   pub before : HasBlocksTo i blocks read
   pub now : IsChain blocks block (open_numbers read i)
 
-pub nothing_walked : (blocks : List (Option ℕ)) (read : List Group) → blocks ≡ [] → read_before 0 read ≡ [] → IsWalked 0 blocks None read
-nothing_walked blocks read e none = record {
-  before = record { many = ap length e; chains = λ i h. absurd (omega arith) };
-  now = subst (λ (gs : List Group). IsChain blocks None (map (λ (g : Group). g.number) (open_blocks 0 gs))) (sym none) tt;
-}
-
 module _ (i : ℕ) (blocks : List (Option ℕ)) (block : Option ℕ) (read : List Group) (g : Group) (w : IsWalked i blocks block read)
     (number : g.number ≡ i) (now : read_before (i + 1) read ≡ g ∷ read_before i read) where
   abbrev held : List (Option ℕ)
@@ -153,8 +138,7 @@ module _ (i : ℕ) (blocks : List (Option ℕ)) (block : Option ℕ) (read : Lis
   by_head e names texts (codes.Comment t) r = passed (ap side_of r.2)
   by_head e names texts (codes.Source t) r = opened (ap side_of r.2)
   by_head e names texts codes.Mainmenu r = passed (ap side_of r)
-  by_head e names texts (codes.Ends b) r = closed (ap side_of r)
-  by_head e names texts codes.FileEnd r = closed (ap side_of r)
+  by_head e names texts x r = closed (ap side_of r)
 
   pub walked_more : (e : Exprs) (names texts : List (List ℕ)) (h : CodeHead) (blocks2 : List (Option ℕ)) (block2 : Option ℕ) → RepresentsHead e names texts h g.head
       → blocks2 ≡ held → block2 ≡ block_after blocks2 block h i → IsWalked (i + 1) blocks2 block2 read

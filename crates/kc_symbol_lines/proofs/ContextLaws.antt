@@ -1,26 +1,20 @@
 -- The conditions that enclose what is inside blocks are those of the definitions.
-use Rattle.kc_symbol_lines.proofs.Common.{◌≡◌, inl, inr, ℕ, Bool, true, false, List, [], ◌∷◌, ◌++◌, map, Option, Some, None, refl, ap, sym, ◌∙◌, subst, slice_get, option_map, unwrap_or, map-append, Exprs, node_expr, RepresentsHead, RepresentsGroup, line_in, Group, GroupHead, names_defined, Has}
-use Rattle.kc_symbol_lines.proofs.Common.{LocatedContext, located_at, located_prompts, located_context, HasLines, TreeLines, Visibles, located_view, all_located, EnclosingLists, position_at, located_if, parts_in, dependency_parts, prompts_in, as_choice_part, shown_parts, inside_menu, inside_choice}
-use Rattle.kc_symbol_lines.proofs.Common.{inside_head, inside_blocks}
+use Rattle.kc_symbol_lines.proofs.Common.{◌≡◌, inl, inr, ℕ, Bool, true, false, List, [], ◌∷◌, ◌++◌, map, Option, Some, None, refl, ap, sym, ◌∙◌, slice_get, option_map, unwrap_or, map-append, Exprs, node_expr, RepresentsHead, RepresentsGroup, Group, GroupHead, names_defined, Has, LocatedContext}
+use Rattle.kc_symbol_lines.proofs.Common.{located_at, located_context, HasLines, TreeLines, Visibles, located_view, all_located, EnclosingLists, position_at, located_if, parts_in, prompts_in, as_choice_part, shown_parts, inside_menu, inside_choice, inside_head, inside_blocks, CodeGroup, CodeLine}
+use Rattle.kc_symbol_lines.proofs.Common.{CodeHead, CodeLocated}
 use Rattle.std.proofs.lemmas.Option.{slice_get-map}
 use Rattle.kc_value.specs.declared.tri.Tri.TheVariants.{N}
 use Rattle.kc_expr.specs.Expr.{alone, constant}
-use Rattle.kc_parser.specs.declared.listing.Group.{Group as CodeGroup}
-use Rattle.kc_parser.specs.declared.listing.Line.{Line as CodeLine}
-use Rattle.kc_parser.specs.declared.listing.GroupHead.{GroupHead as CodeHead}
 use Rattle.kc_parser.specs.declared.listing.GroupHead.TheVariants as codes
 use Rattle.kc_tree_model.specs.Statements as model
 use Rattle.kc_tree_model.specs.Blocks.{of_head}
 use Rattle.kc_reasons_model.specs.Places.{LocatedExpr, as_choice_parts, located_choice, located_inside_menu, located_inside}
-use Rattle.kc_symbol_lines.specs.declared.located.LocatedExpr.{LocatedExpr as CodeLocated}
 use Rattle.kc_symbol_lines.proofs.OwnLineLaws.{context_view, parts_located, dependencies_located, prompts_located}
-use Rattle.kc_symbol_lines.proofs.PlacedGroups.{numbered}
+use Rattle.kc_symbol_lines.proofs.PlacedGroups.{shown_of}
 
 same_context : (ds es vs ws : List LocatedExpr) → ds ≡ es → vs ≡ ws
     → (let c : LocatedContext = record { dependencies = ds; visibles = vs } in c) ≡ record { dependencies = es; visibles = ws }
-same_context ds es vs ws d v =
-    ap (λ xs. let c : LocatedContext = record { dependencies = xs; visibles = vs } in c) d
-    ∙ ap (λ xs. let c : LocatedContext = record { dependencies = es; visibles = xs } in c) v
+same_context ds es vs ws d v = rw (d, v) refl
 
 marked : (e : Exprs) (ps : List CodeLocated) → all_located e (map as_choice_part ps) ≡ as_choice_parts (all_located e ps)
 marked e [] = refl
@@ -66,9 +60,7 @@ module _ (e : Exprs) (off : ℕ) (is_n : node_expr e off ≡ alone (constant N))
       ∙ ap (λ v. located_inside through v (context_view e a) g) (sym k.1)
   by_head through (codes.Comment t) w k = rw k.2 refl
   by_head through (codes.Source t) w k = rw k.2 refl
-  by_head through codes.Mainmenu w k = rw k refl
-  by_head through (codes.Ends b) w k = rw k refl
-  by_head through codes.FileEnd w k = rw k refl
+  by_head through x w k = rw k refl
 
   pub inside_located : (through : Bool) → context_view e (inside_head through off code.head a code.file code.line ls) ≡ located_inside through g.head (context_view e a) g
   inside_located through = by_head through code.head g.head r.head
@@ -79,7 +71,7 @@ pub blocks_located : (e : Exprs) (lines : TreeLines) (read : List Group) → Has
     → context_view e (inside_blocks through lines.no lines.groups.items lines.lines.items (map (λ (g : Group). g.number) opened)) ≡ located_context through opened
 blocks_located e lines read h through [] k = refl
 blocks_located e lines read h through (g ∷ outer) k =
-    let n = numbered e lines read h g (k g (inl refl)) in
-    inside_located e lines.no h.no_is.is (names_defined read) n.texts _ _ _ g n.shown
+    let n = shown_of e lines read h g (k g (inl refl)) in
+    inside_located e lines.no h.no_is.is (names_defined read) h.texts _ _ _ g n.shown
     (inside_blocks through lines.no lines.groups.items lines.lines.items (map (λ (m : Group). m.number) outer)) through
     ∙ ap (λ c. located_inside through g.head c g) (blocks_located e lines read h through outer (λ m i. k m (inr i)))

@@ -1,6 +1,6 @@
 -- Steps of a walk over a symbol's definitions.
 use Rattle.std.proofs.Common.{add-one, drop-cons}
-use Rattle.kc_symbol_lines.proofs.Common.{◌≡◌, ℕ, ◌+◌, ◌<◌, List, [], ◌∷◌, ◌++◌, length, get_or, drop, map, refl, ap, sym, ◌∙◌, subst, append_assoc, append-nil, flat_map, DefinitionLines, EnclosingLists}
+use Rattle.kc_symbol_lines.proofs.Common.{◌≡◌, ℕ, ◌+◌, ◌<◌, List, [], ◌∷◌, ◌++◌, length, get_or, drop, map, ap, sym, ◌∙◌, subst, append_assoc, append-nil, flat_map, DefinitionLines, EnclosingLists}
 use Rattle.std.proofs.Math.Seq.{drop-length}
 use Rattle.kc_parser.specs.declared.listing.Line.{Line}
 use Rattle.kc_symbol_lines.specs.checker.Definitions.{HasEntry}

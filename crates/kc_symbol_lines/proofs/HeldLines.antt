@@ -1,15 +1,13 @@
--- What stands on the lines of a tree are expressions of its arena.
-use Rattle.kc_symbol_lines.proofs.Common.{◌≡◌, inl, inr, ℕ, zero, suc, ◌+◌, ◌<◌, Bool, true, false, List, [], ◌∷◌, ◌++◌, length, map, take, Option, Some, None, refl, sym, subst, ◌∙◌, arith, slice_get, flat_map, All, IfSome, Vec, All-nil, All-cons, Exprs, RepresentsHead, LineNodesExist, Group}
-use Rattle.kc_symbol_lines.proofs.Common.{GroupHead, names_defined, Has, HasLines, TreeLines, Conjuncts, Dependencies, Visibles, LocatedExpr, IsHeld, AreHeld, conjunct_given, prompt_given, each_items, EnclosingLists, position_at, located_if, parts_in, dependency_parts, prompt_parts, prompt_at}
-use Rattle.kc_symbol_lines.proofs.Common.{prompts_in, as_choice_part, shown_parts, inside_menu, inside_choice, inside_head, inside_blocks, lines_at, All-take}
+-- What is on the lines of a tree are expressions of its arena.
+use Rattle.kc_symbol_lines.proofs.Common.{◌≡◌, inl, inr, ℕ, suc, ◌<◌, Bool, true, false, List, [], ◌∷◌, ◌++◌, length, map, Option, Some, None, refl, sym, subst, arith, slice_get, flat_map, All, IfSome, Vec, All-nil, All-cons, Exprs, RepresentsHead, LineNodesExist, Group, GroupHead, names_defined}
+use Rattle.kc_symbol_lines.proofs.Common.{Has, HasLines, TreeLines, Conjuncts, Dependencies, Visibles, LocatedExpr, IsHeld, AreHeld, conjunct_given, prompt_given, each_items, EnclosingLists, position_at, located_if, parts_in, dependency_parts, prompt_at, prompts_in, as_choice_part, shown_parts}
+use Rattle.kc_symbol_lines.proofs.Common.{inside_menu, inside_choice, inside_head, inside_blocks, lines_at, All-take, CodeGroup, CodeLine, CodeHead}
 use Rattle.std.proofs.lemmas.List.Elements.{All-append, All-map}
-use Rattle.kc_parser.specs.declared.listing.Group.{Group as CodeGroup}
-use Rattle.kc_parser.specs.declared.listing.Line.{Line as CodeLine}
-use Rattle.kc_parser.specs.declared.listing.GroupHead.{GroupHead as CodeHead}
 use Rattle.kc_parser.specs.declared.listing.GroupHead.TheVariants as codes
 use Rattle.kc_symbol_lines.specs.declared.located.Position.{Position}
-use Rattle.kc_symbol_lines.proofs.AttributeViews.{part_held, prompt_held}
-use Rattle.kc_symbol_lines.proofs.PlacedGroups.{numbered}
+use Rattle.kc_conditions.proofs.Growth.{reported_there}
+use Rattle.kc_symbol_lines.proofs.AttributeViews.{prompt_held}
+use Rattle.kc_symbol_lines.proofs.PlacedGroups.{shown_of}
 use Rattle.std.proofs.lemmas.List.Elements.{All-drop}
 
 module _ (e : Exprs) where
@@ -25,7 +23,7 @@ module _ (e : Exprs) where
   parts_held part file [] h = All-nil (IsHeld e)
   parts_held part file (l ∷ ls) h =
       All-append (IsHeld e) (located_if (position_at file l.number) (conjunct_given part l.attribute)) (parts_in part file ls)
-      (one_held (position_at file l.number) (conjunct_given part l.attribute) (part_held e part l.attribute (h 0 l (omega arith))))
+      (one_held (position_at file l.number) (conjunct_given part l.attribute) (reported_there part e l.attribute (h 0 l (omega arith))))
       (parts_held part file ls (λ i d b. h (suc i) d (omega arith)))
 
   module _ (file : ℕ) (all : List CodeLine) (own : All (LineNodesExist e) all) (a : EnclosingLists) (outer : AreHeldLists a) where
@@ -76,12 +74,7 @@ module _ (e : Exprs) where
       dependencies = All-append (IsHeld e) a.dependencies (located_if (position_at file line) (Some i)) outer.dependencies (one_held (position_at file line) (Some i) r.0);
       visibles = outer.visibles;
     }
-    head_held through off line names texts (codes.Config s) w n r = outer
-    head_held through off line names texts (codes.Comment t) w n r = outer
-    head_held through off line names texts (codes.Source t) w n r = outer
-    head_held through off line names texts codes.Mainmenu w n r = outer
-    head_held through off line names texts (codes.Ends b) w n r = outer
-    head_held through off line names texts codes.FileEnd w n r = outer
+    head_held through off line names texts x w n r = outer
 
 -- lines of a group
 pub own_held : (e : Exprs) (groups : List CodeGroup) (lines : List CodeLine) (i : ℕ) → All (LineNodesExist e) lines → All (LineNodesExist e) (lines_at groups lines i)
@@ -92,10 +85,10 @@ pub blocks_held : (e : Exprs) (lines : TreeLines) (read : List Group) → HasLin
     → AreHeldLists e (inside_blocks through lines.no lines.groups.items lines.lines.items (map (λ (g : Group). g.number) opened))
 blocks_held e lines read h through [] k = record { dependencies = All-nil (IsHeld e); visibles = All-nil (IsHeld e) }
 blocks_held e lines read h through (g ∷ outer) k =
-    let n = numbered e lines read h g (k g (inl refl)) in
+    let n = shown_of e lines read h g (k g (inl refl)) in
     head_held e _ (lines_at lines.groups.items lines.lines.items g.number) (own_held e lines.groups.items lines.lines.items g.number h.held)
     (inside_blocks through lines.no lines.groups.items lines.lines.items (map (λ (m : Group). m.number) outer))
-    (blocks_held e lines read h through outer (λ m i. k m (inr i))) through lines.no _ (names_defined read) n.texts _ g.head h.no_is.within n.shown.head
+    (blocks_held e lines read h through outer (λ m i. k m (inr i))) through lines.no _ (names_defined read) h.texts _ g.head h.no_is.within n.shown.head
 
 -- lists of lists
 pub each_held : (e : Exprs) (vs : List (Vec LocatedExpr)) (pss : List (List LocatedExpr)) → each_items vs ≡ pss → All (All (IsHeld e)) pss → AreHeld e vs

@@ -1,8 +1,7 @@
 -- The lines that the index finds are those of a symbol.
-use Rattle.kc_symbol_lines.proofs.Common.{◌≡◌, inl, inr, ℕ, zero, suc, ◌+◌, ◌<◌, Bool, true, false, cond, List, [], ◌∷◌, ◌++◌, length, map, take, Option, Some, None, refl, ap, sym, subst, ◌∙◌, arith, slice_get, flat_map, is_some, All, Vec, map-append, length-map, All-nil, All-cons, All-take, Exprs}
-use Rattle.kc_symbol_lines.proofs.Common.{Language, is_linux_6_12, Tree, Symbol, Group, Position, open_blocks, GroupInContext, groups_in_context, Contents, contents_of, definitions_of, symbol_of, names_defined, Has, get_below, located_context, located_prompts, located_dependencies}
-use Rattle.kc_symbol_lines.proofs.Common.{attribute_positions, TreeModel, read_before, group_at, HasLines, TreeLines, LocatedExpr, SymbolLines, DefinitionLines, GatheredLines, position_view, all_located, IsHeld, AreHeld, HasBlocks, open_numbers, lines_at, AreDefinitionLines, prompts_at}
-use Rattle.kc_symbol_lines.proofs.Common.{dependency_at, defaults_at, ranges_at, each_items, AreGathered}
+use Rattle.kc_symbol_lines.proofs.Common.{◌≡◌, inl, inr, ℕ, zero, suc, ◌+◌, ◌<◌, Bool, true, false, cond, List, [], ◌∷◌, ◌++◌, length, map, take, Option, Some, None, refl, ap, sym, subst, ◌∙◌, arith, slice_get, flat_map, is_some, All, Vec, map-append, length-map, All-take, Exprs, Language}
+use Rattle.kc_symbol_lines.proofs.Common.{is_linux_6_12, Tree, Symbol, Group, open_blocks, GroupInContext, groups_in_context, contents_of, definitions_of, symbol_of, names_defined, Has, get_below, located_context, located_prompts, located_dependencies, attribute_positions, TreeModel, read_before}
+use Rattle.kc_symbol_lines.proofs.Common.{HasLines, TreeLines, LocatedExpr, SymbolLines, DefinitionLines, GatheredLines, position_view, all_located, IsHeld, AreHeld, HasBlocks, AreDefinitionLines, prompts_at, dependency_at, defaults_at, ranges_at, each_items, AreGathered}
 use Rattle.std.proofs.lemmas.List.{take-map}
 use Rattle.kc_tree_model.specs.Statements as model
 use Rattle.kc_tree_model.specs.Contents.{defines, choice_of_symbol, own_dependencies, tree_of_groups}
@@ -13,16 +12,16 @@ use Rattle.kc_reasons_model.specs.SymbolLines.{lines_of_symbol}
 use Rattle.kc_reasons_model.specs.SymbolLines as lines_model
 use Rattle.kc_tree.specs.between.GroupedItems.{IsGrouped}
 use Rattle.kc_symbol_lines.specs.declared.own_lines.Given.TheVariants.{Default, Range}
-use Rattle.kc_symbol_lines.specs.declared.located.Position.{Position as CodePosition}
 use Rattle.kc_symbol_lines.specs.declared.index.LineIndex.{LineIndex}
 use Rattle.kc_symbol_lines.specs.between.LinesView.{each_located, symbol_lines_view}
 use Rattle.kc_symbol_lines.specs.between.Indexes.{IsIndexOf}
 use Rattle.kc_symbol_lines.specs.checker.Definitions.{around_group}
+use Rattle.kc_checks.proofs.MemberMarks.{all_has}
 use Rattle.kc_symbol_lines.proofs.AttributeViews.{default_is, range_is}
 use Rattle.kc_symbol_lines.proofs.ContextLaws.{blocks_located}
 use Rattle.kc_symbol_lines.proofs.HeldLines.{own_held, blocks_held, dependencies_held, prompts_held, each_held, all_held, mapped_held}
 use Rattle.kc_symbol_lines.proofs.OwnLineLaws.{context_view, prompts_located, dependencies_located, places_located}
-use Rattle.kc_symbol_lines.proofs.PlacedGroups.{many_groups, placed, opened_read, dropped_read}
+use Rattle.kc_symbol_lines.proofs.PlacedGroups.{placed, opened_read, dropped_read}
 
 pub many_symbols : (t : TreeModel) (read : List Group) → t.tree ≡ tree_of_groups t.tree.language read → length t.tree.symbols ≡ length (names_defined read)
 unfolding tree_of_groups
@@ -160,11 +159,10 @@ module _ (e : Exprs) (language : Language) (lines : TreeLines) (read : List Grou
         from_map (p ∷ ps) (inr j) = let r = from_map ps j in (r.0, inr r.1, r.2)
 
     pub numbers_below : All (λ k. k < length lines.groups.items) numbers
-    numbers_below = below numbers (λ k i. let r = numbers_there k i in let q = placed e lines read h r.0 (own_there r.0 r.1) in omega (arith, q.0.below, r.2))
-      where
-        below : (ns : List ℕ) → ((k : ℕ) → Has k ns → k < length lines.groups.items) → All (λ k. k < length lines.groups.items) ns
-        below [] j = All-nil (λ k. k < length lines.groups.items)
-        below (n ∷ ns) j = All-cons (λ k. k < length lines.groups.items) n ns (j n (inl refl)) (below ns (λ k i. j k (inr i)))
+    numbers_below = all_has (λ k. k < length lines.groups.items) numbers (λ k i.
+        let r = numbers_there k i in
+        let q = placed e lines read h r.0 (own_there r.0 r.1) in
+        omega (arith, q.0.below, r.2))
 
     module _ (found : DefinitionLines) (are : AreDefinitionLines through lines read numbers found) where
       pub own_prompts_held : AreHeld e found.prompts.items
@@ -206,12 +204,9 @@ module _ (e : Exprs) (language : Language) (lines : TreeLines) (read : List Grou
   same_lines : (a b : lines_model.SymbolLines) → a.prompts ≡ b.prompts → a.direct ≡ b.direct → a.defaults ≡ b.defaults → a.ranges ≡ b.ranges
       → a.selectors ≡ b.selectors → a.impliers ≡ b.impliers → a ≡ b
   same_lines a b p d f r s i =
-      ap (λ x. let l : lines_model.SymbolLines = record { prompts = x; direct = a.direct; defaults = a.defaults; ranges = a.ranges; selectors = a.selectors; impliers = a.impliers } in l) p
-      ∙ ap (λ x. let l : lines_model.SymbolLines = record { prompts = b.prompts; direct = x; defaults = a.defaults; ranges = a.ranges; selectors = a.selectors; impliers = a.impliers } in l) d
-      ∙ ap (λ x. let l : lines_model.SymbolLines = record { prompts = b.prompts; direct = b.direct; defaults = x; ranges = a.ranges; selectors = a.selectors; impliers = a.impliers } in l) f
-      ∙ ap (λ x. let l : lines_model.SymbolLines = record { prompts = b.prompts; direct = b.direct; defaults = b.defaults; ranges = x; selectors = a.selectors; impliers = a.impliers } in l) r
-      ∙ ap (λ x. let l : lines_model.SymbolLines = record { prompts = b.prompts; direct = b.direct; defaults = b.defaults; ranges = b.ranges; selectors = x; impliers = a.impliers } in l) s
-      ∙ ap (λ x. let l : lines_model.SymbolLines = record { prompts = b.prompts; direct = b.direct; defaults = b.defaults; ranges = b.ranges; selectors = b.selectors; impliers = x } in l) i
+      let all : (let l : lines_model.SymbolLines = record { prompts = a.prompts; direct = a.direct; defaults = a.defaults; ranges = a.ranges; selectors = a.selectors; impliers = a.impliers } in l) ≡ b =
+      rw (p, d, f, r, s, i) refl in
+      all
 
   -- the lines that are found of a symbol with this name
   pub lines_are : (name : List ℕ) (found : DefinitionLines) (numbers : List ℕ) (result : SymbolLines) → AreDefinitionLines through lines read numbers found

@@ -1,14 +1,12 @@
 -- What the code finds on a group's lines is what the definitions say.
-use Rattle.kc_symbol_lines.proofs.Common.{◌≡◌, ℕ, Bool, true, false, cond, List, [], ◌∷◌, ◌++◌, map, Option, Some, None, refl, ap, sym, ◌∙◌, filter_map, option_map, option_to_list, cons_option, map-append, Expr, Exprs, node_expr, attribute_in, if_in, line_in, Attribute, Group, Line, Position}
-use Rattle.kc_symbol_lines.proofs.Common.{LocatedContext, located_at, located_dependencies, located_prompts, attribute_positions, position_of, Conjuncts, Dependencies, Visibles, position_view, located_view, all_located, conjunct_given, prompt_given, is_given, EnclosingLists, position_at, located_if}
-use Rattle.kc_symbol_lines.proofs.Common.{parts_in, places_in, dependency_parts, prompt_parts, prompt_at, prompts_in}
-use Rattle.kc_statements.specs.declared.statement.Attribute.{Attribute as CodeAttribute}
-use Rattle.kc_parser.specs.declared.listing.Line.{Line as CodeLine}
+use Rattle.kc_symbol_lines.proofs.Common.{◌≡◌, ℕ, Bool, true, false, cond, List, [], ◌∷◌, ◌++◌, map, Option, Some, None, refl, ap, sym, ◌∙◌, filter_map, option_map, option_to_list, cons_option, map-append, Exprs, node_expr, attribute_in, if_in, line_in, Attribute, Group, Line, Position}
+use Rattle.kc_symbol_lines.proofs.Common.{LocatedContext, located_at, located_dependencies, located_prompts, attribute_positions, position_of, Conjuncts, Dependencies, position_view, located_view, all_located, conjunct_given, prompt_given, is_given, EnclosingLists, position_at, located_if, parts_in}
+use Rattle.kc_symbol_lines.proofs.Common.{places_in, dependency_parts, prompt_parts, prompt_at, prompts_in, CodeAttribute, CodeLine, CodeLocated}
 use Rattle.kc_tree_model.specs.Statements as model
 use Rattle.kc_reasons_model.specs.Places.{LocatedExpr, located_attributes, located_prompt}
 use Rattle.kc_symbol_lines.specs.declared.own_lines.Given.{Given}
-use Rattle.kc_symbol_lines.specs.declared.located.LocatedExpr.{LocatedExpr as CodeLocated}
-use Rattle.kc_symbol_lines.proofs.AttributeViews.{part_meant, part_is, prompt_is}
+use Rattle.kc_conditions.proofs.Growth.{part_meant, part_is}
+use Rattle.kc_symbol_lines.proofs.AttributeViews.{prompt_is}
 
 -- the conditions that some of the code represent
 abbrev pub context_view : Exprs → EnclosingLists → LocatedContext

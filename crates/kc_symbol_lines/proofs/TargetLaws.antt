@@ -1,29 +1,26 @@
 -- The definitions of symbols, and the places of the selects and implies that target them.
-use Rattle.std.proofs.Common.{◌==◌, not}
+use Rattle.std.proofs.Common.{not}
 use Rattle.std.specs.Prelude.{slice_index_or, option_and_then, bytes_eq, nat_lt}
 use Rattle.std.specs.List.{position_or_len}
-use Rattle.std.proofs.lemmas.Bool.{eqb-true, eq-eqb}
-use Rattle.kc_symbol_lines.proofs.Common.{◌≡◌, inl, inr, ℕ, zero, suc, ◌+◌, ◌<◌, Bool, true, false, cond, List, [], ◌∷◌, ◌++◌, length, map, Option, Some, None, refl, ap, sym, ◌∙◌, subst, arith, slice_get, filter_map, flat_map, option_map, option_to_list, unwrap_or, All, IfSome, cons_option}
-use Rattle.kc_symbol_lines.proofs.Common.{map-append, length-map, All-nil, All-cons, Exprs, Language, attribute_in, AttributeNodesExist, RepresentsHead, LineNodesExist, line_in, Tree, Symbol, Attribute, TargetAttribute, Group, Line, Position, open_blocks, GroupInContext, group_in_context}
-use Rattle.kc_symbol_lines.proofs.Common.{groups_in_context, Contents, contents_of, definitions_of, symbol_of, names_defined, Has, get_below, position_of, attribute_positions, TreeModel, HasLines, TreeLines, shown_at, all_before, read_before, group_at, ReverseKind, GatheredLines, position_view}
-use Rattle.kc_symbol_lines.proofs.Common.{position_at, target_keys, target_places, AreGathered, lines_at}
+use Rattle.kc_symbol_lines.proofs.Common.{◌≡◌, ℕ, suc, ◌+◌, ◌<◌, Bool, true, false, cond, List, [], ◌∷◌, ◌++◌, length, map, Option, Some, None, refl, ap, sym, ◌∙◌, subst, arith, slice_get, filter_map, flat_map, option_map, option_to_list, unwrap_or, All, cons_option, length-map, All-nil, All-cons}
+use Rattle.kc_symbol_lines.proofs.Common.{Language, attribute_in, AttributeNodesExist, RepresentsHead, LineNodesExist, line_in, Tree, Symbol, Attribute, TargetAttribute, Group, Line, Position, open_blocks, GroupInContext, group_in_context, groups_in_context, Contents, contents_of, symbol_of}
+use Rattle.kc_symbol_lines.proofs.Common.{names_defined, Has, get_below, position_of, attribute_positions, TreeModel, HasLines, TreeLines, shown_at, all_before, read_before, group_at, ReverseKind, GatheredLines, position_view, position_at, target_keys, target_places, AreGathered, lines_at}
+use Rattle.kc_symbol_lines.proofs.Common.{CodeAttribute, CodeLine, tree_of_groups}
 use Rattle.std.proofs.lemmas.Option.{slice_get-get_or}
 use Rattle.kc_expr.specs.Lookup.{index_of_name}
-use Rattle.kc_statements.specs.declared.statement.Attribute.{Attribute as CodeAttribute}
 use Rattle.kc_statements.specs.declared.statement.Attribute.TheVariants as attributes
 use Rattle.kc_parser.specs.declared.listing.GroupHead.TheVariants as codes
-use Rattle.kc_parser.specs.declared.listing.Line.{Line as CodeLine}
 use Rattle.kc_tree_model.specs.TreeLookup.{symbol_named}
-use Rattle.kc_tree_model.specs.Statements.{select_of, imply_of, config, name_of_head}
+use Rattle.kc_tree_model.specs.Statements.{select_of, imply_of, name_of_head}
 use Rattle.kc_tree_model.specs.Blocks.{from_head, defined_name}
-use Rattle.kc_tree_model.specs.Contents.{tree_of_groups}
-use Rattle.kc_tree_model.proofs.Consistency.Lists.{Differ, Differ-once, at_most_once, has-place, place-get, same_text, text_same}
+use Rattle.kc_tree_model.proofs.Consistency.Lists.{Differ, Differ-once, has-place, place-get}
 use Rattle.kc_reasons_model.specs.SymbolLines.{target_named, target_positions}
 use Rattle.kc_tree.specs.between.GroupedItems.{items_of}
 use Rattle.kc_tree.specs.between.Views.{symbol_of_name_id}
-use Rattle.kc_builder.proofs.ItemLaw.{by_name, AreListed, none_listed, listed_more, listed_same, listed_law, number_of, number_is, direct_keys, direct_items, direct_law, force_key_of, force_keys}
+use Rattle.kc_builder.proofs.ItemLaw.{by_name, AreListed, listed_more, listed_same, by_none, listed_law, by_many, as_many_given, some_mapped, apart, same_number, number_of, direct_keys, direct_items, direct_law, force_key_of, force_keys}
 use Rattle.kc_checks.proofs.GroupPlaces.{placed_more}
-use Rattle.kc_checks.proofs.Symbols.{named_there, nameless}
+use Rattle.kc_conditions.proofs.Growth.{option_front}
+use Rattle.kc_checks.proofs.Symbols.{named_there, nameless, place_is}
 use Rattle.kc_statements.specs.declared.statement.ReverseKind.TheVariants.{Select, Imply}
 use Rattle.kc_symbol_lines.specs.declared.located.Position.{Position as CodePosition}
 use Rattle.kc_symbol_lines.specs.checker.Targets.{target_symbol, HasDefinition}
@@ -52,54 +49,12 @@ abbrev pub place_items : (Attribute → Option TargetAttribute) → List (List �
 place_items S names p = by_name (λ x. filter_map (place_of S names p) p.group.attributes) (defined_name p.group)
 
 module _ (S : Attribute → Option TargetAttribute) (names : List (List ℕ)) where
-  as_many : (p : GroupInContext) (ls : List Line) → length (filter_map (force_key_of S names) ls) ≡ length (filter_map (place_of S names p) ls)
-  as_many p [] = refl
-  as_many p (l ∷ ls) = by_key (force_key_of S names l) (as_many p ls)
-    where
-      by_key : (o : Option ℕ) → length (filter_map (force_key_of S names) ls) ≡ length (filter_map (place_of S names p) ls)
-          → length (cons_option o (filter_map (force_key_of S names) ls))
-          ≡ length (cons_option (option_map (λ _. position_of p.group l) o) (filter_map (place_of S names p) ls))
-      by_key None e = e
-      by_key (Some k) e = ap suc e
-
   pub places_many : (p : GroupInContext) → length (force_keys S names p) ≡ length (place_items S names p)
-  places_many p = by_case (defined_name p.group)
-    where
-      by_case : (o : Option (List ℕ))
-          → length (by_name (λ x. filter_map (force_key_of S names) p.group.attributes) o)
-          ≡ length (by_name (λ x. filter_map (place_of S names p) p.group.attributes) o)
-      by_case None = refl
-      by_case (Some x) = as_many p p.group.attributes
+  places_many p =
+      by_many _ _ (λ x. as_many_given (force_key_of S names) (place_of S names p) (λ l. some_mapped (λ _. position_of p.group l) (force_key_of S names l)) p.group.attributes)
+      (defined_name p.group)
 
   module _ (p : GroupInContext) (t : ℕ) (name : List ℕ) (d : Differ names) (at : slice_get names t ≡ Some name) where
-    apart : (x : List ℕ) → index_of_name x names ≡ None → bytes_eq x name ≡ false
-    apart x e = by_same (bytes_eq x name) refl
-      where
-        by_same : (b : Bool) → bytes_eq x name ≡ b → b ≡ false
-        by_same false u = refl
-        by_same true u =
-            let q = number_is names name t d at in
-            let r = ap (λ y. index_of_name y names) (same_text x name u) in
-            cc
-
-    equal : (x : List ℕ) (j : ℕ) → index_of_name x names ≡ Some j → (j == t) ≡ bytes_eq x name
-    equal x j e = by_both (j == t) (bytes_eq x name) refl refl
-      where
-        by_both : (a b : Bool) → (j == t) ≡ a → bytes_eq x name ≡ b → a ≡ b
-        by_both true true s u = refl
-        by_both false false s u = refl
-        by_both true false s u =
-            let i : j ≡ t = eqb-true j t s in
-            let q : slice_get names t ≡ Some x = ap (slice_get names) (sym i) ∙ place-get x names j e in
-            let same : x ≡ name = cc in
-            let w = text_same x name same in
-            cc
-        by_both false true s u =
-            let same : x ≡ name = same_text x name u in
-            let i : j ≡ t = at_most_once x names j t d (place-get x names j e) (at ∙ ap Some (sym same)) in
-            let w = eq-eqb j t i in
-            cc
-
     abbrev targets : List Line → List Position
     targets ls = filter_map (λ (l : Line). option_map (λ a. position_of p.group l) (target_named name (S l.attribute))) ls
 
@@ -107,10 +62,10 @@ module _ (S : Attribute → Option TargetAttribute) (names : List (List ℕ)) wh
         → bytes_eq a.name name ≡ b → index_of_name a.name names ≡ o → items_of t ks xs ≡ ys
         → items_of t (cons_option o ks) (cons_option (option_map (λ _. position_of p.group l) o) xs)
         ≡ cons_option (option_map (λ a. position_of p.group l) (cond b (Some a) None)) ys
-    one_target l a true None ks xs ys u e ih = let f = apart a.name e in cc
+    one_target l a true None ks xs ys u e ih = let f = apart names a.name name t d at e in cc
     one_target l a false None ks xs ys u e ih = ih
-    one_target l a true (Some j) ks xs ys u e ih = rw (equal a.name j e ∙ u) (ap (λ r. position_of p.group l ∷ r) ih)
-    one_target l a false (Some j) ks xs ys u e ih = rw (equal a.name j e ∙ u) ih
+    one_target l a true (Some j) ks xs ys u e ih = rw (same_number names a.name name j t d e at ∙ u) (ap (λ r. position_of p.group l ∷ r) ih)
+    one_target l a false (Some j) ks xs ys u e ih = rw (same_number names a.name name j t d e at ∙ u) ih
 
     on_lines : (ls : List Line) → items_of t (filter_map (force_key_of S names) ls) (filter_map (place_of S names p) ls) ≡ targets ls
     on_lines [] = refl
@@ -138,14 +93,12 @@ places_here S c p (Some x) name t d at named =
     ∙ sym (ap (λ o. elim o as (λ _. List Position) [ None ↦ [] | Some s ↦ attribute_positions (λ a. target_named name (S a)) p.group ]) j.1)
 
 -- the places listed under a symbol's number are those of the attributes that target it
-pub places_law : (S : Attribute → Option TargetAttribute) (count : ℕ) (read : List Group) (keys : List ℕ) (items : List CodePosition) (t : ℕ) (name : List ℕ)
+pub places_law : (S : Attribute → Option TargetAttribute) {count : ℕ} (read : List Group) {keys : List ℕ} {items : List CodePosition} (t : ℕ) (name : List ℕ)
     → AreListed position_view (force_keys S (names_defined read)) (place_items S (names_defined read)) (λ _. Unit {0}) count (groups_in_context read) keys items
     → slice_get (names_defined read) t ≡ Some name
     → map position_view (items_of t keys items) ≡ flat_map (target_positions S (contents_of read) name) (groups_in_context read)
-places_law S count read keys items t name l at =
-    let names : List (List ℕ) = names_defined read in
-    listed_law position_view (force_keys S names) (place_items S names) (target_positions S (contents_of read) name) (λ _. Unit {0}) count (groups_in_context read) keys items t
-    l (places_many S names)
+places_law S read t name l at =
+    listed_law (target_positions S (contents_of read) name) t l (places_many S (names_defined read))
     (λ p k. places_here S (contents_of read) p (defined_name p.group) name t (Differ-once (filter_map defined_name read)) at (λ x e. named_there read p x k e))
 
 -- what is gathered from groups in places
@@ -156,15 +109,6 @@ pub record AreGatheredOf (names : List (List ℕ)) (places : List GroupInContext
       found.selectors.keys.items found.selectors.items.items
   pub impliers : AreListed position_view (force_keys imply_of names) (place_items imply_of names) (λ _. Unit {0}) (length names) places
       found.impliers.keys.items found.impliers.items.items
-
-pub nothing_gathered : (names : List (List ℕ)) (found : GatheredLines) → (found.definitions.keys.items ≡ []) → (found.definitions.items.items ≡ [])
-    → (found.selectors.keys.items ≡ []) → (found.selectors.items.items ≡ []) → (found.impliers.keys.items ≡ []) → (found.impliers.items.items ≡ [])
-    → AreGatheredOf names [] found
-nothing_gathered names found a b c d e f = record {
-  definitions = rw (a, b) (none_listed (λ n. n) (direct_keys names) (direct_items (λ (p : GroupInContext). p.group.number)) (λ _. Unit {0}) (length names));
-  selectors = rw (c, d) (none_listed position_view (force_keys select_of names) (place_items select_of names) (λ _. Unit {0}) (length names));
-  impliers = rw (e, f) (none_listed position_view (force_keys imply_of names) (place_items imply_of names) (λ _. Unit {0}) (length names));
-}
 
 -- any list has what is asked of nothing
 all_items : {X : Type 0} (xs : List X) → All (λ _. Unit {0}) xs
@@ -188,15 +132,11 @@ module _ (t : TreeModel) (read : List Group) (tree_is : t.tree ≡ tree_of_group
   target_is Imply (attributes.Imply s) h = name_found s.name h.0
   target_is Imply a h = refl
 
-  one_key : (o : Option ℕ) (ks : List ℕ) → option_to_list o ++ ks ≡ cons_option o ks
-  one_key None ks = refl
-  one_key (Some k) ks = refl
-
   keys_are : (f : ReverseKind) (ls : List CodeLine) → All (LineNodesExist t.exprs) ls
       → target_keys t f ls ≡ filter_map (force_key_of (target_meant f) names) (map (line_in t.exprs) ls)
   keys_are f [] h = refl
   keys_are f (l ∷ ls) h =
-      one_key (target_symbol t f l.attribute) (target_keys t f ls)
+      option_front (target_symbol t f l.attribute) (target_keys t f ls)
       ∙ ap (λ o. cons_option o (target_keys t f ls)) (target_is f l.attribute (h 0 l (omega arith)))
       ∙ ap (cons_option (force_key_of (target_meant f) names (line_in t.exprs l))) (keys_are f ls (λ i d b. h (suc i) d (omega arith)))
 
@@ -235,13 +175,12 @@ module _ (t : TreeModel) (read : List Group) (tree_is : t.tree ≡ tree_of_group
       (named : defined_name p.group ≡ Some x) (at : slice_get names s ≡ Some x) (f : p.group.at.file ≡ file)
       (own : p.group.attributes ≡ map (line_in t.exprs) ls) (held : All (LineNodesExist t.exprs) ls)
       (g : AreGatheredOf names prior old) (more : HasDefinition t s p.group.number file ls old new) where
-    force_step : (k : ReverseKind) (keys keys2 : List ℕ) (items items2 : List CodePosition)
+    force_step : (k : ReverseKind) {keys keys2 : List ℕ} {items items2 : List CodePosition}
         → AreListed position_view (force_keys (target_meant k) names) (place_items (target_meant k) names) (λ _. Unit {0}) (length names) prior keys items
         → keys2 ≡ keys ++ target_keys t k ls → items2 ≡ items ++ target_places t k file ls
         → AreListed position_view (force_keys (target_meant k) names) (place_items (target_meant k) names) (λ _. Unit {0}) (length names) (prior ++ p ∷ []) keys2 items2
-    force_step k keys keys2 items items2 l a b =
-        listed_more position_view (force_keys (target_meant k) names) (place_items (target_meant k) names) (λ _. Unit {0}) (length names) prior
-        keys keys2 (target_keys t k ls) items items2 (target_places t k file ls) p l a b
+    force_step k l a b =
+        listed_more p l (target_places t k file ls) a b
         (keys_are k ls held ∙ ap (filter_map (force_key_of (target_meant k) names)) (sym own)
         ∙ sym (ap (by_name (λ y. filter_map (force_key_of (target_meant k) names) p.group.attributes)) named))
         (items_are k p file ls f held ∙ ap (filter_map (place_of (target_meant k) names p)) (sym own)
@@ -250,36 +189,26 @@ module _ (t : TreeModel) (read : List Group) (tree_is : t.tree ≡ tree_of_group
         (subst (All (λ n. n < length names)) (sym (keys_are k ls held)) (key_below k (map (line_in t.exprs) ls)))
 
     number : number_of names x ≡ s
-    number = ap (λ o. unwrap_or o 0) (number_is names x s (Differ-once (filter_map defined_name read)) at)
+    number = ap (λ o. unwrap_or o 0) (place_is names x s (Differ-once (filter_map defined_name read)) at)
 
     pub definition_more : AreGatheredOf names (prior ++ p ∷ []) new
     definition_more = record {
-      definitions = listed_more (λ n. n) (direct_keys names) (direct_items (λ (q : GroupInContext). q.group.number)) (λ _. Unit {0}) (length names) prior
-          old.definitions.keys.items new.definitions.keys.items (s ∷ []) old.definitions.items.items new.definitions.items.items (p.group.number ∷ []) p
-          g.definitions more.symbols more.numbers
+      definitions = listed_more p g.definitions (p.group.number ∷ []) more.symbols more.numbers
           (ap (λ m. m ∷ []) (sym number) ∙ sym (ap (by_name (λ y. number_of names y ∷ [])) named))
           (sym (ap (by_name (λ y. p.group.number ∷ [])) named))
           (all_items (p.group.number ∷ []))
           (All-cons (λ j. j < length names) s [] (get_below names s x at) (All-nil (λ j. j < length names)));
-      selectors = force_step Select old.selectors.keys.items new.selectors.keys.items old.selectors.items.items new.selectors.items.items g.selectors more.selected more.selectors;
-      impliers = force_step Imply old.impliers.keys.items new.impliers.keys.items old.impliers.items.items new.impliers.items.items g.impliers more.implied more.impliers;
+      selectors = force_step Select g.selectors more.selected more.selectors;
+      impliers = force_step Imply g.impliers more.implied more.impliers;
     }
 
 -- a group that defines no symbol adds nothing
 pub nothing_more : (names : List (List ℕ)) (prior : List GroupInContext) (p : GroupInContext) (found : GatheredLines) → defined_name p.group ≡ None
     → AreGatheredOf names prior found → AreGatheredOf names (prior ++ p ∷ []) found
 nothing_more names prior p found none g = record {
-  definitions = listed_same (λ n. n) (direct_keys names) (direct_items (λ (q : GroupInContext). q.group.number)) (λ _. Unit {0}) (length names) prior
-      found.definitions.keys.items found.definitions.items.items p g.definitions
-      (ap (by_name (λ x. number_of names x ∷ [])) none) (ap (by_name (λ x. p.group.number ∷ [])) none);
-  selectors = listed_same position_view (force_keys select_of names) (place_items select_of names) (λ _. Unit {0}) (length names) prior
-      found.selectors.keys.items found.selectors.items.items p g.selectors
-      (ap (by_name (λ x. filter_map (force_key_of select_of names) p.group.attributes)) none)
-      (ap (by_name (λ x. filter_map (place_of select_of names p) p.group.attributes)) none);
-  impliers = listed_same position_view (force_keys imply_of names) (place_items imply_of names) (λ _. Unit {0}) (length names) prior
-      found.impliers.keys.items found.impliers.items.items p g.impliers
-      (ap (by_name (λ x. filter_map (force_key_of imply_of names) p.group.attributes)) none)
-      (ap (by_name (λ x. filter_map (place_of imply_of names p) p.group.attributes)) none);
+  definitions = listed_same p g.definitions (by_none _ none) (by_none _ none);
+  selectors = listed_same p g.selectors (by_none _ none) (by_none _ none);
+  impliers = listed_same p g.impliers (by_none _ none) (by_none _ none);
 }
 
 unmapped : (ns : List ℕ) → map (λ n. n) ns ≡ ns
@@ -294,10 +223,9 @@ all_gathered read found g = record {
   implied = g.impliers.below;
   definitions = λ s name at.
       sym (unmapped (items_of s found.definitions.keys.items found.definitions.items.items))
-      ∙ direct_law (λ n. n) (λ (p : GroupInContext). p.group.number) (λ _. Unit {0}) (length (names_defined read)) read found.definitions.keys.items
-      found.definitions.items.items s name g.definitions at;
-  selectors = λ s name at. places_law select_of (length (names_defined read)) read found.selectors.keys.items found.selectors.items.items s name g.selectors at;
-  impliers = λ s name at. places_law imply_of (length (names_defined read)) read found.impliers.keys.items found.impliers.items.items s name g.impliers at;
+      ∙ direct_law (λ (p : GroupInContext). p.group.number) read s name g.definitions at;
+  selectors = λ s name at. places_law select_of read s name g.selectors at;
+  impliers = λ s name at. places_law imply_of read s name g.impliers at;
 }
 
 -- group by group

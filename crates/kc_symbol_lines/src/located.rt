@@ -1,4 +1,4 @@
-//! Lines, and what stands on them.
+//! Lines, and what is on them.
 use kc_expr::ExprId;
 
 /// A place in a tree: the number of a file, from 0, and of a line in it, from 1.

@@ -1,4 +1,4 @@
-//! What stands on the attribute lines of a group.
+//! What is on the attribute lines of a group.
 ghost use Rattle.std.specs.Prelude.{◌≡◌, ◌++◌, IfOk, OnOk};
 ghost use Rattle.std.specs.Global.{Vec as AnyVec};
 ghost use Rattle.kc_symbol_lines.specs.declared.located.LocatedExpr.{LocatedExpr as AnyLocatedExpr};

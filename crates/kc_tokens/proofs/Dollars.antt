@@ -66,7 +66,7 @@ no_first : (t : Bool) (o : Option ℕ) → cond t (Some 0) (option_map suc o) �
 no_first true o h = cc
 no_first false o h = (refl, none_under o h)
 
--- a body in which each `$` that there is stands in a pair
+-- a body in which each `$` that there is is in a pair
 bare_body : (quote : ℕ) (body means rest : List ℕ) → IsBody quote body means → bare_dollar false (body ++ rest) ≡ None → HasDollarsInPairs body
 bare_body quote body means rest none h = empty
 bare_body quote body means rest (plain {c = c} {bs = bs} {cs = cs} q s p) h =

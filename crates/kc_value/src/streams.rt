@@ -4,7 +4,7 @@ ghost use Rattle.std.specs.Io.{ReadsAtMost, WritesAtMost};
 ghost use Rattle.std.specs.Io.KnownBytes.{ReadConsumes, WriteAppends};
 ghost use Rattle.kc_value.specs.Streams.{failures_after_read, failures_after_write};
 
-use std::io::{Read, Write};
+use std::io::{ErrorKind, Read, Write};
 
 /// The error of a read or a write that failed.
 #[derive(Clone, Copy, Debug, PartialEq, Eq)]
@@ -55,6 +55,13 @@ impl<R: Read> FromRead<R> {
     {
         FromRead { inner, failed: 0 }
     }
+
+    /// How many reads of the reader failed, up to 2^64 - 1.
+    pub fn failed_reads(&self) -> u64
+        ensures { result ≡ ⟦<FromRead<R> as Source>⟧.failures self.now }
+    {
+        self.failed
+    }
 }
 
 impl<R: Read> Source for FromRead<R> {
@@ -73,11 +80,13 @@ impl<R: Read> Source for FromRead<R> {
     }
 }
 
-/// A writer of the standard library (`Write`) as a `Sink`, with the count of its failed writes.
+/// A writer of the standard library (`Write`) as a `Sink`, with the count of its failed writes, and whether the last of them was one
+/// into a pipe that nobody reads any more.
 #[derive(Drop)]
 pub struct ToWrite<W> {
     inner: W,
     failed: u64,
+    is_closed: bool,
 }
 
 impl<W: Write> ToWrite<W> {
@@ -86,7 +95,16 @@ impl<W: Write> ToWrite<W> {
         ensures taken { ⟦<ToWrite<W> as Sink>⟧.taken result ≡ W.contents inner }
         ensures failures { ⟦<ToWrite<W> as Sink>⟧.failures result ≡ 0 }
     {
-        ToWrite { inner, failed: 0 }
+        ToWrite {
+            inner,
+            failed: 0,
+            is_closed: false,
+        }
+    }
+
+    /// Whether the last failed write was one into a closed pipe.
+    pub fn is_closed(&self) -> bool {
+        self.is_closed
     }
 }
 
@@ -103,7 +121,8 @@ impl<W: Write> Sink for ToWrite<W> {
                 }
                 Ok(n)
             }
-            Err(_) => {
+            Err(error) => {
+                self.is_closed = error.kind() == ErrorKind::BrokenPipe;
                 self.failed = self.failed.saturating_add(1);
                 Err(Failed)
             }

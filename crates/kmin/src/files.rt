@@ -1,11 +1,12 @@
 //! The files of the system.
-ghost use Rattle.std.specs.Prelude.{◌≡◌, ◌-◌, ◌^◌, ◌<◌, ◌≤◌, None, IfOk, IfSome};
+ghost use Rattle.std.specs.Prelude.{◌≡◌, ◌-◌, ◌^◌, min, None};
 
-use kc_value::{Failed, FromRead, Seed, Source};
+use kc_value::{Failed, Seed};
+use kmin_disk::{ReadDisk, SystemDisk, SystemFile, says_absent};
 use kmin_run::{FileStop, Files};
 use std::alloc::{AllocError, Global};
 use std::env::VarError;
-use std::fs::{DirEntry, File, Metadata};
+use std::fs::DirEntry;
 use std::io::ErrorKind;
 use std::random::RandomSource;
 use std::{env, fs, io};
@@ -15,8 +16,7 @@ use std::{env, fs, io};
 #[derive(Drop)]
 pub(crate) struct SystemFiles<'a> {
     runtime: &'a HostRuntime,
-    seed: Seed,
-    failed: u64,
+    disk: SystemDisk<'a>,
 }
 
 impl<'a> SystemFiles<'a> {
@@ -26,39 +26,7 @@ impl<'a> SystemFiles<'a> {
     {
         SystemFiles {
             runtime,
-            seed: new_seed(runtime),
-            failed: 0,
-        }
-    }
-
-    /// Counts one more failed call.
-    fn count_failure(&mut self)
-        ensures same { self.new ≡ record self.old { failed = self.new.failed } }
-        ensures rising { self.old.failed ≤ self.new.failed }
-        ensures failed { self.old.failed < 2 ^ 64 - 1 → self.old.failed < self.new.failed }
-    {
-        self.failed = self.failed.saturating_add(1);
-    }
-
-    /// A reader of the file at a path; `None` if it can't be opened.
-    fn open(&self, path: &str) -> Option<OpenFile>
-        ensures { IfSome result (λ file. file.failed_reads ≡ 0) }
-    {
-        let file = File::open(self.runtime, path).ok()?;
-        let size = size_now(&file);
-        Some(reader_of(file, size))
-    }
-
-    /// A reader of the regular file at a path; `None` where none is there.
-    fn open_regular(&self, path: &str) -> Result<Option<OpenFile>, Failed>
-        ensures { IfOk result (λ reader. IfSome reader (λ file. file.failed_reads ≡ 0)) }
-    {
-        let Some(size) = regular_size(self.runtime, path)? else {
-            return Ok(None);
-        };
-        match File::open(self.runtime, path) {
-            Ok(file) => Ok(Some(reader_of(file, size))),
-            Err(_) => Err(Failed),
+            disk: SystemDisk::new(runtime, new_seed(runtime)),
         }
     }
 }
@@ -71,78 +39,6 @@ pub(crate) fn new_seed(runtime: &HostRuntime) -> Seed {
         return Seed::fixed();
     }
     Seed::of(u64::from_le_bytes(first), u64::from_le_bytes(second))
-}
-
-/// An open file, how many bytes it had then or just before, and how many of its reads failed.
-#[derive(Drop)]
-pub(crate) struct OpenFile {
-    reader: FromRead<File>,
-    size: usize,
-    failed_reads: u64,
-}
-
-impl Source for OpenFile {
-    ghost left = { λ s. ⟦<FromRead<File> as Source>⟧.left s.reader };
-
-    ghost failures = { λ s. s.failed_reads };
-
-    fn read_some(&mut self, buf: &mut [u8]) -> Result<usize, Failed> {
-        match self.reader.read_some(buf) {
-            Ok(count) => Ok(count),
-            Err(failed) => {
-                self.failed_reads = self.failed_reads.saturating_add(1);
-                Err(failed)
-            }
-        }
-    }
-}
-
-/// A reader of an open file that has this many bytes, from its first byte on.
-fn reader_of(file: File, size: usize) -> OpenFile
-    ensures { result.failed_reads ≡ 0 }
-{
-    OpenFile {
-        reader: FromRead::new(file),
-        size,
-        failed_reads: 0,
-    }
-}
-
-/// The number of bytes that the system gives for a file.
-fn byte_count(metadata: &Metadata) -> usize {
-    usize::try_from(metadata.len()).unwrap_or(usize::MAX)
-}
-
-/// The number of bytes of a file; 0 if the system doesn't give it.
-fn size_now(file: &File) -> usize {
-    match file.metadata() {
-        Ok(metadata) => byte_count(&metadata),
-        Err(_) => 0,
-    }
-}
-
-/// Whether an error of the system says that nothing is at a path: no such name, a name that no file can have, a file where
-/// a folder would have to be, or links that lead back to themselves. Any other error leaves open what is there.
-fn says_absent(kind: ErrorKind) -> bool {
-    match kind {
-        ErrorKind::NotFound
-        | ErrorKind::NotADirectory
-        | ErrorKind::FilesystemLoop
-        | ErrorKind::InvalidFilename
-        | ErrorKind::InvalidInput => true,
-        _ => false,
-    }
-}
-
-/// The number of bytes of the regular file at a path; `None` where none is there. This opens nothing, so it doesn't wait at a
-/// pipe.
-fn regular_size(runtime: &HostRuntime, path: &str) -> Result<Option<usize>, Failed> {
-    match fs::metadata(runtime, path) {
-        Ok(metadata) if metadata.is_file() => Ok(Some(byte_count(&metadata))),
-        Ok(_) => Ok(None),
-        Err(error) if says_absent(error.kind()) => Ok(None),
-        Err(_) => Err(Failed),
-    }
 }
 
 /// The stop for an error of the system while a folder is listed.
@@ -189,43 +85,32 @@ fn names_listed(
     Ok(Some(names))
 }
 
-impl Files for SystemFiles<'_> {
-    type File = OpenFile;
+impl<'a> Files for SystemFiles<'a> {
+    type File = SystemFile;
 
     ghost surroundings = { λ _. record { content = λ _. None; regular = λ _. None; names = λ _. None; variable = λ _. None } };
 
-    ghost failures = { λ disk. disk.failed };
+    // the disk's own count, which doesn't pass this limit either
+    ghost failures = { λ files. min (⟦<SystemDisk<'a> as ReadDisk>⟧.disk files.disk).failures (2 ^ 64 - 1) };
 
     fn seed(&self) -> Seed {
-        self.seed
+        self.disk.seed()
     }
 
-    fn reader_for(&mut self, path: &str) -> Option<OpenFile> {
-        match self.open(path) {
-            Some(file) => Some(file),
-            None => {
-                self.count_failure();
-                None
-            }
-        }
+    fn reader_for(&mut self, path: &str) -> Option<SystemFile> {
+        self.disk.open(path)
     }
 
-    fn reader_if_there(&mut self, path: &str) -> Option<OpenFile> {
-        self.open(path)
+    fn reader_if_there(&mut self, path: &str) -> Option<SystemFile> {
+        self.disk.open_if_there(path)
     }
 
-    fn close(&mut self, file: OpenFile) {
-        self.failed = self.failed.saturating_add(file.failed_reads);
+    fn close(&mut self, file: SystemFile) {
+        self.disk.close(file);
     }
 
-    fn regular_reader_for(&mut self, path: &str) -> Result<Option<OpenFile>, Failed> {
-        match self.open_regular(path) {
-            Ok(file) => Ok(file),
-            Err(failed) => {
-                self.count_failure();
-                Err(failed)
-            }
-        }
+    fn regular_reader_for(&mut self, path: &str) -> Result<Option<SystemFile>, Failed> {
+        self.disk.open_regular(path)
     }
 
     fn names_in(
@@ -236,7 +121,7 @@ impl Files for SystemFiles<'_> {
     ) -> Result<Option<Vec<Vec<u8>>>, FileStop> {
         match names_listed(self.runtime, alloc, folder, most) {
             Err(FileStop::Failed) => {
-                self.count_failure();
+                let _ = self.disk.count_failure();
                 Err(FileStop::Failed)
             }
             listed => listed,
@@ -251,7 +136,7 @@ impl Files for SystemFiles<'_> {
         }
     }
 
-    fn size_of(&self, file: &OpenFile) -> usize {
-        file.size
+    fn size_of(&self, file: &SystemFile) -> usize {
+        self.disk.size_of(file)
     }
 }

@@ -3,6 +3,7 @@ ghost use Rattle.kmin_texts.specs.KnownLines.{nothing_known};
 
 use kc_value::{FromRead, MAX_FILE_BYTES, ReadEnd, read_up_to};
 use kmin_details::Unreadable;
+use kmin_disk::says_absent;
 use kmin_texts::{LineFiles, Reread, after_lines, line_at};
 use std::alloc::{AllocError, Global};
 use std::fs;
@@ -172,11 +173,7 @@ fn reason(kind: ErrorKind) -> Unreadable {
     match kind {
         ErrorKind::PermissionDenied => Unreadable::NoPermission,
         ErrorKind::IsADirectory => Unreadable::Folder,
-        ErrorKind::NotFound
-        | ErrorKind::NotADirectory
-        | ErrorKind::FilesystemLoop
-        | ErrorKind::InvalidFilename
-        | ErrorKind::InvalidInput => Unreadable::NotThere,
+        kind if says_absent(kind) => Unreadable::NotThere,
         _ => Unreadable::FailedRead,
     }
 }

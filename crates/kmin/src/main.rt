@@ -3,20 +3,20 @@
 
 mod files;
 mod line_files;
-mod streams;
+mod standard_error;
 
 use files::{SystemFiles, new_seed};
-use kc_value::FromRead;
+use kc_value::{FromRead, ToWrite};
 use kmin_cli::{ParsedWords, command_first, read_words};
 use kmin_disk::SystemDisk;
 use kmin_options::{Question, Task, Verb};
 use kmin_run::run;
 use line_files::SystemLines;
+use standard_error::StandardError;
 use std::alloc::Global;
 use std::io::IsTerminal;
 use std::process::ExitCode;
 use std::{env, io};
-use streams::{Output, StandardError};
 
 fn main(rt: HostRuntime) -> ExitCode {
     match run_words(&rt) {
@@ -32,7 +32,7 @@ fn run_words(rt: &HostRuntime) -> io::Result<u8> {
     write_waiting(rt, &words);
     write_without_files(rt, &words);
     let mut input = FromRead::new(rt.stdin());
-    let mut out = Output::new(rt.stdout());
+    let mut out = ToWrite::new(rt.stdout());
     let mut err = StandardError::new(rt.alloc(), rt.stderr(), SystemLines::new(rt));
     let mut files = SystemFiles::new(rt);
     let mut disk = SystemDisk::new(rt, new_seed(rt));

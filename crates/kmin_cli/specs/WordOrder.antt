@@ -1,8 +1,8 @@
--- Words of the command line of which options stand before the command.
+-- Words of the command line of which options are before the command.
 use Rattle.std.specs.Prelude.{ℕ, ◌+◌, Bool, true, false, List, [], ◌∷◌, ◌++◌, Option, Some, None, option_map, take, drop, if◌then◌else◌}
 use Rattle.kmin_commands.specs.OptionWords.{gives_option, names_command, takes_next}
 
--- the place of the command in words, if only options stand before it; `is_value` if the first word is the value of an option
+-- the place of the command in words, if only options are before it; `is_value` if the first word is the value of an option
 abbrev pub command_place : (is_value : Bool) → (words : List (List ℕ)) → Option ℕ
 command_place is_value [] = None
 command_place true (word ∷ words) = option_map (λ place. place + 1) (command_place false words)
@@ -14,6 +14,6 @@ command_place false (word ∷ words) =
 abbrev pub moved_to_front : (place : ℕ) → (words : List (List ℕ)) → List (List ℕ)
 moved_to_front place words = take 1 (drop place words) ++ (take place words ++ drop (place + 1) words)
 
--- words with the command first, and right behind it the options that stand before it; others stay as they are
+-- words with the command first, and right after it the options that were before it; others stay as they are
 abbrev pub command_first : (words : List (List ℕ)) → List (List ℕ)
 command_first words = elim (command_place false words) [ Some place ↦ moved_to_front place words | None ↦ words ]

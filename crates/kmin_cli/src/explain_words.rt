@@ -52,7 +52,7 @@ fn names_of<'a>(matches: &ArgMatches<'a>) -> Option<&'a str>
     }
 }
 
-/// The files, of which with `--every` the first stands where the names do without it.
+/// The files, of which with `--every` the first is where the names are without it.
 fn explained_files_of<'a>(
     alloc: Global,
     matches: &ArgMatches<'a>,

@@ -1,4 +1,4 @@
-//! Puts the command before the options that stand before it.
+//! Puts the command before the options that come before it.
 ghost use Rattle.std.specs.Prelude.{◌≡◌, ◌<◌, ◌++◌, false, length, map, option_map, drop, take, List, ℕ, IfOk, IfSome};
 ghost use Rattle.std.specs.Borrow.{Bor};
 ghost use Rattle.kmin_cli.specs.WordOrder.{command_first, command_place, moved_to_front};
@@ -6,7 +6,7 @@ ghost use Rattle.kmin_cli.specs.WordOrder.{command_first, command_place, moved_t
 use kmin_commands::{gives_option, names_command, takes_next};
 use std::alloc::{AllocError, Global};
 
-/// The words with the command first, if only options stand before it, and these right behind it. Other words stay as they are, and
+/// The words with the command first, if only options are before it, and these right after it. Other words stay as they are, and
 /// so does the order of the options.
 pub fn command_first<'a>(alloc: Global, words: &[&'a str]) -> Result<Vec<&'a str>, AllocError>
     ensures { IfOk result (λ ordered. map (λ (word : Bor (List ℕ)). word.now) ordered.items ≡ command_first (map (λ (word : Bor (List ℕ)). word.now) words.now)) }
@@ -17,7 +17,7 @@ pub fn command_first<'a>(alloc: Global, words: &[&'a str]) -> Result<Vec<&'a str
     }
 }
 
-/// The place of the command, if only options stand before it.
+/// The place of the command, if only options are before it.
 fn command_place(words: &[&str]) -> Option<usize>
     ensures place { result ≡ command_place false (map (λ (word : Bor (List ℕ)). word.now) words.now) }
     ensures there { IfSome result (λ place. place < length words.now) }

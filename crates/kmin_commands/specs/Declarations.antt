@@ -117,7 +117,7 @@ tidy choices = command (codes "tidy") (shared choices
 abbrev pub wants : Choices → Shape
 wants choices = command (codes "wants") (place ++ (answers ++ message_form choices ∷ flag (codes "unused") ∷ []))
 
--- a program that tells its version
+-- a program that prints its version
 abbrev pub with_version : App → App
 with_version = on_top (λ shape. record shape { has_version = true })
 

@@ -38,7 +38,7 @@ is_flag word = is_among flags word
 abbrev pub name_part : (word : Text) → Text
 name_part word = elim (position (λ b. b == 61) word) [ Some n ↦ take n word | None ↦ word ]
 
--- whether a word gives an option: it names one, or has a value behind the name, as in `--root=DIR` and `-oFILE`
+-- whether a word gives an option: it names one, or has a value after the name, as in `--root=DIR` and `-oFILE`
 abbrev pub gives_option : (word : Text) → Bool
 gives_option word = (takes_next (name_part word) || is_flag (name_part word)) || starts_with nat_eq word (codes "-o")
 

@@ -77,7 +77,7 @@ fn is_flag(word: &str) -> bool
     is_among(&FLAGS, word)
 }
 
-/// Whether a word gives an option of a command: it names one, or has a value behind the name, as in `--root=DIR` and `-oFILE`.
+/// Whether a word gives an option of a command: it names one, or has a value after the name, as in `--root=DIR` and `-oFILE`.
 pub fn gives_option(word: &str) -> bool
     ensures { result ≡ gives_option word.now }
 {

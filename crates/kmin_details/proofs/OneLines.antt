@@ -9,7 +9,8 @@ use Rattle.kmin_messages.specs.ShownTexts.{has_no_byte, has_no_control_byte, sho
 use Rattle.kmin_messages.specs.between.MessageViews.{bytes_of}
 use Rattle.kmin_messages.proofs.SafeBytes.{cond_passes, all_joined}
 use Rattle.kmin_messages.proofs.PlainTexts.{char_plain}
-use Rattle.kmin_messages.proofs.ObjectLines.{one_object, decimal_safe}
+use Rattle.kmin_messages.proofs.OneLine.{decimal_safe}
+use Rattle.kmin_messages.proofs.ObjectLines.{one_object}
 use Rattle.kmin_details.specs.declared.message_lines.MessageParts.{MessageParts}
 use Rattle.kmin_messages.specs.declared.message.Form.{Form}
 use Rattle.kmin_messages.specs.declared.message.Form.TheVariants.{Long, Json}

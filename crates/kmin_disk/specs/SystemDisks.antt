@@ -1,4 +1,4 @@
--- The disk of the system, of whose files nothing is known but what the calls on a new file tell.
+-- The disk of the system, of whose files nothing is known but what the calls on a new file show.
 use Rattle.std.specs.Prelude.{◌≡◌, ◌==◌, ◌&&◌, ℕ, Bool, true, false, List, [], Option, None, Some, codes, length, if◌then◌else◌, string_bytes, unwrap_or}
 use Rattle.std.specs.Path.{path_parent}
 use Rattle.kmin_disk.specs.Disks.{DiskState}
@@ -50,6 +50,6 @@ system_draft new = record { own = string_bytes new.path; target = string_bytes n
 abbrev pub folder_or_present : List ℕ → List ℕ
 folder_or_present folder = if length folder == 0 then codes "." else folder
 
--- the folder in which the last name of a path stands: the path's parent, or for a bare name the present folder
+-- the folder in which the last name of a path is: the path's parent, or for a bare name the present folder
 abbrev pub folder_of : List ℕ → List ℕ
 folder_of path = folder_or_present (unwrap_or (path_parent path) [])

@@ -12,6 +12,7 @@ mod new_path;
 mod read_only_disk;
 mod replacement;
 mod system_disk;
+mod system_file;
 mod system_new_file;
 mod written_file;
 
@@ -22,5 +23,6 @@ pub use kind::FileKind;
 pub use memory_reader::MemoryReader;
 pub use read_only_disk::ReadOnly;
 pub use replacement::replace;
-pub use system_disk::{SystemDisk, SystemFile};
+pub use system_disk::SystemDisk;
+pub use system_file::{SystemFile, says_absent};
 pub use system_new_file::{SystemNewFile, SystemRename};

@@ -1,47 +1,23 @@
 //! The disk of the system.
-ghost use Rattle.std.specs.Prelude.{◌≡◌, IfSome};
-ghost use Rattle.kc_value.specs.Streams.{one_failure_more};
+ghost use Rattle.std.specs.Prelude.{◌≡◌, IfOk, IfSome};
+ghost use Rattle.kc_value.specs.Streams.{failures_after_read, one_failure_more};
 ghost use Rattle.kmin_disk.specs.SystemDisks.{unknown_state, system_draft};
 
 use crate::disk::{ReadDisk, WriteDisk};
 use crate::fault::CreateFault;
 use crate::kind::FileKind;
+use crate::system_file::SystemFile;
 use crate::system_new_file::{SystemNewFile, SystemRename};
-use kc_value::{Failed, FromRead, Seed, Source};
+use kc_value::{Failed, Seed, Source};
 use std::fs;
-use std::fs::File;
 use std::io::ErrorKind;
 
-/// The disk of the system. Contracts know nothing of its files but what the calls on a new one tell.
+/// The disk of the system. Contracts know nothing of its files but what the calls on a new one show.
 #[derive(Drop)]
 pub struct SystemDisk<'a> {
     runtime: &'a HostRuntime,
     seed: Seed,
     failed: u64,
-}
-
-/// An open file, how many bytes it had when it was opened, and how many of its reads failed.
-#[derive(Drop)]
-pub struct SystemFile {
-    reader: FromRead<File>,
-    size: usize,
-    failed_reads: u64,
-}
-
-impl Source for SystemFile {
-    ghost left = { λ file. ⟦<FromRead<File> as Source>⟧.left file.reader };
-
-    ghost failures = { λ file. file.failed_reads };
-
-    fn read_some(&mut self, buf: &mut [u8]) -> Result<usize, Failed> {
-        match self.reader.read_some(buf) {
-            Ok(count) => Ok(count),
-            Err(failed) => {
-                self.failed_reads = self.failed_reads.saturating_add(1);
-                Err(failed)
-            }
-        }
-    }
 }
 
 impl<'a> SystemDisk<'a> {
@@ -57,33 +33,28 @@ impl<'a> SystemDisk<'a> {
     }
 
     /// Counts a failed call.
-    fn count_failure(&mut self) -> Failed
-        ensures { self.new.failed ≡ one_failure_more self.old.failed }
+    pub fn count_failure(&mut self) -> Failed
+        ensures { (⟦<SystemDisk<'a> as ReadDisk>⟧.disk self.new).failures ≡ one_failure_more (⟦<SystemDisk<'a> as ReadDisk>⟧.disk self.old).failures }
     {
         self.failed = self.failed.saturating_add(1);
         Failed
     }
-}
 
-/// The number of bytes of a file; 0 if the system doesn't give it.
-fn size_now(file: &File) -> usize {
-    match file.metadata() {
-        Ok(metadata) => usize::try_from(metadata.len()).unwrap_or(usize::MAX),
-        Err(_) => 0,
+    /// A reader of the regular file at a path, or at the end of its links; `None` where none is there. This opens nothing else, so
+    /// it doesn't wait at a pipe.
+    ///
+    /// # Errors
+    ///
+    /// A file is there, and can't be opened, which counts as a failure.
+    pub fn open_regular(&mut self, path: &str) -> Result<Option<SystemFile>, Failed>
+        ensures unread { IfOk result (λ reader. IfSome reader (λ file. ⟦<SystemFile as Source>⟧.failures file ≡ 0)) }
+        ensures failures { (⟦<SystemDisk<'a> as ReadDisk>⟧.disk self.new).failures ≡ failures_after_read (⟦<SystemDisk<'a> as ReadDisk>⟧.disk self.old).failures result }
+    {
+        match SystemFile::open_regular(self.runtime, path) {
+            Ok(file) => Ok(file),
+            Err(_) => Err(self.count_failure()),
+        }
     }
-}
-
-/// A reader of the file at a path; `None` if it can't be opened.
-fn open_file(runtime: &HostRuntime, path: &str) -> Option<SystemFile>
-    ensures { IfSome result (λ file. file.failed_reads ≡ 0) }
-{
-    let file = File::open(runtime, path).ok()?;
-    let size = size_now(&file);
-    Some(SystemFile {
-        reader: FromRead::new(file),
-        size,
-        failed_reads: 0,
-    })
 }
 
 impl ReadDisk for SystemDisk<'_> {
@@ -104,7 +75,7 @@ impl ReadDisk for SystemDisk<'_> {
     }
 
     fn open(&mut self, path: &str) -> Option<SystemFile> {
-        let file = open_file(self.runtime, path);
+        let file = SystemFile::open(self.runtime, path);
         if file.is_none() {
             let _ = self.count_failure();
         }
@@ -112,15 +83,15 @@ impl ReadDisk for SystemDisk<'_> {
     }
 
     fn open_if_there(&self, path: &str) -> Option<SystemFile> {
-        open_file(self.runtime, path)
+        SystemFile::open(self.runtime, path)
     }
 
     fn close(&mut self, file: SystemFile) {
-        self.failed = self.failed.saturating_add(file.failed_reads);
+        self.failed = self.failed.saturating_add(file.failed_reads());
     }
 
     fn size_of(&self, file: &SystemFile) -> usize {
-        file.size
+        file.size()
     }
 }
 

@@ -132,7 +132,7 @@ impl SystemRename {
     }
 }
 
-/// The folder in which the last name of a path stands.
+/// The folder in which the last name of a path is.
 fn folder_of(path: &str) -> &str
     ensures { result.now ≡ folder_of path.now }
 {

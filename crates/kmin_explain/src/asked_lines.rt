@@ -40,7 +40,7 @@ pub fn path_at<'a>(paths: &[&'a str], file: usize) -> &'a str
     }
 }
 
-/// Appends `PATH:LINE asks VALUE: `, of a line of the configuration file with a number, behind the space of an inner line.
+/// Appends `PATH:LINE asks VALUE: `, of a line of the configuration file with a number, after the space of an inner line.
 fn push_asks_at(
     out: &mut Vec<u8>,
     by: &Sources<'_>,

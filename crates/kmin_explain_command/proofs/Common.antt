@@ -6,7 +6,7 @@ pub use Rattle.std.specs.List.{AllZip, range_with_len}
 pub use Rattle.kc_config.specs.ConfigStates.{IsSolved, tree_in}
 pub use Rattle.kc_config_reasons.specs.between.FileLines.{KeepsLines}
 pub use Rattle.kc_config_reasons.specs.declared.file_lines.FileLines.{FileLines}
-pub use Rattle.kc_dotconfig.specs.Fragments.{notice_pair}
+pub use Rattle.kc_dotconfig_model.specs.between.Notices.{notice_pair}
 pub use Rattle.kc_dotconfig.specs.declared.fragment.Fragment.{Fragment}
 pub use Rattle.kc_dotconfig_model.specs.ConfigFiles.{empty_assignment}
 pub use Rattle.kc_dotconfig_model.specs.ConfigLines.{LineMeaning}

@@ -52,29 +52,3 @@ module _ (known : Surroundings) (job : ExplainJob) (tree : LinedTree) (t : TreeT
       → IfErr r (λ stop. (lines : List ErrorLine) × StopsExplaining known counted counted_after job (status_of stop) lines × TakesLines taken failed lines after failed_after)
   job_stops counted counted_after (Ok answer) h = tt
   job_stops counted counted_after (Err stop) h = stops_of counted counted_after (status_of stop) h
-
--- a run that failed to write its output, and reported that, ends as `StopsExplaining` defines, with all lines that were reported
-pub write_stops : (known : Surroundings) (counted counted_after : ℕ) (job : ExplainJob) (text : List ℕ) (made status : ℕ) (taken middle after : SpelledBytes)
-    (failed failed_middle failed_after : ℕ) → status ≡ 5
-    → (t : TreeTexts) × (lines : List ErrorLine) × AreTextsOfJob known job.settings t × Explains known.content job t text made lines
-    × TakesLines taken failed lines middle failed_middle
-    → TakesLines middle failed_middle (output_line ∷ []) after failed_after
-    → (lines : List ErrorLine) × StopsExplaining known counted counted_after job status lines × TakesLines taken failed (lines ++ last_lines status) after failed_after
-write_stops known counted counted_after job text made status taken middle after failed failed_middle failed_after five w h = (
-  w.1 ++ output_line ∷ [],
-  stops.at_write w.0 text made w.1 w.2 w.3 five refl,
-  rw five (subst (λ ls. TakesLines taken failed ls after failed_after) (sym (append-nil (w.1 ++ output_line ∷ [])))
-      (lines_append taken middle failed failed_middle w.1 (output_line ∷ []) after failed_after w.4 h)),
-)
-
--- a run that ended before its output, and then reported its last line, ends as `StopsExplaining` defines, with all these lines
-pub explain_ends : (known : Surroundings) (counted counted_after : ℕ) (job : ExplainJob) (stop : RunError) (status : ℕ) (taken middle after : SpelledBytes)
-    (failed failed_middle failed_after : ℕ) → status ≡ status_of stop
-    → (lines : List ErrorLine) × StopsExplaining known counted counted_after job (status_of stop) lines × TakesLines taken failed lines middle failed_middle
-    → TakesLines middle failed_middle (last_lines status) after failed_after
-    → (lines : List ErrorLine) × StopsExplaining known counted counted_after job status lines × TakesLines taken failed (lines ++ last_lines status) after failed_after
-explain_ends known counted counted_after job stop status taken middle after failed failed_middle failed_after e w h = (
-  w.0,
-  subst (λ n. StopsExplaining known counted counted_after job n w.0) (sym e) w.1,
-  lines_append taken middle failed failed_middle w.0 (last_lines status) after failed_after w.2 h,
-)

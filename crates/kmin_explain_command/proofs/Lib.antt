@@ -5,4 +5,3 @@ pub mod SourceParts
 pub mod OverEnds
 pub mod TextEnds
 pub mod Endings
-pub mod Statuses

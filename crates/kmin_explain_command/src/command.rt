@@ -18,8 +18,8 @@ use crate::texts::explained_files;
 use kc_value::Sink;
 use kmin_inputs::Files;
 use kmin_options::ExplainJob;
-use kmin_outputs::JobOutput;
-use kmin_report::{Messages, RunError, exit_status, write_answer};
+use kmin_outputs::{JobOutput, finish};
+use kmin_report::{Messages, RunError};
 use kmin_trees::{LinedTree, job_tree_with_lines};
 use std::alloc::Global;
 
@@ -58,13 +58,8 @@ pub fn explain<F: Files, O: Sink, E: Messages>(
     // On status 5 a file couldn't be opened, or a read of a file or a write of the output failed.
     ensures failed { result ≡ 5 → HasRisen (F.failures files.old) (F.failures files.new) ⊎ HasRisen (O.failures out.old) (O.failures out.new) }
 {
-    match explained(alloc, job, files, err) {
-        Ok(answer) => match write_answer(&answer.text, out, err) {
-            Ok(()) => answer.status,
-            Err(_) => RunError::Failed.status(),
-        },
-        Err(stop) => exit_status(stop, err),
-    }
+    let answer = explained(alloc, job, files, err);
+    finish(answer, out, err)
 }
 
 /// The output of the command, and its status. Reports the notices, and why there is no output.

@@ -2,7 +2,8 @@
 ghost use Rattle.std.specs.Prelude.{◌≡◌, ◌≢◌, ◌≤◌, ◌∷◌, [], List, ℕ, map, IfOk, IfErr};
 ghost use Rattle.kc_rules.specs.between.SettledViews.{tree_of_settled};
 ghost use Rattle.kc_dotconfig_model.specs.between.Formats.{file_format};
-ghost use Rattle.kc_dotconfig.specs.Fragments.{FitsTree, notice_pair};
+ghost use Rattle.kc_dotconfig.specs.Fragments.{FitsTree};
+ghost use Rattle.kc_dotconfig_model.specs.between.Notices.{notice_pair};
 ghost use Rattle.kc_files.specs.TreeContents.{FileContent, HasRisen};
 ghost use Rattle.kmin_outputs.specs.Stops.{StopsAmongFiles};
 ghost use Rattle.kmin_outputs.specs.Strictness.{AllowsNotices};
@@ -18,8 +19,8 @@ use kc_dotconfig::{Format, Fragment, LoadFault, LoadKind};
 use kc_rules::Settled;
 use kmin_inputs::Files;
 use kmin_options::Settings;
-use kmin_outputs::{allowed, report_load_fault, report_notices};
-use kmin_report::{Messages, RunError};
+use kmin_outputs::{allowed, report_load_fault};
+use kmin_report::{Messages, RunError, report_notices};
 use kmin_tidy::{AcceptedFile, read_source};
 use std::alloc::Global;
 

@@ -13,7 +13,7 @@ use Rattle.kc_located_reasons.specs.LocatedNeeds.{LocatedPart}
 use Rattle.kmin_explain.specs.Explanations.{unit_for}
 use Rattle.kmin_records.specs.JsonValues.{json_items, members_of}
 use Rattle.kmin_explain_records.specs.RecordLaws.{RecordsAreReadBack}
-use Rattle.kmin_records.proofs.OneLine.{one_object}
+use Rattle.kmin_records.proofs.Lines.{one_object}
 
 shallow_list : {X : Type 0} (f : X → Json) (n : ℕ) → ((x : X) → depth (f x) ≤ n) → (xs : List X) → items_depth (json_items (map f xs)) ≤ n
 shallow_list f n h [] = omega arith

@@ -5,7 +5,7 @@ use Rattle.kc_reasons_model.specs.PlainReasons.{PlainReasons}
 use Rattle.kc_reasons_model.specs.SymbolLines.{SymbolLines}
 use Rattle.kmin_explain.specs.Explanations.{SourcesModel, reason_places}
 use Rattle.kmin_records.specs.JsonValues.{members_of}
-use Rattle.kmin_records.specs.SmallNumbers.{MembersAreSmall}
+use Rattle.kmin_messages.specs.SmallNumbers.{MembersAreSmall}
 use Rattle.kmin_records.specs.Records.{IsRecord}
 use Rattle.kmin_explain_records.specs.SymbolRecords.{record_members, explained_as_json_by}
 

@@ -89,11 +89,6 @@ path_stops : (content_of : List ℕ → FileContent) (front back all : List (Lis
 path_stops content_of front back all path earlier status lines e r (steps.at_file line s l) = stops.at_file front back path line earlier e r s l
 path_stops content_of front back all path earlier status lines e r (steps.for_memory s l) = stops.for_memory s l
 
--- if a fact holds where a call succeeded, so does another one that follows from it
-pub on_ok_map : {T E : Type 0} (r : Result T E) (P Q : Type 0) → (P → Q) → OnOk r P → OnOk r Q
-on_ok_map (Ok x) P Q f h = f h
-on_ok_map (Err e) P Q f h = tt
-
 pub reports_fault : (left left_after : Option (List ℕ)) (failed failed_after : ℕ) (earlier : RecordedAnswers) (fault : AnswersFault)
     → (fault.kind ≡ OutOfMemory) ⊎ AreAnswersRefused left left_after failed failed_after earlier fault
     → ReportsAnswersFault left left_after failed failed_after earlier fault

@@ -2,6 +2,7 @@
 use Rattle.std.proofs.Common.{◌≤◌}
 use Rattle.std.specs.Prelude.{unwrap_or}
 use Rattle.kmin_lines.proofs.Common.{◌≡◌, ℕ, ◌+◌, ◌-◌, ◌<◌, ◌==◌, Bool, true, false, cond, List, [], ◌∷◌, ◌++◌, Option, Some, length, refl, sym, ap, ◌∙◌, arith, bytes_eq, onto_first, pieces, without_one, lines_of, without_carriage_return, times_among}
+use Rattle.std.proofs.lemmas.Cmp.{nat_list_eq_equiv}
 use Rattle.std.proofs.lemmas.Slice.Eq.{bytes_eq-Decides}
 use Rattle.std.proofs.lemmas.List.{length-map}
 
@@ -14,15 +15,6 @@ pub times_append : (lines : List (List ℕ)) (other line : List ℕ) → times_a
 times_append [] other line = omega arith
 times_append (first ∷ lines) other line = let h = times_append lines other line in omega arith
 
-pub bytes_eq_turned : (x y : List ℕ) → bytes_eq x y ≡ bytes_eq y x
-bytes_eq_turned x y = by_tests (bytes_eq x y) (bytes_eq y x) refl refl
-  where
-    by_tests : (b c : Bool) → bytes_eq x y ≡ b → bytes_eq y x ≡ c → b ≡ c
-    by_tests true true e f = refl
-    by_tests false false e f = refl
-    by_tests true false e f = let z : true ≡ false = sym ((bytes_eq-Decides y x).1 (sym ((bytes_eq-Decides x y).0 e))) ∙ f in cc
-    by_tests false true e f = let z : true ≡ false = sym ((bytes_eq-Decides x y).1 (sym ((bytes_eq-Decides y x).0 f))) ∙ e in cc
-
 -- taking away a line that isn't in a list of lines leaves the list as it is
 absent_by : (line other : List ℕ) (lines : List (List ℕ)) (b : Bool) → cond b 1 0 + times_among lines line ≡ 0
     → (times_among lines line ≡ 0 → without_one line lines ≡ lines)
@@ -33,17 +25,6 @@ absent_by line other lines false none h = ap (λ rest. other ∷ rest) (h (omega
 pub absent : (line : List ℕ) (lines : List (List ℕ)) → times_among lines line ≡ 0 → without_one line lines ≡ lines
 absent line [] none = refl
 absent line (other ∷ lines) none = absent_by line other lines (bytes_eq line other) none (absent line lines)
-
--- taking away a line that is in a list of lines makes the list one line shorter
-shorter_by : (line other : List ℕ) (lines : List (List ℕ)) (b : Bool) → 0 < cond b 1 0 + times_among lines line
-    → (0 < times_among lines line → length (without_one line lines) + 1 ≡ length lines)
-    → length (cond b lines (other ∷ without_one line lines)) + 1 ≡ length (other ∷ lines)
-shorter_by line other lines true some h = omega arith
-shorter_by line other lines false some h = let k = h (omega arith) in omega arith
-
-pub shorter : (line : List ℕ) (lines : List (List ℕ)) → 0 < times_among lines line → length (without_one line lines) + 1 ≡ length lines
-shorter line [] some = absurd (omega arith)
-shorter line (other ∷ lines) some = shorter_by line other lines (bytes_eq line other) some (shorter line lines)
 
 -- taking one occurrence of a line out of a list lowers the count of that line by 1, and keeps the counts of the other lines
 fewer_by : (line other any : List ℕ) (lines : List (List ℕ)) (b : Bool) → bytes_eq line other ≡ b → 0 < cond b 1 0 + times_among lines line
@@ -90,7 +71,7 @@ added before after lines line count each is sets any =
     ap (λ o. unwrap_or o 0) (sets any)
     ∙ set_more (bytes_eq line any) count (times_among lines any) (before any)
     (λ same. let e : line ≡ any = (bytes_eq-Decides line any).0 same in sym (each any) ∙ ap (λ l. unwrap_or (before l) 0) (sym e) ∙ sym is) (sym (each any))
-    ∙ ap (λ b. times_among lines any + cond b 1 0) (bytes_eq_turned line any)
+    ∙ ap (λ b. times_among lines any + cond b 1 0) (nat_list_eq_equiv.symm line any)
     ∙ sym (times_append lines line any)
 
 -- where a bag counts the lines of a list, and the count of one of them is lowered by 1, it counts the list without one such line
@@ -101,7 +82,7 @@ pub taken : (before after : List ℕ → Option ℕ) (lines : List (List ℕ)) (
 taken before after lines line count each some is sets any =
     let there : 0 < times_among lines line = let k = each line in omega arith in
     let less : times_among (without_one line lines) any + cond (bytes_eq line any) 1 0 ≡ times_among lines any =
-    ap (λ b. times_among (without_one line lines) any + cond b 1 0) (bytes_eq_turned line any) ∙ fewer line any lines there in
+    ap (λ b. times_among (without_one line lines) any + cond b 1 0) (nat_list_eq_equiv.symm line any) ∙ fewer line any lines there in
     ap (λ o. unwrap_or o 0) (sets any)
     ∙ set_less (bytes_eq line any) count (times_among lines any) (times_among (without_one line lines) any) (before any) some
     (λ same. let e : line ≡ any = (bytes_eq-Decides line any).0 same in sym (each any) ∙ ap (λ l. unwrap_or (before l) 0) (sym e) ∙ sym is)

@@ -9,6 +9,6 @@ pub use Rattle.kc_value.specs.Lines.{pieces}
 pub use Rattle.kmin_lines.specs.Lines.{have_same_lines, left_over, lines_of, without_carriage_return, without_one}
 pub use Rattle.kmin_lines.specs.WordFiles.{files_of, with_lists}
 pub use Rattle.kmin_lines.specs.WordLines.{are_utf8, words_in}
-pub use Rattle.kmin_lines.specs.between.Words.{files_view, lists_view, words_view}
+pub use Rattle.kmin_lines.specs.between.Texts.{files_view, lists_view, texts_of}
 pub use Rattle.kmin_lines.specs.checker.Bags.{HasLines, times_among}
 pub use Rattle.indexmap.specs.IndexMap.{get_by}

@@ -1,11 +1,11 @@
 -- Texts and the pieces into which an end byte cuts them; lines and the carriage returns at their ends.
-use Rattle.std.proofs.Common.{◌≡◌, ℕ, zero, suc, ◌-◌, ◌<◌, ◌==◌, Bool, true, false, not, ◌&&◌, cond, List, [], ◌∷◌, ◌++◌, length, refl, sym, ap, ◌∙◌, take, drop, get_or, arith}
+use Rattle.std.proofs.Common.{◌≡◌, ℕ, zero, suc, ◌-◌, ◌<◌, ◌==◌, Bool, true, false, not, ◌&&◌, cond, List, [], ◌∷◌, ◌++◌, length, map, refl, sym, ap, ◌∙◌, take, drop, get_or, arith}
 use Rattle.std.specs.List.{onto_first}
 use Rattle.std.proofs.Math.Seq.{take-suc}
 use Rattle.std.proofs.lemmas.Grind.{common_steps}
 use Rattle.std.proofs.lemmas.Bool.{false_from_ne_true, eqb-true, eq-eqb}
 use Rattle.kc_value.specs.Lines.{pieces, has_no_byte}
-use Rattle.kmin_lines.specs.Lines.{without_carriage_return}
+use Rattle.kmin_lines.specs.Lines.{lines_of, without_carriage_return}
 
 -- a text with a byte `ender` at `at` consists of the bytes before it, that byte, and the bytes after it
 pub parted_at : (ender : ℕ) (text : List ℕ) (at : ℕ) → at < length text → (get_or text at 0 == ender) ≡ true
@@ -94,3 +94,8 @@ untrimmed line some last =
 pub no_line : (line : List ℕ) → length line ≡ 0 → line ≡ without_carriage_return line
 no_line [] e = refl
 no_line (b ∷ line) e = absurd (omega arith)
+
+-- the first line of a text is its first piece without a carriage return, and the rest of the text has the other lines
+pub first_line : (text piece line after : List ℕ) → pieces 10 text ≡ piece ∷ pieces 10 after → line ≡ without_carriage_return piece
+    → lines_of text ≡ line ∷ lines_of after
+first_line text piece line after cut trims = ap (map without_carriage_return) cut ∙ ap (λ l. l ∷ lines_of after) (sym trims)

@@ -2,7 +2,7 @@
 use Rattle.std.proofs.Common.{◌≢◌, None, option_map, MatchOption, add-one, drop-cons, take-append-drop}
 use Rattle.std.specs.Borrow.{Bor}
 use Rattle.std.specs.Global.{Vec}
-use Rattle.kmin_lines.proofs.Common.{◌≡◌, ℕ, suc, ◌+◌, ◌<◌, ◌==◌, true, false, List, [], ◌∷◌, ◌++◌, Option, Some, length, map, take, drop, get_or, refl, ap, sym, ◌∙◌, list_all, false_from_ne_true, eqb-true, is_utf8, are_utf8, words_in, with_lists, files_view, lists_view, words_view}
+use Rattle.kmin_lines.proofs.Common.{◌≡◌, ℕ, suc, ◌+◌, ◌<◌, ◌==◌, true, false, List, [], ◌∷◌, ◌++◌, Option, Some, length, map, take, drop, get_or, refl, ap, sym, ◌∙◌, list_all, false_from_ne_true, eqb-true, is_utf8, are_utf8, words_in, with_lists, files_view, lists_view, texts_of}
 use Rattle.std.proofs.lemmas.List.{map-append, drop-map}
 use Rattle.kmin_lines.specs.WordFiles.{ends_options, file_of}
 use Rattle.kmin_lines.proofs.PathLemmas.{one_fails}
@@ -36,20 +36,20 @@ file_fails files i file there is fails =
 
 module _ (words : List (Bor (List ℕ))) (i : ℕ) (word : Bor (List ℕ)) (there : i < length words) (is : word ≡ get_or words i word) where
   -- words from a `--` on are plain
-  pub plain_from : (lists : List (List (List ℕ))) → ends_options word.now ≡ true → with_lists (words_view (drop i words)) lists ≡ words_view (drop i words)
+  pub plain_from : (lists : List (List (List ℕ))) → ends_options word.now ≡ true → with_lists (texts_of (drop i words)) lists ≡ texts_of (drop i words)
   plain_from lists ends =
       let from = mapped_from (λ (word : Bor (List ℕ)). word.now) words i word there is in
       ap (λ ws. with_lists ws lists) from ∙ (rw ends (sym from))
 
 -- the lists from a place on begin with that at it
 pub lists_from : (lists : List (Vec (Bor (List ℕ)))) (used : ℕ) (list : Vec (Bor (List ℕ))) → used < length lists → list ≡ get_or lists used list
-    → drop used (lists_view lists) ≡ words_view list.items ∷ drop (used + 1) (lists_view lists)
+    → drop used (lists_view lists) ≡ texts_of list.items ∷ drop (used + 1) (lists_view lists)
 lists_from lists used list there is =
-    drop-map (λ (list : Vec (Bor (List ℕ))). words_view list.items) used lists
-    ∙ mapped_from (λ (list : Vec (Bor (List ℕ))). words_view list.items) lists used list there is
-    ∙ ap (λ rest. words_view list.items ∷ rest) (sym (drop-map (λ (list : Vec (Bor (List ℕ))). words_view list.items) (used + 1) lists))
+    drop-map (λ (list : Vec (Bor (List ℕ))). texts_of list.items) used lists
+    ∙ mapped_from (λ (list : Vec (Bor (List ℕ))). texts_of list.items) lists used list there is
+    ∙ ap (λ rest. texts_of list.items ∷ rest) (sym (drop-map (λ (list : Vec (Bor (List ℕ))). texts_of list.items) (used + 1) lists))
 
 -- words of a list are appended
-pub words_appended : (all old more list : List (Bor (List ℕ))) → all ≡ old ++ more → more ≡ list → words_view all ≡ words_view old ++ words_view list
+pub words_appended : (all old more list : List (Bor (List ℕ))) → all ≡ old ++ more → more ≡ list → texts_of all ≡ texts_of old ++ texts_of list
 words_appended all old more list appended are =
     rw (appended, are) (map-append (λ (word : Bor (List ℕ)). word.now) old list)

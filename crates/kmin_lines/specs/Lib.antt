@@ -1,4 +1,5 @@
 pub mod Lines
+pub mod LackingLines
 pub mod Lists
 pub mod WordLines
 pub mod WordFiles

@@ -2,8 +2,7 @@
 ghost use Rattle.std.specs.Prelude.{◌≡◌, IfOk};
 ghost use Rattle.kmin_lines.specs.Lines.{count_lines_not_in};
 
-use crate::line_bag::LineBag;
-use crate::pieces::{first_piece, trim_carriage_return};
+use crate::lacking::lacking_lines;
 use kc_value::Seed;
 use std::alloc::{AllocError, Global};
 
@@ -41,11 +40,5 @@ pub fn count_lines(
 fn lines_not_in(alloc: Global, seed: Seed, text: &[u8], other: &[u8]) -> Result<usize, AllocError>
     ensures { IfOk result (λ count. count ≡ count_lines_not_in text.now other.now) }
 {
-    let mut bag = LineBag::of(alloc, seed, text)?;
-    let mut rest = other;
-    while let Some((line, after)) = first_piece(rest, b'\n') {
-        bag.take(trim_carriage_return(line))?;
-        rest = after;
-    }
-    Ok(bag.len())
+    Ok(lacking_lines(alloc, seed, text, other)?.len())
 }

@@ -1,8 +1,10 @@
-//! The lines of texts: the first of a text, how many differ between two texts, whether any does, the paths that a list names, and the
-//! words in files.
+//! The lines of texts: the first of a text, those that another text lacks and how many these are, whether two texts have the same, the
+//! paths that a list names, and the words in files.
 #![tactic(auto)]
 
 mod counts;
+mod lacking;
+mod laws;
 mod line_bag;
 mod list;
 mod pieces;
@@ -11,6 +13,8 @@ mod word_files;
 mod word_lines;
 
 pub use counts::{LineCounts, count_lines};
+pub use lacking::lacking_lines;
+pub use laws::{lacking_lines_are_counted, last_lines_are_lacking};
 pub use list::{ListFault, listed_paths};
 pub use pieces::first_piece;
 pub use same_lines::have_same_lines;

@@ -1,7 +1,7 @@
 //! Bags of lines: each line with its number of occurrences.
-ghost use Rattle.std.specs.Prelude.{◌≡◌, ◌∷◌, ◌++◌, [], ℕ, List, ◌+◌, ◌<◌, ◌^◌, length, IfOk, OnOk};
+ghost use Rattle.std.specs.Prelude.{◌≡◌, ◌∷◌, ◌++◌, [], ℕ, List, ◌+◌, ◌<◌, ◌^◌, length, nat_lt, IfOk, OnOk};
 ghost use Rattle.kmin_lines.specs.Lines.{without_one, lines_of};
-ghost use Rattle.kmin_lines.specs.checker.Bags.{HasLines, times_in};
+ghost use Rattle.kmin_lines.specs.checker.Bags.{HasLines, times_among, times_in};
 
 use crate::pieces::{first_piece, trim_carriage_return};
 use indexmap::IndexMap;
@@ -12,7 +12,6 @@ use std::alloc::{AllocError, Global};
 #[derive(Drop)]
 pub(crate) struct LineBag<'a> {
     counts: IndexMap<&'a [u8], usize, Seed>,
-    len: usize,
 }
 
 impl<'a> LineBag<'a> {
@@ -22,7 +21,6 @@ impl<'a> LineBag<'a> {
     {
         LineBag {
             counts: IndexMap::with_hasher(alloc, seed),
-            len: 0,
         }
     }
 
@@ -37,13 +35,6 @@ impl<'a> LineBag<'a> {
             rest = after;
         }
         Ok(bag)
-    }
-
-    /// The number of lines in the bag, each counted as often as it occurs.
-    pub(crate) fn len(&self) -> usize
-        ensures { (lines : List (List ℕ)) → HasLines self.now lines → result ≡ length lines }
-    {
-        self.len
     }
 
     /// The number of occurrences of a line in the bag.
@@ -62,19 +53,19 @@ impl<'a> LineBag<'a> {
     {
         let count = self.times(line);
         self.counts.insert(line, count.saturating_add(1))?;
-        self.len = self.len.saturating_add(1);
         Ok(())
     }
 
-    /// Takes one occurrence of a line out of the bag, if the bag has one.
-    pub(crate) fn take(&mut self, line: &'a [u8]) -> Result<(), AllocError>
-        ensures { OnOk result ((lines : List (List ℕ)) → HasLines self.old lines → HasLines self.new (without_one line.now lines)) }
+    /// Takes one occurrence of a line out of the bag, if the bag has one. Whether it has.
+    pub(crate) fn take(&mut self, line: &'a [u8]) -> Result<bool, AllocError>
+        ensures { IfOk result (λ found. (lines : List (List ℕ)) → HasLines self.old lines
+            → (found ≡ nat_lt 0 (times_among lines line.now)) × HasLines self.new (without_one line.now lines)) }
     {
         let count = self.times(line);
-        if count > 0 {
-            self.counts.insert(line, count - 1)?;
-            self.len = self.len.saturating_sub(1);
+        if count == 0 {
+            return Ok(false);
         }
-        Ok(())
+        self.counts.insert(line, count - 1)?;
+        Ok(true)
     }
 }

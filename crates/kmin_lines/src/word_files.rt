@@ -2,14 +2,14 @@
 ghost use Rattle.std.specs.Prelude.{◌≡◌, ◌++◌, true, false, drop, option_map, IfOk, OnOk, IsErrOf};
 ghost use Rattle.kmin_lines.specs.WordLines.{are_utf8};
 ghost use Rattle.kmin_lines.specs.WordFiles.{file_of, files_of, first_list, further_lists, lists_after, with_files, with_lists, words_for};
-ghost use Rattle.kmin_lines.specs.between.Words.{files_view, lists_view, words_view};
+ghost use Rattle.kmin_lines.specs.between.Texts.{files_view, lists_view, texts_of};
 
 use crate::word_lines::{WordFault, word_lists};
 use std::alloc::{AllocError, Global};
 
 /// The paths of the files of the words `@FILE`, in order. A word after `--` names no file.
 pub fn files_of<'a>(alloc: Global, words: &[&'a str]) -> Result<Vec<&'a str>, AllocError>
-    ensures { IfOk result (λ paths. words_view paths.items ≡ files_of (words_view words.now)) }
+    ensures { IfOk result (λ paths. texts_of paths.items ≡ files_of (texts_of words.now)) }
 {
     let mut paths = Vec::new(alloc);
     for word in words {
@@ -41,7 +41,7 @@ pub fn with_files<'a>(
     words: &[&'a str],
     files: &'a [Vec<u8>],
 ) -> Result<Vec<&'a str>, WordFault>
-    ensures words { IfOk result (λ all. words_view all.items ≡ with_files (words_view words.now) (files_view files.now)) }
+    ensures words { IfOk result (λ all. texts_of all.items ≡ with_files (texts_of words.now) (files_view files.now)) }
     ensures utf8 { IfOk result (λ all. are_utf8 (files_view files.now) ≡ true) }
     ensures not_utf8 { IsErrOf result WordFault.NotUtf8 → are_utf8 (files_view files.now) ≡ false }
 {
@@ -58,7 +58,7 @@ fn with_lists<'a>(
     words: &[&'a str],
     lists: &[Vec<&'a str>],
 ) -> Result<Vec<&'a str>, AllocError>
-    ensures { IfOk result (λ all. words_view all.items ≡ with_lists (words_view words.now) (lists_view lists.now)) }
+    ensures { IfOk result (λ all. texts_of all.items ≡ with_lists (texts_of words.now) (lists_view lists.now)) }
 {
     let mut all = Vec::new(alloc);
     let mut used = 0;
@@ -80,7 +80,7 @@ fn push_words<'a>(
     lists: &[Vec<&'a str>],
     used: usize,
 ) -> Result<usize, AllocError>
-    ensures words { OnOk result (words_view all.new.items ≡ words_view all.old.items ++ words_for word.now (drop used (lists_view lists.now))) }
+    ensures words { OnOk result (texts_of all.new.items ≡ texts_of all.old.items ++ words_for word.now (drop used (lists_view lists.now))) }
     ensures used { IfOk result (λ after. drop after (lists_view lists.now) ≡ lists_after word.now (drop used (lists_view lists.now))) }
 {
     match file_of(word) {
@@ -99,7 +99,7 @@ fn push_list<'a>(
     lists: &[Vec<&'a str>],
     used: usize,
 ) -> Result<usize, AllocError>
-    ensures words { OnOk result (words_view all.new.items ≡ words_view all.old.items ++ first_list (drop used (lists_view lists.now))) }
+    ensures words { OnOk result (texts_of all.new.items ≡ texts_of all.old.items ++ first_list (drop used (lists_view lists.now))) }
     ensures used { IfOk result (λ after. drop after (lists_view lists.now) ≡ further_lists (drop used (lists_view lists.now))) }
 {
     if used >= lists.len() {

@@ -3,7 +3,7 @@ ghost use Rattle.std.specs.Prelude.{◌≡◌, true, false, map, IfOk, IsErrOf};
 ghost use Rattle.std.specs.List.{list_all};
 ghost use Rattle.std.specs.Str.{is_utf8};
 ghost use Rattle.kmin_lines.specs.WordLines.{are_utf8, is_word_line, words_in};
-ghost use Rattle.kmin_lines.specs.between.Words.{files_view, lists_view, words_view};
+ghost use Rattle.kmin_lines.specs.between.Texts.{files_view, lists_view, texts_of};
 ghost use Rattle.kmin_lines.specs.declared.word_lines.WordFault.TheVariants.{OutOfMemory};
 
 use crate::pieces::{first_piece, trim_carriage_return};
@@ -48,7 +48,7 @@ pub(crate) fn word_lists(alloc: Global, files: &[Vec<u8>]) -> Result<Vec<Vec<&st
 
 /// The words in a file: its lines, but for empty ones and those that begin with `#`.
 fn words_in(alloc: Global, file: &[u8]) -> Result<Vec<&str>, WordFault>
-    ensures words { IfOk result (λ words. words_view words.items ≡ words_in file.now) }
+    ensures words { IfOk result (λ words. texts_of words.items ≡ words_in file.now) }
     ensures utf8 { IfOk result (λ words. list_all is_utf8 (words_in file.now) ≡ true) }
     ensures not_utf8 { IsErrOf result WordFault.NotUtf8 → list_all is_utf8 (words_in file.now) ≡ false }
 {

@@ -3,4 +3,5 @@ pub mod WholeTexts
 pub mod PlainTexts
 pub mod SafeBytes
 pub mod WriterSteps
+pub mod OneLine
 pub mod ObjectLines

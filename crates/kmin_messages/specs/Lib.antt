@@ -1,3 +1,4 @@
+pub mod SmallNumbers
 pub mod Messages
 pub mod ShownTexts
 pub mod between

@@ -1,4 +1,4 @@
-//! What a line of standard error tells.
+//! What a line of standard error reports.
 ghost use Rattle.std.specs.Prelude.{◌≡◌};
 ghost use Rattle.kmin_messages.specs.Messages.{severity_name};
 

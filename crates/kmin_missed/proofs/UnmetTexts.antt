@@ -24,7 +24,7 @@ unmet_details_are g e m s symbol code reasons lines parts tree values same is_tr
     ∙ located_unmet_is g.strings g.tree_paths g.tree g.values s symbol (symbol_lines_view e lines).selectors (reasons_view e reasons).selected_by
     (dependencies_lack_at g.tree g.values symbol (symbol_lines_view e lines)) at)
 
--- parts that are appended one by one, with the same text behind the first two
+-- parts that are appended one by one, with the same text after the first two
 joined : (old place colon name value details last : List ℕ) → ((((((old ++ place) ++ colon) ++ name) ++ colon) ++ value) ++ details) ++ last
     ≡ old ++ (place ++ (colon ++ (name ++ (colon ++ (value ++ (details ++ last))))))
 joined old place colon name value details last = simp append_assoc

@@ -16,7 +16,7 @@ use Rattle.kc_explanation.specs.Located.{located_details}
 use Rattle.kc_explanation.specs.Asked.{line_place, asked_value, why_text}
 use Rattle.kmin_explain.specs.Explanations.{SourcesModel, unit_for, path_of_file, reason_places, reasons_of, all_symbols}
 
--- inner lines, each without the spaces before it, in one line: the first behind this text, each further one behind `; `
+-- inner lines, each without the spaces before it, in one line: the first after this text, each further one after `; `
 abbrev pub in_one_line : (front : List ℕ) → (lines : List (List ℕ)) → List ℕ
 in_one_line front [] = []
 in_one_line front (line ∷ lines) = front ++ (drop 2 line ++ in_one_line (codes "; ") lines)

@@ -17,7 +17,7 @@ fn without_spaces(line: &[u8]) -> &[u8]
     }
 }
 
-/// Appends the inner lines of a text in one line: the first behind `front`, each further one behind `; `.
+/// Appends the inner lines of a text in one line: the first after `front`, each further one after `; `.
 pub(crate) fn push_in_one_line(
     out: &mut Vec<u8>,
     front: &[u8],

@@ -4,7 +4,7 @@ pub use Rattle.std.proofs.lemmas.Grind.{common_steps}
 pub use Rattle.std.specs.Borrow.{Bor}
 pub use Rattle.std.specs.List.{flat_map}
 pub use Rattle.kc_config.specs.ConfigStates.{IsSolved, tree_in}
-pub use Rattle.kc_dotconfig.specs.Fragments.{notice_pair}
+pub use Rattle.kc_dotconfig_model.specs.between.Notices.{notice_pair}
 pub use Rattle.kc_dotconfig.specs.ReadResults.{ReportsFault}
 pub use Rattle.kc_dotconfig.specs.declared.fragment.Fragment.{Fragment}
 pub use Rattle.kc_dotconfig_model.specs.ConfigFiles.{empty_assignment}

@@ -1,5 +1,5 @@
 -- The outputs of commands.
-use Rattle.std.proofs.Common.{zero, Vec}
+use Rattle.std.proofs.Common.{Vec}
 use Rattle.std.specs.declared.alloc.AllocError.{AllocError}
 use Rattle.std.specs.declared.alloc.Global.{Global}
 use Rattle.kmin_outputs.proofs.Common.{◌≡◌, ◌≢◌, ℕ, Bool, true, false, suc, ◌≤◌, ◌⊎◌, inl, inr, append-nil, List, [], ◌∷◌, ◌++◌, Option, Result, Ok, Err, IfOk, IfErr, refl, sym, ap, ◌∙◌, subst, map, arith, flat_map, Tree, tree_of_settled, FileFormat, empty_assignment, UnitValue, IsSolved, tree_in}
@@ -428,41 +428,3 @@ pub lines_kept : (before middle after : SpelledBytes) (failed failed_middle fail
 lines_kept before middle after failed failed_middle failed_after lines h k =
     subst (λ all. TakesLines before failed all after failed_after) (append-nil lines)
     (lines_append before middle failed failed_middle lines [] after failed_after h k)
-
--- the status of an output is 0 or 1
-small : (n : ℕ) → n ≤ 1 → (n ≡ 0) ⊎ (n ≡ 1)
-small zero h = inl refl
-small (suc zero) h = inr refl
-small (suc (suc n)) h = absurd (omega arith)
-
-pub no_other_status : (n : ℕ) → n ≤ 1 → (n ≢ 0) × (n ≢ 1) → ⊥
-no_other_status n h k = elim (small n h) [ inl e ↦ k.0 e | inr e ↦ k.1 e ]
-
--- a command that failed to write its output, and reported that, ends as `Stops` defines, with all lines that were reported
-pub write_stops : (known : Surroundings) (counted counted_after : ℕ) (settings : Settings) (task : Task) (text : List ℕ) (made status : ℕ) (taken middle taken_after : SpelledBytes)
-    (failed failed_middle failed_after : ℕ)
-    → status ≡ 5
-    → (t : TreeTexts) × (notices : List ErrorLine) × AreTextsOfJob known settings t × Answer known.content settings t.texts task text made notices
-    × TakesLines taken failed (t.lines ++ notices) middle failed_middle
-    → TakesLines middle failed_middle (output_line ∷ []) taken_after failed_after
-    → (lines : List ErrorLine) × Stops known counted counted_after settings task status lines × TakesLines taken failed (lines ++ last_lines status) taken_after failed_after
-write_stops known counted counted_after settings task text made status taken middle taken_after failed failed_middle failed_after e w h = (
-  (w.0.lines ++ w.1) ++ output_line ∷ [],
-  stops.at_write w.0 text made w.1 w.2 w.3 e refl,
-  rw e (subst (λ all. TakesLines taken failed all taken_after failed_after) (sym (append-nil ((w.0.lines ++ w.1) ++ output_line ∷ [])))
-      (lines_append taken middle failed failed_middle (w.0.lines ++ w.1) (output_line ∷ []) taken_after failed_after w.4 h)),
-)
-
--- a command that ended before it had an output, and then reported its last line, ends as `Stops` defines, with all these lines
-pub job_ends : (known : Surroundings) (counted counted_after : ℕ) (settings : Settings) (task : Task) (stop : RunError) (status : ℕ) (taken middle taken_after : SpelledBytes)
-    (failed failed_middle failed_after : ℕ)
-    → status ≡ status_of stop
-    → (lines : List ErrorLine) × StopsBefore known counted counted_after settings task (status_of stop) lines × TakesLines taken failed lines middle failed_middle
-    → TakesLines middle failed_middle (last_lines status) taken_after failed_after
-    → (lines : List ErrorLine) × Stops known counted counted_after settings task status lines × TakesLines taken failed (lines ++ last_lines status) taken_after failed_after
-job_ends known counted counted_after settings task stop status taken middle taken_after failed failed_middle failed_after e w h = (
-  w.0,
-  stops.before_answer (subst (λ n. StopsBefore known counted counted_after settings task n w.0) (sym e) w.1),
-  lines_append taken middle failed failed_middle w.0 (last_lines status) taken_after
-      failed_after w.2 h,
-)

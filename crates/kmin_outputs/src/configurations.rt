@@ -6,9 +6,10 @@ ghost use Rattle.kc_dotconfig_model.specs.ConfigFiles.{empty_assignment, overlay
 ghost use Rattle.kc_dotconfig_model.specs.between.Formats.{file_format};
 ghost use Rattle.kc_dotconfig_model.specs.OtherChoices.{other_choices_of, placed_from};
 ghost use Rattle.kc_config.specs.ConfigStates.{IsSolved, tree_in};
-ghost use Rattle.kc_dotconfig.specs.Fragments.{FitsTree, notice_pair, users_of};
+ghost use Rattle.kc_dotconfig.specs.Fragments.{FitsTree, users_of};
+ghost use Rattle.kc_dotconfig_model.specs.between.Notices.{notice_pair};
 ghost use Rattle.kc_dotconfig.specs.ReadResults.{IsReadAs};
-ghost use Rattle.kmin_report.specs.Reports.{ErrorLine, tree_notice_line, choice_notice_lines};
+ghost use Rattle.kmin_report.specs.Reports.{ErrorLine, choice_notice_lines};
 ghost use Rattle.kmin_report.specs.StandardError.{TakesLines};
 ghost use Rattle.kc_files.specs.TreeContents.{HasRisen};
 ghost use Rattle.kmin_outputs.specs.Stops.{StopsAmongFiles};
@@ -18,16 +19,14 @@ ghost use Rattle.kmin_outputs.specs.between.LoadStops.{StopsLoad, StopsAtPath, S
 ghost use Rattle.kmin_report.specs.between.RunErrors.{status_of};
 
 use kc_config::Config;
-use kc_dotconfig::{
-    ChoiceLine, Format, Fragment, LoadFault, LoadKind, Notice, NoticeKind, read_config,
-};
+use kc_dotconfig::{ChoiceLine, Format, Fragment, LoadFault, LoadKind, NoticeKind, read_config};
 use kc_minimal::{other_choices, placed_lines};
 use kc_rules::Settled;
 use kc_tree::Tree;
 use kc_value::Source;
 use kmin_inputs::Files;
 use kmin_options::Settings;
-use kmin_report::{Message, Messages, RunError};
+use kmin_report::{Message, Messages, RunError, report_notices};
 use std::alloc::{AllocError, Global};
 
 /// A configuration, and the lines of members of choices in each of the files that it is read from.
@@ -76,21 +75,6 @@ pub fn report_load_fault<E: Messages>(path: &str, fault: LoadFault, err: &mut E)
             err.write_report(Message::FileFault { path, line, kind });
             RunError::Configuration
         }
-    }
-}
-
-/// Reports the notices of a configuration file that is read over this tree.
-pub fn report_notices<E: Messages>(path: &str, notices: &[Notice], tree: &Tree, err: &mut E)
-    ensures { TakesLines (E.taken err.old) (E.failures err.old) (map (λ notice. tree_notice_line tree.now.tree path.now (notice_pair notice)) notices.now) (E.taken err.new) (E.failures err.new) }
-{
-    for notice in notices {
-        let Notice { line, kind } = *notice;
-        err.write_report(Message::Notice {
-            path,
-            line,
-            kind,
-            tree,
-        });
     }
 }
 

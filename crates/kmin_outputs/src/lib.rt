@@ -1,12 +1,14 @@
 //! The configurations of a job's files over its tree, and the texts of commands over them.
 #![tactic(auto)]
 
+mod command_end;
 mod configurations;
 mod symbol_lines;
 mod verb_texts;
 
+pub use command_end::finish;
 pub use configurations::{
     ReadFiles, add_fragment, allowed, configured, configured_by, load, notice_choices,
-    report_load_fault, report_notices, unassigned,
+    report_load_fault, unassigned,
 };
 pub use verb_texts::{JobOutput, answer_of, compared, list_status};

@@ -1,10 +1,22 @@
 -- The lines of records: each is one object, which reads back.
-use Rattle.std.proofs.Common.{◌≡◌, ℕ, List, [], ◌∷◌, refl, lit≤}
-use Rattle.json.specs.Tree.{items_depth}
-use Rattle.kmin_records.specs.SmallNumbers.{ItemsAreSmall}
-use Rattle.kmin_records.specs.Records.{IsRecord, lines_json, compare_members, compare_record, tidy_members, tidy_record}
-use Rattle.kmin_records.specs.LackingLines.{lacking_lines}
-use Rattle.kmin_records.proofs.OneLine.{one_object}
+use Rattle.std.proofs.Common.{◌≡◌, ◌≤◌, ℕ, List, [], ◌∷◌, refl, lit≤}
+use Rattle.json.specs.Json.{Members, object, max_depth}
+use Rattle.json.specs.Tree.{json_tokens, depth, items_depth}
+use Rattle.json.specs.Print.{print}
+use Rattle.json.proofs.Printed.Trees.{document-print}
+use Rattle.kmin_messages.specs.SmallNumbers.{ItemsAreSmall, MembersAreSmall}
+use Rattle.kmin_messages.proofs.OneLine.{printed_one_line, numbers}
+use Rattle.kmin_records.specs.Records.{IsRecord, record_line, lines_json, compare_members, compare_record, tidy_members, tidy_record}
+use Rattle.kmin_lines.specs.LackingLines.{lacking_lines}
+
+-- members whose numbers are small and that don't nest too deep are one object in one line
+pub one_object : (members : Members) → MembersAreSmall members → depth (object members) ≤ max_depth → IsRecord members (record_line members)
+one_object members small shallow = record {
+  text = print (json_tokens (object members));
+  ended = refl;
+  one_line = printed_one_line (object members) small;
+  read_back = document-print (object members) (numbers (object members) small) shallow;
+}
 
 lines_depth : (lines : List (List ℕ)) → items_depth (lines_json lines) ≡ 0
 lines_depth [] = refl

@@ -13,7 +13,7 @@ use Rattle.json.specs.Written.{Written}
 use Rattle.json.proofs.Printed.Utf8.{IsUtf8-are_ascii}
 use Rattle.kmin_messages.specs.between.MessageViews.{AppendsTokens}
 use Rattle.kmin_records.specs.Records.{lines_json, status_name, tidy_members}
-use Rattle.kmin_records.specs.LackingLines.{lacking_lines}
+use Rattle.kmin_lines.specs.LackingLines.{lacking_lines}
 use Rattle.kmin_lines.specs.Lines.{have_same_lines}
 use Rattle.kmin_records.specs.between.RecordTokens.{text_tokens}
 

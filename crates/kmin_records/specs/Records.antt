@@ -6,7 +6,7 @@ use Rattle.json.specs.Print.{print}
 use Rattle.kmin_lines.specs.Lines.{have_same_lines}
 use Rattle.kmin_messages.specs.ShownTexts.{has_no_byte}
 use Rattle.kmin_records.specs.JsonValues.{text_json}
-use Rattle.kmin_records.specs.LackingLines.{lacking_lines}
+use Rattle.kmin_lines.specs.LackingLines.{lacking_lines}
 
 -- the line of an object with these members, without white space between tokens
 abbrev pub record_line : Members → List ℕ

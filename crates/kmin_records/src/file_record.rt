@@ -3,14 +3,14 @@ ghost use Rattle.std.specs.Prelude.{◌≡◌, ◌++◌, ◌∷◌, [], codes, I
 ghost use Rattle.json.specs.Token.{begin_array, end_array, key};
 ghost use Rattle.kmin_messages.specs.between.MessageViews.{AppendsTokens};
 ghost use Rattle.kmin_records.specs.Records.{tidy_record, status_name};
-ghost use Rattle.kmin_records.specs.between.RecordTokens.{text_tokens, texts_of};
+ghost use Rattle.kmin_lines.specs.between.Texts.{texts_of};
+ghost use Rattle.kmin_records.specs.between.RecordTokens.{text_tokens};
 
-use crate::lacking::lacking_lines;
 use crate::members::{write_lines, write_text};
 use crate::record::{begin_record, end_record};
 use json::Writer;
 use kc_value::Seed;
-use kmin_lines::have_same_lines;
+use kmin_lines::{have_same_lines, lacking_lines};
 use std::alloc::{AllocError, Global};
 
 /// The record of a file of these bytes, which aren't those of its minimal file `least`, for `tidy`: how they differ, the lines that go

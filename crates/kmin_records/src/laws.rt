@@ -1,11 +1,9 @@
 //! Laws of records.
-ghost use Rattle.std.specs.Prelude.{◌≡◌, ◌≤◌, ℕ, List, [], length, IsUtf8};
+ghost use Rattle.std.specs.Prelude.{◌≡◌, ◌≤◌, ℕ, List, IsUtf8};
 ghost use Rattle.json.specs.Json.{Members, object, string, max_depth};
 ghost use Rattle.json.specs.Tree.{depth};
-ghost use Rattle.kmin_lines.specs.Lines.{count_lines_not_in, lines_of};
-ghost use Rattle.kmin_records.specs.LackingLines.{lacking_lines, surplus};
 ghost use Rattle.kmin_records.specs.JsonValues.{text_json};
-ghost use Rattle.kmin_records.specs.SmallNumbers.{MembersAreSmall};
+ghost use Rattle.kmin_messages.specs.SmallNumbers.{MembersAreSmall};
 ghost use Rattle.kmin_records.specs.Records.{IsRecord, record_line, compare_members, compare_record, tidy_members, tidy_record};
 
 /// A record whose numbers are small, and which doesn't nest deeper than a reader takes, is one object in one line, which reads back as
@@ -23,16 +21,6 @@ pub fn compare_records_read_back()
 /// that go and those that come.
 pub fn tidy_records_read_back()
     ensures { (path bytes least : List ℕ) → IsRecord (tidy_members path bytes least) (tidy_record path bytes least) }
-{}
-
-/// A text lacks as many lines of another as `count_lines` counts.
-pub fn lacking_lines_are_counted()
-    ensures { (text other : List ℕ) → length (lacking_lines text other) ≡ count_lines_not_in text other }
-{}
-
-/// The lines of a text that another one lacks are those that have at least as many equal lines before them as the other has in all.
-pub fn last_lines_are_lacking()
-    ensures { (text other : List ℕ) → lacking_lines text other ≡ surplus [] (lines_of text) (lines_of other) }
 {}
 
 /// Bytes that are UTF-8 are the text that a record has of them.

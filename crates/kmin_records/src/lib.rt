@@ -3,19 +3,15 @@
 #![tactic(auto)]
 
 mod file_record;
-mod lacking;
 mod laws;
-mod line_pool;
 mod members;
 mod output_form;
 mod record;
 mod symbol_records;
 
 pub use file_record::tidy_record;
-pub use lacking::lacking_lines;
 pub use laws::{
-    compare_records_read_back, lacking_lines_are_counted, last_lines_are_lacking, lossless_texts,
-    records_read_back, tidy_records_read_back,
+    compare_records_read_back, lossless_texts, records_read_back, tidy_records_read_back,
 };
 pub use members::{write_bytes, write_optional, write_place, write_text};
 pub use output_form::OutputForm;

@@ -7,7 +7,8 @@ ghost use Rattle.json.specs.Token.{begin_array, end_array, key, string};
 ghost use Rattle.json.specs.Tree.{json_tokens};
 ghost use Rattle.kmin_messages.specs.between.MessageViews.{AppendsTokens};
 ghost use Rattle.kmin_records.specs.JsonValues.{or_null, place_members};
-ghost use Rattle.kmin_records.specs.between.RecordTokens.{text_tokens, texts_of, member_tokens, list_tokens};
+ghost use Rattle.kmin_lines.specs.between.Texts.{texts_of};
+ghost use Rattle.kmin_records.specs.between.RecordTokens.{text_tokens, member_tokens, list_tokens};
 
 use json::Writer;
 use std::alloc::{AllocError, Global};

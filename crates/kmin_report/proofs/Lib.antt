@@ -2,6 +2,7 @@ pub mod WriterLemmas
 pub mod KnownContents
 pub mod Lists
 pub mod Results
+pub mod Statuses
 pub mod CycleLines
 pub mod LastLines
 pub mod FileNameLemmas

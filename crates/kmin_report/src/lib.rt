@@ -4,6 +4,7 @@
 mod file_names;
 mod message;
 mod messages;
+mod notices;
 mod output;
 mod plain_messages;
 mod run_error;
@@ -12,6 +13,7 @@ mod symbol_names;
 pub use file_names::file_name;
 pub use message::{Message, write_plain_line};
 pub use messages::Messages;
+pub use notices::report_notices;
 pub use output::{exit_status, write_answer};
 pub use plain_messages::PlainMessages;
 pub use run_error::RunError;

@@ -132,17 +132,3 @@ module _ (bundle tree configuration : List ℕ) (parts : IsBundle bundle tree co
       lines_append taken middle failed failed_middle [] h.0 taken_after
           failed_after before h.2,
     )
-
--- a run on a bundle that ended early, and then reported its last line, ends as `StopsOnBundle` defines, with all these lines
-pub bundle_ends : (left left_after : Option (List ℕ)) (stop : RunError) (status : ℕ) (taken middle taken_after : SpelledBytes)
-    (failed failed_middle failed_after : ℕ)
-    → status ≡ status_of stop
-    → (lines : List ErrorLine) × StopsOnBundle left left_after (status_of stop) lines × TakesLines taken failed lines middle failed_middle
-    → TakesLines middle failed_middle (last_lines status) taken_after failed_after
-    → (lines : List ErrorLine) × StopsOnBundle left left_after status lines × TakesLines taken failed (lines ++ last_lines status) taken_after failed_after
-bundle_ends left left_after stop status taken middle taken_after failed failed_middle failed_after e w h = (
-  w.0,
-  subst (λ n. StopsOnBundle left left_after n w.0) (sym e) w.1,
-  lines_append taken middle failed failed_middle w.0 (last_lines status) taken_after
-      failed_after w.2 h,
-)

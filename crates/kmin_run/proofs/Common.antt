@@ -17,13 +17,14 @@ pub use Rattle.kmin_cli.specs.Parses.{AreReadAs}
 pub use Rattle.kmin_disk.specs.Disks.{Disk}
 pub use Rattle.kmin_expansions.specs.JobTexts.{AreTextsOfJob, TreeTexts}
 pub use Rattle.kmin_expansions.specs.WantedQuestions.{AreAsked, StopsWanting, question_line, questions_text}
+pub use Rattle.kmin_report.proofs.Statuses.{fault_at_most_six, of_fault, output_at_most_six, output_not_two}
 pub use Rattle.kmin_inputs.proofs.FailureCounts.{rises_later}
 pub use Rattle.kmin_inputs.specs.FileContents.{Surroundings}
 pub use Rattle.kmin_inputs.specs.ListFiles.{malformed_line}
 pub use Rattle.kmin_inputs.specs.WordFiles.{Represent}
 pub use Rattle.kmin_options.specs.Jobs.{Questions, Settings, Task, questions_view, settings_view, task_view, tidy_job_view}
 pub use Rattle.kmin_outputs.proofs.ErrorExits.{value_is_no_error, with_error}
-pub use Rattle.kmin_outputs.proofs.JobOutputs.{lines_kept, no_other_status}
+pub use Rattle.kmin_outputs.proofs.JobOutputs.{lines_kept}
 pub use Rattle.kmin_outputs.specs.Outputs.{Answer}
 pub use Rattle.kmin_report.proofs.Results.{if_err, if_err_map, memory_err}
 pub use Rattle.kmin_report.proofs.WriterLemmas.{lines_append, lines_one}

@@ -1,7 +1,7 @@
 pub mod Common
 pub mod RunFailures
 pub mod BundleCuts
-pub mod QuestionEnds
+pub mod QuestionLines
 pub mod RunStatuses
 pub mod RunEnds
 pub mod BundleOutputs

@@ -25,7 +25,7 @@ use Rattle.kmin_run.specs.PartialOutputs.{AnswersInPart}
 use Rattle.kmin_outputs.specs.Statuses.{status_of_list}
 use Rattle.kmin_outputs.specs.Stops.{Stops}
 use Rattle.kmin_run.specs.Runs as runs
-use Rattle.kmin_run.specs.Runs.{AreReadForChanges, AreReadForTidying, AskForChanges, AskForTidying, Ends, ExplainEnds, JobEnds, MayChangeFiles, QuestionsEnd, ReadEnd, WordsEnd, IsOfFault, IsTidying}
+use Rattle.kmin_run.specs.Runs.{AreReadForChanges, AreReadForTidying, AskForChanges, AskForTidying, Ends, ExplainEnds, JobEnds, MayChangeFiles, QuestionsEnd, ReadEnd, WordsEnd, IsTidying}
 
 -- a status is 0 or 1, or it is another one
 zero_or_one : (status : ℕ) → ((status ≡ 0) ⊎ (status ≡ 1)) ⊎ ((status ≢ 0) × (status ≢ 1))
@@ -107,13 +107,6 @@ module _ (known : Surroundings) (counted counted_after : ℕ) (old new : Outputs
           w.2,
         )
   ]
-
--- the status of an error that ends a run is one of a fault
-pub of_fault : (stop : RunError) (status : ℕ) → status ≡ status_of stop → IsOfFault status
-of_fault Tree status is = (λ e. omega arith, λ e. omega arith, λ e. omega arith)
-of_fault Configuration status is = (λ e. omega arith, λ e. omega arith, λ e. omega arith)
-of_fault Failed status is = (λ e. omega arith, λ e. omega arith, λ e. omega arith)
-of_fault Memory status is = (λ e. omega arith, λ e. omega arith, λ e. omega arith)
 
 -- of the errors that end a run just a failed read or write has the status 5
 pub five_is_failed : (stop : RunError) (status : ℕ) → status ≡ status_of stop → status ≡ 5 → stop ≡ Failed

@@ -27,9 +27,9 @@ use kc_value::Sink;
 use kmin_inputs::Files;
 use kmin_options::{Job, Settings, Task, Verb};
 use kmin_outputs::{
-    JobOutput, ReadFiles, answer_of, compared, configured, configured_by, notice_choices,
+    JobOutput, ReadFiles, answer_of, compared, configured, configured_by, finish, notice_choices,
 };
-use kmin_report::{Messages, RunError, exit_status, write_answer};
+use kmin_report::{Messages, RunError};
 use kmin_trees::job_tree;
 use std::alloc::Global;
 
@@ -70,13 +70,8 @@ pub fn serve<F: Files, O: Sink, E: Messages>(
     // On status 5 a file couldn't be opened, or a read of a file or a write of the output failed.
     ensures failed { result ≡ 5 → HasRisen (F.failures files.old) (F.failures files.new) ⊎ HasRisen (O.failures out.old) (O.failures out.new) }
 {
-    match output_of_job(alloc, job, files, err) {
-        Ok(answer) => match write_answer(&answer.text, out, err) {
-            Ok(()) => answer.status,
-            Err(_) => RunError::Failed.status(),
-        },
-        Err(stop) => exit_status(stop, err),
-    }
+    let answer = output_of_job(alloc, job, files, err);
+    finish(answer, out, err)
 }
 
 /// The complete output of a command, and its status. Reports the notices, and why there is no output.

@@ -30,7 +30,7 @@ use std::alloc::Global;
 /// Runs the program on its words, the files, the disk, a reader and two writers, and returns the exit status.
 ///
 /// Without words it reads a bundle, a Kconfig tree, a line `%%` and a configuration file, and writes the full file.
-/// Else the words, each `@FILE` read as the words in its file, are a command, before which options may stand. Statuses: 0
+/// Else the words, each `@FILE` read as the words in its file, are a command, which options may come before. Statuses: 0
 /// done, 1 a comparison found differences, symbols are listed or a line isn't taken with `--exit-code`, a file isn't minimal or a tree
 /// has open questions, 2 words or a list of paths refused, 3 tree refused, also by its expansion, 4 configuration file or answer
 /// file refused, a name that means no symbol, or bundle, list or file of words too large, 5 a read or write failed, 6 out of memory.
@@ -164,7 +164,7 @@ fn run_given<F: Files, D: WriteDisk, I: Source, O: Sink, E: FormMessages>(
     }
 }
 
-/// Runs the command that words without `@FILE` name, behind options or before them, and returns the exit status. Where standard input
+/// Runs the command that words without `@FILE` name, after options or before them, and returns the exit status. Where standard input
 /// was read (`is_input_read`), words that read it once more are refused.
 fn run_read<F: Files, D: WriteDisk, I: Source, O: Sink, E: FormMessages>(
     alloc: Global,

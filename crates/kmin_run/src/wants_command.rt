@@ -16,8 +16,8 @@ use kc_value::Sink;
 use kmin_expansions::{Wanted, wanted_of};
 use kmin_inputs::Files;
 use kmin_options::Questions;
-use kmin_outputs::JobOutput;
-use kmin_report::{Message, Messages, RunError, exit_status, write_answer};
+use kmin_outputs::{JobOutput, finish};
+use kmin_report::{Message, Messages, RunError};
 use std::alloc::{AllocError, Global};
 
 /// Lists the open questions of a tree's macros, a line each, in the order in which the expansion asks them; with `--unused`, where
@@ -52,13 +52,8 @@ pub fn list_questions<F: Files, O: Sink, E: Messages>(
     // On status 5 an answer file couldn't be opened, or a read of one or a write of the output failed.
     ensures failed { result ≡ 5 → HasRisen (F.failures files.old) (F.failures files.new) ⊎ HasRisen (O.failures out.old) (O.failures out.new) }
 {
-    match answer_questions(alloc, questions, files, err) {
-        Ok(answer) => match write_answer(&answer.text, out, err) {
-            Ok(()) => answer.status,
-            Err(_) => RunError::Failed.status(),
-        },
-        Err(stop) => exit_status(stop, err),
-    }
+    let answer = answer_questions(alloc, questions, files, err);
+    finish(answer, out, err)
 }
 
 /// The complete list of questions, and its status. Reports why there is none.

@@ -1,6 +1,6 @@
 -- The names that most proofs of this crate cite, passed on from one place. Declares nothing.
 pub use Rattle.std.proofs.Common.{Bool, Err, IfErr, IfOk, List, None, Ok, Option, Result, Some, [], ap, append-nil, arith, cond, false, inl, inr, length, map, refl, rules, subst, sym, take, true, ℕ, ◌++◌, ◌<◌, ◌∙◌, ◌∷◌, ◌≡◌, ◌≢◌, ◌≤◌, ◌⊎◌}
-pub use Rattle.kc_dotconfig.specs.Fragments.{notice_pair}
+pub use Rattle.kc_dotconfig_model.specs.between.Notices.{notice_pair}
 pub use Rattle.kc_dotconfig.specs.declared.fragment.Fragment.{Fragment}
 pub use Rattle.kc_dotconfig_model.specs.between.Formats.{file_format}
 pub use Rattle.kc_dotconfig_model.specs.declared.fault.LoadKind.{LoadKind}
@@ -11,7 +11,7 @@ pub use Rattle.kc_tree_model.specs.Trees.{Tree}
 pub use Rattle.kc_value.specs.Streams.{one_failure_more}
 pub use Rattle.kc_value.specs.declared.limits.TheConstants.{MAX_CONFIG_BYTES}
 pub use Rattle.kc_value.specs.declared.reader_bytes.ReadEnd.TheVariants.{AtEnd}
-pub use Rattle.kmin_disk.proofs.Places.{same_place_or_other}
+pub use Rattle.kmin_disk.proofs.Places.{Stays-refl, same_place_or_other}
 pub use Rattle.kmin_disk.specs.Contents.{Content, file, nothing, readable, special, unfinished}
 pub use Rattle.kmin_disk.specs.Disks.{Disk, DiskState, FailsOnce, History, MayFailOnce, content_at, newest, with_newest}
 pub use Rattle.kmin_records.specs.declared.output_form.OutputForm.{OutputForm}

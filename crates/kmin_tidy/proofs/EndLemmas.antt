@@ -2,7 +2,7 @@
 use Rattle.std.proofs.Common.{string_bytes}
 use Rattle.std.specs.Io.KnownBytes.{Appends}
 use Rattle.std.proofs.KnownBytes.{Appends-nil}
-use Rattle.kmin_tidy.proofs.Common.{◌≡◌, ◌≢◌, ℕ, true, false, List, [], ◌∷◌, ◌++◌, Option, Some, None, inl, inr, refl, sym, ap, ◌∙◌, subst, length, arith, append-nil, nothing, unfinished, Disk, DiskState, History, newest, with_newest, content_at, same_place_or_other, TidySettings, Tidies, IsKept}
+use Rattle.kmin_tidy.proofs.Common.{◌≡◌, ◌≢◌, ℕ, true, false, List, [], ◌∷◌, ◌++◌, Option, Some, None, inl, inr, refl, sym, ap, ◌∙◌, subst, length, arith, append-nil, nothing, unfinished, Disk, DiskState, History, newest, with_newest, content_at, Stays-refl, same_place_or_other, TidySettings, Tidies, IsKept}
 use Rattle.kmin_tidy.proofs.Common.{IsTidy, AreTidy, StopsRun, TidyStop, Memory, ErrorLine}
 use Rattle.kmin_tidy.specs.Ends.{Ends, whole, part, stopped, Stops, before_write, at_write, at_left, IsToBeReplaced, LeavesNewFile}
 use Rattle.kmin_tidy.specs.Promises.{IsKeptOrLeft}
@@ -12,7 +12,7 @@ use Rattle.kmin_tidy.specs.checker.FileResults as results
 use Rattle.kmin_tidy.specs.checker.ReportLines.{stop_line}
 use Rattle.kmin_tidy.specs.declared.stop.TidyStop.TheVariants.{Left}
 use Rattle.kmin_tidy.specs.declared.whole_run.RunResult.{RunResult}
-use Rattle.kmin_tidy.proofs.KeptPlaces.{stays_same, kept_after, newest_written}
+use Rattle.kmin_tidy.proofs.KeptPlaces.{kept_after, newest_written}
 use Rattle.kmin_tidy.proofs.StepLemmas.{once_same, tidy_same}
 use Rattle.kmin_tidy.proofs.RunLemmas.{all_front, all_next, run_kept, run_unasked, run_tidy}
 
@@ -53,7 +53,7 @@ module _ (s : TidySettings) (a : Disk) where
             (b.state.history (between.state.place new_path))
             kept l.leaves.left l.leaves.free))
         | inr other ↦ inl (kept_after s (a.state.history place) (between.state.history place) (b.state.history place) k
-            (inl (stays_same (between.state.history place) (b.state.history place) (l.leaves.others place other))))
+            (inl (Stays-refl (between.state.history place) (b.state.history place) (l.leaves.others place other))))
       ]
 
   stops_became : (b : Disk) (paths : List (List ℕ)) (reports : List ErrorLine) (status : ℕ) → Stops s a b paths reports status

@@ -3,9 +3,6 @@ use Rattle.kmin_tidy.proofs.Common.{◌≡◌, ◌≢◌, ℕ, List, [], ◌∷�
 use Rattle.kmin_disk.specs.Disks.{Stays}
 use Rattle.kmin_tidy.specs.MinimalFiles.{IsMinimalFile}
 
-pub stays_same : (old new : History) → new ≡ old → Stays old new
-stays_same old new same = record { same_content = ap newest same; same_history = λ some. same }
-
 -- a file that is the minimal file of some values is its own minimal file
 pub minimal_once : (s : TidySettings) (bytes least : List ℕ) (notices : Notices) → IsMinimalFile s bytes → HasMinimalFile s bytes least notices → least ≡ bytes
 minimal_once s bytes least notices own m = m.canonical.is ∙ own.1.once m.values m.loads.reads

@@ -152,7 +152,7 @@ cut_within format tree bytes number h lt =
     let k = h.first TooLarge MAX_CONFIG_BYTES (newline_count (take MAX_CONFIG_BYTES bytes) + 1) (inl ((lt, refl, refl), lt)) in
     elim k [ inl less ↦ omega (arith, less, e, lt) | inr same ↦ omega (arith, same.0, e, lt) ]
 
--- a fault of a failed read is told only of a part that isn't too large
+-- a fault of a failed read is reported only of a part that isn't too large
 pub read_within : (format : FileFormat) (tree : Tree) (bytes : List ℕ) (kind : LoadKind) (number : ℕ) → IsFaultOfPart format tree bytes kind number
     → kind ≡ Read → length bytes ≤ MAX_CONFIG_BYTES
 read_within format tree bytes kind number (in_front other first) read = absurd (other read)
@@ -191,7 +191,3 @@ both_ok (Err e) P Q R f h k = tt
 pub if_ok_on : {T E : Type 0} (r : Result T E) (P : T → Type 0) (Q : Type 0) → ((x : T) → P x → Q) → IfOk r P → OnOk r Q
 if_ok_on (Ok x) P Q f h = f x h
 if_ok_on (Err e) P Q f h = tt
-
-pub on_ok_map : {T E : Type 0} (r : Result T E) (P Q : Type 0) → (P → Q) → OnOk r P → OnOk r Q
-on_ok_map (Ok x) P Q f h = f h
-on_ok_map (Err e) P Q f h = tt

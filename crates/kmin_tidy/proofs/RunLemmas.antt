@@ -1,8 +1,8 @@
 -- Runs, one file after another.
-use Rattle.kmin_tidy.proofs.Common.{◌≡◌, ℕ, false, List, [], ◌∷◌, ◌++◌, inl, refl, sym, ap, ◌∙◌, subst, map, Disk, DiskState, newest, content_at, TidySettings, IsKept, IsTidy, AreTidy, DoneFile, Run, one_more, HoldsMinimalFile, Minimal, ErrorLine}
+use Rattle.kmin_tidy.proofs.Common.{◌≡◌, ℕ, false, List, [], ◌∷◌, ◌++◌, inl, refl, sym, ap, ◌∙◌, subst, map, Disk, DiskState, newest, content_at, Stays-refl, TidySettings, IsKept, IsTidy, AreTidy, DoneFile, Run, one_more, HoldsMinimalFile, Minimal, ErrorLine}
 use Rattle.std.specs.List.{AllByRecursion}
 use Rattle.kmin_tidy.specs.Runs.{path_of, none, AreMinimal}
-use Rattle.kmin_tidy.proofs.KeptPlaces.{stays_same, kept_after, minimal_kept}
+use Rattle.kmin_tidy.proofs.KeptPlaces.{kept_after, minimal_kept}
 use Rattle.kmin_tidy.proofs.StepLemmas.{step_kept, step_places, step_unasked, step_minimal, step_tidy}
 
 -- a property of all elements of a list is one of all elements of its front
@@ -29,7 +29,7 @@ map_last (x ∷ front) last = ap (λ z. x.0 ∷ z) (map_last front last)
 -- after a run, each place is as before, or its file was replaced by its minimal file
 pub run_kept : (s : TidySettings) (a b : Disk) (files : List DoneFile) (text : List ℕ) (reports : List ErrorLine) → Run s a b files text reports
     → (place : List ℕ) → IsKept s (a.state.history place) (b.state.history place)
-run_kept s a b files text reports none place = inl (stays_same (a.state.history place) (a.state.history place) refl)
+run_kept s a b files text reports none place = inl (Stays-refl (a.state.history place) (a.state.history place) refl)
 run_kept s a b files text reports (one_more between new front all path before line whole earlier own every outcome run step e w r) place =
     kept_after s (a.state.history place) (between.state.history place) (new.state.history place) (run_kept s a between front before earlier run place)
     (step_kept s between new path line own outcome step place)

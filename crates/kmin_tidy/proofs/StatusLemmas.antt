@@ -11,23 +11,11 @@ first_status NotMinimal = refl
 first_status Refused = refl
 first_status Failed = refl
 
-minimal_max : (n : ℕ) → max 1 (status_after n Minimal) ≡ status_after (max 1 n) Minimal
-minimal_max n = grind (arith, nat_tests)
-
-not_minimal_max : (n : ℕ) → max 1 (status_after n NotMinimal) ≡ status_after (max 1 n) NotMinimal
-not_minimal_max n = grind (arith, nat_tests)
-
-refused_max : (n : ℕ) → max 1 (status_after n Refused) ≡ status_after (max 1 n) Refused
-refused_max n = grind (arith, nat_tests)
-
-failed_max : (n : ℕ) → max 1 (status_after n Failed) ≡ status_after (max 1 n) Failed
-failed_max n = grind (arith, nat_tests)
-
 max_one : (n : ℕ) (outcome : FileOutcome) → max 1 (status_after n outcome) ≡ status_after (max 1 n) outcome
-max_one n Minimal = minimal_max n
-max_one n NotMinimal = not_minimal_max n
-max_one n Refused = refused_max n
-max_one n Failed = failed_max n
+max_one n Minimal = grind (arith, nat_tests)
+max_one n NotMinimal = grind (arith, nat_tests)
+max_one n Refused = grind (arith, nat_tests)
+max_one n Failed = grind (arith, nat_tests)
 
 with_last : (first : FileOutcome) (rest after : ℕ) (last : FileOutcome) → after ≡ status_after rest last
     → status_with first after ≡ status_after (status_with first rest) last

@@ -1,11 +1,11 @@
 -- The disk after one file of a run.
-use Rattle.kmin_tidy.proofs.Common.{◌≡◌, ◌≢◌, ℕ, true, false, List, [], Option, Some, None, inl, inr, sym, ap, ◌∙◌, subst, Content, nothing, file, unfinished, special, Disk, DiskState, MayFailOnce, content_at, same_place_or_other, TidySettings, Notices, refuses_notices, IsReadAs, HasMinimalFile}
+use Rattle.kmin_tidy.proofs.Common.{◌≡◌, ◌≢◌, ℕ, true, false, List, [], Option, Some, None, inl, inr, sym, ap, ◌∙◌, subst, Content, nothing, file, unfinished, special, Disk, DiskState, MayFailOnce, content_at, Stays-refl, same_place_or_other, TidySettings, Notices, refuses_notices, IsReadAs, HasMinimalFile}
 use Rattle.kmin_tidy.proofs.Common.{Step, noticed, minimal, shown, replaced, unwritten, unsynced, call_failed, names_taken, not_regular, IsMinimised, IsKept, IsTidy, HoldsMinimalFile, FileOutcome, Minimal, NotMinimal, Refused, Failed, IsRefused, ErrorLine}
 use Rattle.kmin_disk.specs.Disks.{IsUnchanged, Replaces}
 use Rattle.kmin_tidy.specs.MinimalFiles.{IsNotMinimal}
 use Rattle.kmin_tidy.specs.Steps.{refused, IsUnwritten}
 use Rattle.kmin_tidy.specs.Refusals as refusals
-use Rattle.kmin_tidy.proofs.KeptPlaces.{stays_same, minimal_not, written_minimal, holds_read, holds_written}
+use Rattle.kmin_tidy.proofs.KeptPlaces.{minimal_not, written_minimal, holds_read, holds_written}
 
 same_state : (a b : Disk) → b ≡ a → b.state ≡ a.state
 same_state a b e = ap (λ (d : Disk). d.state) e
@@ -25,7 +25,7 @@ module _ (s : TidySettings) (a b : Disk) (path : List ℕ) where
 
   -- on a disk whose state is unchanged, each place is as it was
   pub same_kept : b.state ≡ a.state → (place : List ℕ) → IsKept s (a.state.history place) (b.state.history place)
-  same_kept e place = inl (stays_same (a.state.history place) (b.state.history place) (ap (λ (d : DiskState). d.history place) e))
+  same_kept e place = inl (Stays-refl (a.state.history place) (b.state.history place) (ap (λ (d : DiskState). d.history place) e))
 
   pub unchanged_kept : IsUnchanged a.state b.state → (place : List ℕ) → IsKept s (a.state.history place) (b.state.history place)
   unchanged_kept u place = inl (u.histories place)

@@ -5,7 +5,8 @@ ghost use Rattle.kc_rules.specs.between.SettledViews.{profile_of, tree_of_settle
 ghost use Rattle.kc_dotconfig_model.specs.OtherChoices.{other_choices_of};
 ghost use Rattle.kc_config.specs.ConfigStates.{tree_in, IsSolved};
 ghost use Rattle.kc_minimal_model.specs.CanonicalText.{IsCanonicalText};
-ghost use Rattle.kc_dotconfig.specs.Fragments.{FitsTree, users_of, notice_pair};
+ghost use Rattle.kc_dotconfig.specs.Fragments.{FitsTree, users_of};
+ghost use Rattle.kc_dotconfig_model.specs.between.Notices.{notice_pair};
 ghost use Rattle.kmin_disk.specs.Contents.{IsOfKind, readable, special};
 ghost use Rattle.kmin_disk.specs.Disks.{content_at};
 ghost use Rattle.kmin_disk.specs.declared.kind.FileKind.TheVariants.{NotRegular};

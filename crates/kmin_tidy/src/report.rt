@@ -1,7 +1,5 @@
 //! The lines of standard error.
-ghost use Rattle.std.specs.Prelude.{◌≡◌, map};
-ghost use Rattle.kc_dotconfig.specs.Fragments.{notice_pair};
-ghost use Rattle.kmin_report.specs.Reports.{tree_notice_line};
+ghost use Rattle.std.specs.Prelude.{◌≡◌};
 ghost use Rattle.kmin_report.specs.between.ReportLines.{report_line};
 ghost use Rattle.kmin_report.specs.StandardError.{TakesLine, TakesLines};
 ghost use Rattle.kmin_tidy.specs.checker.ReportLines.{problem_line, problem_lines, report_lines, stop_line};
@@ -10,7 +8,7 @@ use crate::outcome::FileOutcome;
 use crate::stop::TidyStop;
 use kc_dotconfig::{LoadFault, Notice};
 use kc_tree::Tree;
-use kmin_report::{Message, Messages};
+use kmin_report::{Message, Messages, report_notices};
 
 /// Why a file isn't read or replaced.
 #[derive(Clone, Copy, Debug, PartialEq, Eq)]
@@ -37,22 +35,6 @@ pub(crate) fn report_file<E: Messages>(path: &str, report: &FileReport, tree: &T
 {
     report_notices(path, &report.notices, tree, err);
     report_problem(path, report.problem, err);
-}
-
-/// Writes the notices of a file.
-fn report_notices<E: Messages>(path: &str, notices: &[Notice], tree: &Tree, err: &mut E)
-    ensures { TakesLines (E.taken err.old) (E.failures err.old) (map (λ notice. tree_notice_line tree.now.tree path.now (notice_pair notice)) notices.now)
-        (E.taken err.new) (E.failures err.new) }
-{
-    for notice in notices {
-        let Notice { line, kind } = *notice;
-        err.write_report(Message::Notice {
-            path,
-            line,
-            kind,
-            tree,
-        });
-    }
 }
 
 /// Writes the problem of a file, if it has one.

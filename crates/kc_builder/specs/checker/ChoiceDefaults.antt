@@ -1,6 +1,5 @@
 -- The defaults of choices, as they are collected.
-use Rattle.std.specs.Prelude.{◌≡◌, ℕ, List, [], ◌∷◌, All, length, map, filter, filter_map, reverse, slice_get, Option, Some, None, option_map, option_and_then, if◌then◌else◌}
-use Rattle.std.specs.List.{cons_option}
+use Rattle.std.specs.Prelude.{◌≡◌, ℕ, List, [], All, length, map, filter, filter_map, reverse, slice_get, Option, Some, None, option_map, option_and_then, if◌then◌else◌}
 use Rattle.kc_tokens.specs.declared.language.Language.{Language}
 use Rattle.kc_expr.specs.between.Arena.{node_expr}
 use Rattle.kc_expr.specs.between.Names.{name_alone}
@@ -22,6 +21,7 @@ use Rattle.kc_tree.specs.between.GatheredAttributes.{AreKeys}
 use Rattle.kc_tree.specs.between.GroupedItems.{items_of}
 use Rattle.kc_checks.specs.between.Summaries.{is_choice_code}
 use Rattle.kc_conditions.specs.between.Walks.{RepresentsAllConditions}
+use Rattle.kc_builder.specs.checker.GatheredItems.{gathered_items}
 use Rattle.kc_tree.specs.declared.items_with_keys.ItemsWithKeys.{ItemsWithKeys}
 use Rattle.kc_tree.specs.declared.symbol.MemberDefault.{MemberDefault}
 use Rattle.kc_conditions.specs.declared.group_walk.GroupConditions.{GroupConditions}
@@ -45,9 +45,7 @@ member_default_row n l c = option_map (λ s. record { member = s; condition = c 
 
 -- the choice defaults that attribute lines with their conditions give, in order; a line that gives none is left out
 abbrev pub member_default_rows : SymbolTable → List CodeLine → List ℕ → List MemberDefault
-member_default_rows n [] cs = []
-member_default_rows n (l ∷ ls) [] = []
-member_default_rows n (l ∷ ls) (c ∷ cs) = cons_option (member_default_row n l c) (member_default_rows n ls cs)
+member_default_rows n ls cs = gathered_items (member_default_row n) ls cs
 
 -- the choice defaults that a statement's attributes with their conditions give; none if the statement is no `choice`
 abbrev pub group_default_rows : CodeHead → SymbolTable → List CodeLine → List ℕ → List MemberDefault

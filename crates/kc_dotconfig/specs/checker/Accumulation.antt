@@ -14,7 +14,8 @@ use Rattle.kc_dotconfig_model.specs.LoadFaults.{complete, IsFirstFault, IsAccept
 use Rattle.kc_dotconfig_model.specs.between.PartialFiles.{IsCutFile}
 use Rattle.kc_dotconfig.specs.declared.accumulator.Accumulator.{Accumulator}
 use Rattle.kc_dotconfig.specs.declared.fragment.Fragment.{Fragment}
-use Rattle.kc_dotconfig.specs.Fragments.{users_of, notice_pair}
+use Rattle.kc_dotconfig.specs.Fragments.{users_of}
+use Rattle.kc_dotconfig_model.specs.between.Notices.{notice_pair}
 use Rattle.kc_dotconfig.specs.checker.UserValueOrder.{IsAscending, AreBelow}
 use Rattle.kc_dotconfig.specs.checker.GatheredLines.{value_in, lines_in, held_in, IsPlain}
 

@@ -50,7 +50,7 @@ NodeFits names texts k (Both i j) = (i < k) × (j < k)
 NodeFits names texts k (Either i j) = (i < k) × (j < k)
 NodeFits names texts k (Shown i) = i < k
 
--- the node, a constant `n`, that stands for one past the end of a list
+-- the node, a constant `n`, in place of one past the end of a list
 abbrev pub some_node : Node
 some_node = Alone (Constant N)
 

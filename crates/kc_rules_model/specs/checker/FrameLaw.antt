@@ -236,7 +236,7 @@ module _ (tree : Tree) (v w : List UnitValue) where
       ∙ ap (λ t. F (is_upside_down tree w kind (R w)) t (is_within tree v kind (R v) n)) (limited_agrees kind n text rs all)
       ∙ ap (λ b. F (is_upside_down tree w kind (R w)) (clamped tree w kind (R w) n text) b) (within_agrees kind n rs all)
 
-  -- whether a default counts, and so what stands in place of a number
+  -- whether a default counts, and so what is in place of a number
   no_default_agrees : (kind : Kind) (ds : List Default) → AllByRecursion (DefaultAgrees tree v w) ds
       → is_some (find (λ (d : Default). not (is_n (condition tree v d.condition))) ds) ≡ is_some (find (λ (d : Default). not (is_n (condition tree w d.condition))) ds)
   no_default_agrees kind ds all =

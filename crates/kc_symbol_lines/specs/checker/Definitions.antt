@@ -29,7 +29,7 @@ pub record HasEntry (a : EnclosingLists) (file : ℕ) (ls : List Line) (old new 
   pub defaults : new.defaults.items ≡ old.defaults.items ++ places_in Default file ls
   pub ranges : new.ranges.items ≡ old.ranges.items ++ places_in Range file ls
 
--- what stands on the lines of the group with a number
+-- what is on the lines of the group with a number
 abbrev pub around_group : (through : Bool) → TreeLines → List ModelGroup → ℕ → EnclosingLists
 around_group through lines read i = inside_blocks through lines.no lines.groups.items lines.lines.items (open_numbers read i)
 

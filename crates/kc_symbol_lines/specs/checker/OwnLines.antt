@@ -1,4 +1,4 @@
--- What stands on the attribute lines of a group, as the code has it.
+-- What is on the attribute lines of a group, as the code has it.
 use Rattle.std.specs.Prelude.{ℕ, Bool, false, is_some, List, [], ◌∷◌, ◌++◌, Option, Some, None, if◌then◌else◌}
 use Rattle.kc_parser.specs.declared.listing.Line.{Line}
 use Rattle.kc_statements.specs.declared.statement.Conjuncts.{Conjuncts}

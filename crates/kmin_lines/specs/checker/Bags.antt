@@ -1,5 +1,5 @@
 -- Bags of lines: each line with its number of occurrences.
-use Rattle.std.specs.Prelude.{◌≡◌, ℕ, ◌+◌, List, [], ◌∷◌, length, unwrap_or, if◌then◌else◌}
+use Rattle.std.specs.Prelude.{◌≡◌, ℕ, ◌+◌, List, [], ◌∷◌, unwrap_or, if◌then◌else◌}
 use Rattle.std.specs.Str.{bytes_eq}
 use Rattle.indexmap.specs.IndexMap.{get_by}
 use Rattle.kmin_lines.specs.declared.line_bag.LineBag.{LineBag}
@@ -13,7 +13,6 @@ abbrev pub times_among : (lines : List (List ℕ)) → (line : List ℕ) → ℕ
 times_among [] line = 0
 times_among (other ∷ lines) line = (if bytes_eq line other then 1 else 0) + times_among lines line
 
--- a bag holds exactly the lines of a list: as many in total, and each line as often as the list does
+-- a bag holds exactly the lines of a list: each as often as the list does
 pub record HasLines (bag : LineBag) (lines : List (List ℕ)) : Type 0 where
-  pub len : bag.len ≡ length lines
   pub each : (line : List ℕ) → times_in bag line ≡ times_among lines line

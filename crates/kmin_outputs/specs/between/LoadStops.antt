@@ -5,7 +5,7 @@ use Rattle.kc_dotconfig_model.specs.Formats.{FileFormat}
 use Rattle.kc_dotconfig_model.specs.declared.fault.LoadKind.{LoadKind}
 use Rattle.kc_dotconfig_model.specs.declared.fault.LoadKind.TheVariants.{Read, OutOfMemory}
 use Rattle.kc_dotconfig.specs.declared.fragment.Fragment.{Fragment}
-use Rattle.kc_dotconfig.specs.Fragments.{notice_pair}
+use Rattle.kc_dotconfig_model.specs.between.Notices.{notice_pair}
 use Rattle.kc_dotconfig.specs.ReadResults.{ReportsFault}
 use Rattle.kc_files.specs.TreeContents.{FileContent}
 use Rattle.kc_rules_model.specs.declared.values.UnitValue.{UnitValue}

@@ -1,14 +1,9 @@
--- Texts of the code as the definitions see them, and their tokens.
+-- The tokens of texts and of members.
 use Rattle.std.specs.Prelude.{ℕ, List, ◌∷◌, map, flat_map}
-use Rattle.std.specs.Borrow.{Bor}
 use Rattle.std.specs.Str.Lossy.{utf8_lossy}
 use Rattle.json.specs.Json.{Json}
 use Rattle.json.specs.Token.{Token, string, key}
 use Rattle.json.specs.Tree.{json_tokens}
-
--- the bytes of texts
-abbrev pub texts_of : List (Bor (List ℕ)) → List (List ℕ)
-texts_of texts = map (λ (text : Bor (List ℕ)). text.now) texts
 
 -- the tokens of texts, with U+FFFD in place of what isn't UTF-8
 abbrev pub text_tokens : List (List ℕ) → List Token

@@ -8,7 +8,8 @@ use Rattle.kc_dotconfig_model.specs.LoadFaults.{IsAccepted, IsFirstFault, comple
 use Rattle.kc_dotconfig_model.specs.declared.fault.LoadKind.{LoadKind}
 use Rattle.kc_dotconfig_model.specs.declared.fault.LoadKind.TheVariants.{Read, OutOfMemory}
 use Rattle.kc_dotconfig.specs.declared.fragment.Fragment.{Fragment}
-use Rattle.kc_dotconfig.specs.Fragments.{FitsTree, users_of, notice_pair}
+use Rattle.kc_dotconfig.specs.Fragments.{FitsTree, users_of}
+use Rattle.kc_dotconfig_model.specs.between.Notices.{notice_pair}
 use Rattle.kc_tree_model.specs.Trees.{Tree}
 use Rattle.kmin_disk.specs.Contents.{OpensAs}
 use Rattle.kmin_report.specs.KnownBytes.{AreKnownBytes}

@@ -1,7 +1,7 @@
 -- The lines of each report.
 use Rattle.std.specs.Prelude.{ℕ, List, [], ◌∷◌, ◌++◌, Option, Some, None, map, string_bytes}
 use Rattle.kc_tree_model.specs.Trees.{Tree}
-use Rattle.kc_dotconfig.specs.Fragments.{notice_pair}
+use Rattle.kc_dotconfig_model.specs.between.Notices.{notice_pair}
 use Rattle.kmin_report.specs.Reports.{ErrorLine, fault_line, not_regular_line, write_line, left_line, memory_line}
 use Rattle.kmin_tidy.specs.Reports.{notice_lines}
 use Rattle.kmin_tidy.specs.declared.report.Problem.{Problem}

@@ -1,5 +1,4 @@
-use Rattle.std.proofs.Common.{◌≡◌, ap, ◌∙◌}
-use Rattle.kc_tree_model.specs.TreeReading.{reading}
+use Rattle.kc_builder.proofs.Common.{ap, ◌∙◌, reading}
 use Rattle.kc_builder.proofs.AssemblySteps.{faultless_of, is_gathering}
 use Rattle.kc_builder.proofs.TreeLineSteps.{lines_of_listing}
 use Rattle.kc_builder.proofs.builder.gathered_of.Goals as goal

@@ -1,5 +1,4 @@
-use Rattle.std.proofs.Common.{◌<◌, ◌^◌, length, subst, sym}
-use Rattle.kc_tree_model.specs.TreeReading.{reading}
+use Rattle.kc_builder.proofs.Common.{◌<◌, ◌^◌, length, subst, sym, reading}
 use Rattle.kc_builder.proofs.AssemblySteps.{walk_read}
 use Rattle.kc_builder.proofs.RepresentedGroups.{summed_of}
 use Rattle.kc_builder.proofs.builder.lists_of.Goals as goal

@@ -1,5 +1,4 @@
-use Rattle.kc_builder.proofs.Common.{◌≡◌, IfOk-weaker, TreeModel, gathered_tree}
-use Rattle.kc_tree_model.specs.Contents.{tree_of_files}
+use Rattle.kc_builder.proofs.Common.{◌≡◌, IfOk-weaker, TreeModel, gathered_tree, tree_of_files}
 use Rattle.kc_builder.proofs.AssemblySteps.{consistent_of, whole_is}
 use Rattle.kc_builder.proofs.builder.tree_of.Goals as goal
 

@@ -1,7 +1,4 @@
-use Rattle.kc_builder.proofs.Common.{◌≡◌, ◌⊎◌, Err, IfErr, None, Some, rules, sym, subst, ◌∙◌, slice_get, no_memory, IsFaultRead, IsWalkOf, AreParts}
-use Rattle.kc_tree_model.specs.TreeFaults.{tree_faults}
-use Rattle.kc_tree_model.specs.TreeReading.{reading}
-use Rattle.kc_checks.specs.between.Summaries.{IsSummary}
+use Rattle.kc_builder.proofs.Common.{◌≡◌, ◌⊎◌, Err, IfErr, None, Some, rules, sym, subst, ◌∙◌, slice_get, no_memory, IsFaultRead, IsWalkOf, AreParts, tree_faults, reading, IsSummary}
 use Rattle.kc_builder.proofs.builder.tree_parts.Goals as goal
 
 pub checked_parts-requires-clause-walked : goal.checked_parts-requires-clause-walked

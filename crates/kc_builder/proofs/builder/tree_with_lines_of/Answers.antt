@@ -1,5 +1,4 @@
-use Rattle.kc_builder.proofs.Common.{ap, TreeModel}
-use Rattle.kc_tree_model.specs.TreeReading.{reading}
+use Rattle.kc_builder.proofs.Common.{ap, TreeModel, reading}
 use Rattle.kc_builder.proofs.AssemblySteps.{consistent_of, whole_is}
 use Rattle.kc_builder.proofs.TreeLineSteps.{of_arena}
 use Rattle.kc_builder.proofs.builder.tree_with_lines_of.Goals as goal

@@ -18,22 +18,26 @@ loop-i-preserved c =
           rest_more (target_key n c.args.forcing) (gathered_reverse_dependency n c.args.forcing c.args.symbol) c.args.found.now c.loop-i.found
           c.match-target_symbol_of.found c.args.own.lines.now c.args.own.conditions.now c.loop-i.i condition line
           (omega arith) c.args.own.many c.loop-i.invariant
-          (ap (λ k. k.keys.items) w.found-is ∙ e.keys ∙ ap (λ o. c.loop-i.found.keys.items ++ option_to_list o) (sym t))
-          (ap (λ k. k.items.items) w.found-is ∙ e.items
-          ∙ ap (λ s. c.loop-i.found.items.items ++ made s condition ∷ []) by
-          ∙ ap (λ x. c.loop-i.found.items.items ++ made c.args.symbol x ∷ []) w.index-conditions-i.is
-          ∙ ap (λ o. c.loop-i.found.items.items ++ option_to_list (option_map (λ _. made c.args.symbol (get_or c.args.own.conditions.now c.loop-i.i condition)) o))
-          (sym t))
+          (record {
+            keys = ap (λ k. k.keys.items) w.found-is ∙ e.keys ∙ ap (λ o. c.loop-i.found.keys.items ++ option_to_list o) (sym t);
+            items = ap (λ k. k.items.items) w.found-is ∙ e.items
+                ∙ ap (λ s. c.loop-i.found.items.items ++ made s condition ∷ []) by
+                ∙ ap (λ x. c.loop-i.found.items.items ++ made c.args.symbol x ∷ []) w.index-conditions-i.is
+                ∙ ap (λ o. c.loop-i.found.items.items ++ option_to_list (option_map (λ _. made c.args.symbol (get_or c.args.own.conditions.now c.loop-i.i condition)) o))
+                (sym t);
+          })
           )
       | in_default w ↦ (
           let t = told ∙ w.in_default.is in
           rest_more (target_key n c.args.forcing) (gathered_reverse_dependency n c.args.forcing c.args.symbol) c.args.found.now c.loop-i.found
           c.match-target_symbol_of.found c.args.own.lines.now c.args.own.conditions.now c.loop-i.i 0 line
           (omega arith) c.args.own.many c.loop-i.invariant
-          (ap (λ k. k.keys.items) w.found-is ∙ sym (append-nil c.loop-i.found.keys.items) ∙ ap (λ o. c.loop-i.found.keys.items ++ option_to_list o) (sym t))
-          (ap (λ k. k.items.items) w.found-is ∙ sym (append-nil c.loop-i.found.items.items)
-          ∙ ap (λ o. c.loop-i.found.items.items ++ option_to_list (option_map
-          (λ _. let f : ReverseDependency = record { by = c.args.symbol; condition = get_or c.args.own.conditions.now c.loop-i.i 0 } in f) o)) (sym t))
+          (record {
+            keys = ap (λ k. k.keys.items) w.found-is ∙ sym (append-nil c.loop-i.found.keys.items) ∙ ap (λ o. c.loop-i.found.keys.items ++ option_to_list o) (sym t);
+            items = ap (λ k. k.items.items) w.found-is ∙ sym (append-nil c.loop-i.found.items.items)
+                ∙ ap (λ o. c.loop-i.found.items.items ++ option_to_list (option_map
+                (λ _. let f : ReverseDependency = record { by = c.args.symbol; condition = get_or c.args.own.conditions.now c.loop-i.i 0 } in f) o)) (sym t);
+          })
           )
     ]
 

@@ -1,5 +1,4 @@
-use Rattle.kc_builder.proofs.Common.{◌≡◌, ◌⊎◌, Err, IfErr, None, Some, length, rules, subst, sym, arith, slice_get, no_memory}
-use Rattle.kc_tree_model.specs.TreeFaults.{tree_faults}
+use Rattle.kc_builder.proofs.Common.{◌≡◌, ◌⊎◌, Err, IfErr, Some, rules, subst, sym, arith, slice_get, no_memory, tree_faults}
 use Rattle.kc_checks.proofs.FaultSearch.{checked_all}
 use Rattle.kc_builder.proofs.AssemblySteps.{faultless_of}
 use Rattle.kc_builder.proofs.GroupPartSteps.{all_parts, no_parts, parts_more, represented_by, ArePartsTo}

@@ -1,5 +1,4 @@
-use Rattle.kc_builder.proofs.Common.{length, get_or, [], ◌∷◌, ◌++◌, None, ap, ◌∙◌, arith, common_steps, row_of_symbol, SymbolSummary}
-use Rattle.kc_parser.specs.between.ListingView.{RepresentsListing}
+use Rattle.kc_builder.proofs.Common.{length, get_or, [], ◌∷◌, ◌++◌, None, ap, ◌∙◌, arith, common_steps, row_of_symbol, SymbolSummary, RepresentsListing}
 use Rattle.kc_builder.proofs.RowSteps.{as_many, row_more, rows_all, rows_shown}
 use Rattle.kc_builder.proofs.rows.symbol_rows.Goals as goal
 

@@ -1,6 +1,4 @@
-use Rattle.kc_checks.proofs.Common.{◌≡◌, ℕ, List, drop, false, names_defined, choice_faults, AreMarked}
-use Rattle.kc_tree_model.specs.Blocks.{Group as ModelGroup}
-use Rattle.kc_parser.specs.between.ListingView.{RepresentsListing}
+use Rattle.kc_checks.proofs.Common.{◌≡◌, ℕ, List, drop, false, names_defined, choice_faults, AreMarked, ModelGroup, RepresentsListing}
 use Rattle.kc_checks.proofs.FaultKinds.{first_left}
 use Rattle.kc_checks.proofs.attribute_checks.first_choice_fault.Given as goal
 

@@ -1,7 +1,4 @@
-use Rattle.kc_checks.proofs.Common.{◌≡◌, ℕ, List, drop, false, bytes_eq, contents_of, attribute_faults}
-use Rattle.kc_expr.specs.Expr.{modules as modules_name}
-use Rattle.kc_tree_model.specs.Blocks.{Group as ModelGroup}
-use Rattle.kc_parser.specs.between.ListingView.{RepresentsListing}
+use Rattle.kc_checks.proofs.Common.{◌≡◌, ℕ, List, drop, false, bytes_eq, contents_of, attribute_faults, modules_name, ModelGroup, RepresentsListing}
 use Rattle.kc_checks.proofs.FaultKinds.{first_left}
 use Rattle.kc_checks.proofs.attribute_checks.first_symbol_fault.Given as goal
 

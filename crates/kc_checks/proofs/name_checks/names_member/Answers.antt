@@ -1,6 +1,5 @@
-use Rattle.kc_checks.proofs.Common.{◌≡◌, Some, sym, ap, ◌∙◌, arith, default_in, get_below, place-get, bare_name, names_defined, as_many_names}
+use Rattle.kc_checks.proofs.Common.{◌≡◌, Some, sym, ap, ◌∙◌, arith, default_in, get_below, place-get, bare_name, names_defined, as_many_names, RepresentsListing}
 use Rattle.kc_expr.specs.between.Arena.{node_expr}
-use Rattle.kc_parser.specs.between.ListingView.{RepresentsListing}
 use Rattle.kc_checks.proofs.Symbols.{bare_is, name_some}
 use Rattle.kc_checks.proofs.name_checks.names_member.Goals as goal
 

@@ -1,5 +1,4 @@
-use Rattle.std.proofs.Common.{◌∙◌}
-use Rattle.kc_parser.specs.between.ListingView.{RepresentsListing}
+use Rattle.kc_checks.proofs.Common.{◌∙◌, RepresentsListing}
 use Rattle.kc_checks.proofs.name_checks.symbol_number_of_name.Goals as goal
 
 pub returns : goal.returns

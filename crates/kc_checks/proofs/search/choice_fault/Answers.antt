@@ -1,5 +1,4 @@
-use Rattle.kc_checks.proofs.Common.{false, map, sym, ap, ◌∙◌, slice_get, get_or_read, contents_of, member_names, names_defined, choice_faults, faults_of_lines, line_in, group_at, no_group}
-use Rattle.kc_parser.specs.between.ListingView.{RepresentsListing}
+use Rattle.kc_checks.proofs.Common.{false, map, sym, ap, ◌∙◌, slice_get, get_or_read, contents_of, member_names, names_defined, choice_faults, faults_of_lines, line_in, group_at, no_group, RepresentsListing}
 use Rattle.kc_checks.proofs.FaultSearch.{choice_first, choice_there, place_at}
 use Rattle.kc_checks.proofs.search.choice_fault.Goals as goal
 

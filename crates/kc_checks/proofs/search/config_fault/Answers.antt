@@ -1,7 +1,5 @@
 use Rattle.kc_checks.proofs.Common.{◌≡◌, false, Some, length, map, sym, ap, ◌∙◌, arith, elements, slice_get, is_some, option_map, option_or, get_or_read, length-map, TreeFault, groups_in_context, contents_of, names_defined, attribute_faults, faults_of_lines, kind_of, line_in, as_many_names}
-use Rattle.kc_checks.proofs.Common.{enclosing_choice, group_at, no_group, choice_around, SymbolSummary}
-use Rattle.kc_parser.specs.between.ListingView.{RepresentsListing}
-use Rattle.kc_checks.specs.between.Summaries.{IsSummary}
+use Rattle.kc_checks.proofs.Common.{enclosing_choice, group_at, no_group, choice_around, SymbolSummary, RepresentsListing, IsSummary}
 use Rattle.kc_checks.proofs.GroupPlaces.{count_is, placed_count}
 use Rattle.kc_checks.proofs.FaultKinds.{fault_of, follow_is}
 use Rattle.kc_checks.proofs.FaultSearch.{again_is, config_first, config_there, definition_reported, enclosing_some, place_at, enclosing_got}

@@ -1,5 +1,4 @@
-use Rattle.kc_checks.proofs.Common.{◌≡◌, ◌<◌, ◌+◌, length, sym, ap, subst, ◌∙◌, arith, common_steps, elements, All, get_or_read, contents_of, member_names, names_defined, as_many_names, AreMarked, group_at, is_choice_code, no_group}
-use Rattle.kc_parser.specs.between.ListingView.{RepresentsListing}
+use Rattle.kc_checks.proofs.Common.{◌≡◌, ◌<◌, ◌+◌, length, sym, ap, subst, ◌∙◌, arith, common_steps, elements, All, get_or_read, contents_of, member_names, names_defined, as_many_names, AreMarked, group_at, is_choice_code, no_group, RepresentsListing}
 use Rattle.kc_parser.specs.declared.listing.GroupHead.TheVariants as codes
 use Rattle.kc_checks.proofs.MemberMarks.{members_small}
 use Rattle.kc_checks.proofs.FaultSearch.{are_marked_in, at_most_choice, at_most_more, choice_below, marks_small, members_kept, nothing_reported, place_at, place_there}

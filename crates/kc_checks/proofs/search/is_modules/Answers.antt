@@ -1,6 +1,4 @@
-use Rattle.kc_checks.proofs.Common.{ap, ◌∙◌, arith, bytes_eq, get_or_read, names_defined, text_of_name}
-use Rattle.kc_expr.specs.Expr.{modules as modules_name}
-use Rattle.kc_parser.specs.between.ListingView.{RepresentsListing}
+use Rattle.kc_checks.proofs.Common.{ap, ◌∙◌, arith, bytes_eq, get_or_read, names_defined, text_of_name, modules_name, RepresentsListing}
 use Rattle.kc_checks.proofs.FaultSearch.{word_is}
 use Rattle.kc_checks.proofs.search.is_modules.Goals as goal
 

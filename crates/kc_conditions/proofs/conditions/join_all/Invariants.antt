@@ -1,5 +1,4 @@
-use Rattle.std.proofs.Common.{IfSome}
-use Rattle.kc_conditions.proofs.Common.{◌<◌, ◌++◌, List, length, take, Grows, Expr, Conjoins, conjunct_views}
+use Rattle.kc_conditions.proofs.Common.{◌<◌, ◌++◌, List, length, take, Grows, Expr, Conjoins, conjunct_views, IfSome}
 use Rattle.kc_conditions.proofs.conditions.join_all.Given as goal
 
 abbrev pub invariant-loop-line : goal.invariant-loop-line

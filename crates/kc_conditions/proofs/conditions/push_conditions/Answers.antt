@@ -1,7 +1,5 @@
-use Rattle.std.proofs.Common.{All}
-use Rattle.kc_conditions.proofs.Common.{◌≡◌, ◌<◌, ℕ, List, get_or, subst, sym, ap, arith, length, length-append, [], ◌∷◌, common_steps, take_all, AreAppended, grows_on, Exprs, Grows, grows_same, LineNodesExist, AttributeNodesExist, attribute_held, represents_on}
+use Rattle.kc_conditions.proofs.Common.{◌≡◌, ◌<◌, ℕ, List, get_or, subst, sym, ap, arith, length, length-append, [], ◌∷◌, common_steps, take_all, AreAppended, grows_on, Exprs, Grows, grows_same, LineNodesExist, AttributeNodesExist, attribute_held, represents_on, All, CodeLine}
 use Rattle.kc_conditions.proofs.Growth.{joined_on, after_more, none_after, there_on}
-use Rattle.kc_parser.specs.declared.listing.Line.{Line as CodeLine}
 use Rattle.kc_conditions.proofs.conditions.push_conditions.Goals as goal
 
 line_held : (old mid : Exprs) (lines : List CodeLine) (k : ℕ) (d : CodeLine) → Grows old mid → All (LineNodesExist old) lines → k < length lines

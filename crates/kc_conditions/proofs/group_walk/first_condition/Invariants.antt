@@ -1,5 +1,4 @@
-use Rattle.std.specs.Prelude.{◌≡◌, drop}
-use Rattle.kc_conditions.specs.between.Firsts.{first_prompt}
+use Rattle.kc_conditions.proofs.Common.{◌≡◌, drop, first_prompt}
 use Rattle.kc_conditions.proofs.group_walk.first_condition.Given as goal
 
 abbrev pub invariant-loop-i : goal.invariant-loop-i

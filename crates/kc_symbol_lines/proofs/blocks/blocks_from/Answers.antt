@@ -1,4 +1,4 @@
-use Rattle.kc_symbol_lines.proofs.Common.{◌≡◌, ◌<◌, ◌++◌, ℕ, List, [], ◌∷◌, Some, None, drop, ap, sym, ◌∙◌, subst, append-nil, append_assoc, block_at, IsChain}
+use Rattle.kc_symbol_lines.proofs.Common.{◌<◌, ◌++◌, [], ◌∷◌, Some, drop, ap, sym, ◌∙◌, subst, append-nil, append_assoc, block_at, IsChain}
 use Rattle.kc_symbol_lines.proofs.BlockLaws.{chain_outer, chain_first, chain_falls, chain_none, steps, fewer_steps, none_left}
 use Rattle.kc_symbol_lines.proofs.blocks.blocks_from.Goals as goal
 

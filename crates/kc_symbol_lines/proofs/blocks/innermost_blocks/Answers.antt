@@ -1,6 +1,5 @@
-use Rattle.kc_symbol_lines.proofs.Common.{◌≡◌, ◌<◌, ℕ, length, ap, sym, ◌∙◌, subst, arith, get_or_read, RepresentsHead, names_defined, no_group, group_at, shown_at, count_is, none_before, HasBlocksTo, block_after}
-use Rattle.kc_parser.specs.declared.listing.Group.{Group as CodeGroup}
-use Rattle.kc_symbol_lines.proofs.BlockLaws.{nothing_walked, walked_more}
+use Rattle.kc_symbol_lines.proofs.Common.{◌≡◌, ◌<◌, length, ap, sym, ◌∙◌, subst, arith, get_or_read, RepresentsHead, names_defined, no_group, group_at, shown_at, count_is, HasBlocksTo, block_after, CodeGroup}
+use Rattle.kc_symbol_lines.proofs.BlockLaws.{walked_more}
 use Rattle.kc_symbol_lines.proofs.blocks.innermost_blocks.Goals as goal
 
 pub loop-i-preserved : goal.loop-i-preserved

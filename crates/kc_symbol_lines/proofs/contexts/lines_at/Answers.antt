@@ -1,5 +1,4 @@
-use Rattle.kc_symbol_lines.proofs.Common.{◌≡◌, ◌≤◌, length, ap, sym, ◌∙◌, subst, get_or_read, names_defined, no_group, group_at, shown_at}
-use Rattle.kc_parser.specs.declared.listing.Group.{Group as CodeGroup}
+use Rattle.kc_symbol_lines.proofs.Common.{◌≡◌, get_or_read, names_defined, no_group, group_at, shown_at}
 use Rattle.kc_checks.specs.between.Summaries.{attributes_end}
 use Rattle.kc_symbol_lines.proofs.contexts.lines_at.Goals as goal
 

@@ -1,7 +1,5 @@
-use Rattle.kc_symbol_lines.proofs.Common.{◌≡◌, ◌<◌, List, ℕ, None, length, get_or, ap, sym, ◌∙◌, subst, arith, All, get_or_read, is_linux_6_12, no_group, group_at, IsChain, open_numbers, lists_of, inside_blocks}
-use Rattle.std.proofs.lemmas.Option.{unwrap_or-slice_get}
+use Rattle.kc_symbol_lines.proofs.Common.{◌≡◌, ◌<◌, List, ℕ, None, length, get_or, ap, sym, ◌∙◌, subst, arith, All, get_or_read, is_linux_6_12, no_group, group_at, IsChain, open_numbers, lists_of, inside_blocks, unwrap_or-slice_get, CodeGroup}
 use Rattle.std.proofs.lemmas.Result.{on_ok_weaker}
-use Rattle.kc_parser.specs.declared.listing.Group.{Group as CodeGroup}
 use Rattle.kc_symbol_lines.proofs.BlockLaws.{chain_below}
 use Rattle.kc_symbol_lines.proofs.EntrySteps.{entry_of}
 use Rattle.kc_symbol_lines.proofs.PlacedGroups.{many_groups}

@@ -1,7 +1,6 @@
-use Rattle.kc_symbol_lines.proofs.Common.{◌≡◌, ◌<◌, ℕ, length, ap, sym, ◌∙◌, subst, arith, All, get_or_read, LineNodesExist, open_blocks, group_in_context, groups_in_context, names_defined, no_group, group_at, read_before, shown_at, count_is, none_before, all_before}
-use Rattle.kc_parser.specs.declared.listing.Group.{Group as CodeGroup}
+use Rattle.kc_symbol_lines.proofs.Common.{◌≡◌, ◌<◌, length, ap, sym, ◌∙◌, arith, get_or_read, names_defined, no_group, group_at, count_is, CodeGroup}
 use Rattle.kc_parser.specs.declared.listing.GroupHead.TheVariants as codes
-use Rattle.kc_symbol_lines.proofs.TargetLaws.{nothing_gathered, gathered_definition, gathered_other, gathered_whole}
+use Rattle.kc_symbol_lines.proofs.TargetLaws.{gathered_definition, gathered_other, gathered_whole}
 use Rattle.kc_symbol_lines.proofs.targets.gather_lines.Goals as goal
 use Rattle.kc_symbol_lines.proofs.targets.gather_lines.Goals.{in-Config+in_ok-push_definition, in_default}
 

@@ -1,5 +1,4 @@
-use Rattle.kc_symbol_lines.proofs.Common.{◌≡◌, List, Group, groups_in_context, names_defined, read_before, HasLines}
-use Rattle.kc_tree_model.specs.Contents.{tree_of_groups}
+use Rattle.kc_symbol_lines.proofs.Common.{◌≡◌, List, Group, groups_in_context, names_defined, read_before, HasLines, tree_of_groups}
 use Rattle.kc_symbol_lines.proofs.TargetLaws.{AreGatheredOf}
 use Rattle.kc_symbol_lines.proofs.targets.gather_lines.Given as goal
 

@@ -3,7 +3,7 @@ use Rattle.std.specs.Borrow.{Bor}
 use Rattle.kmin_cli.specs.WordOrder.{command_place}
 use Rattle.kmin_cli.proofs.word_order.command_place.Given as goal
 
--- only options stand before this word, which is the value of one if `is_value`
+-- only options are before this word, which is the value of one if `is_value`
 abbrev pub invariant-loop-place : goal.invariant-loop-place
 invariant-loop-place l =
     command_place false (map (λ (word : Bor (List ℕ)). word.now) l.words)

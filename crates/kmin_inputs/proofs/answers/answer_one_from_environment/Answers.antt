@@ -1,6 +1,6 @@
 use Rattle.kmin_inputs.proofs.Common.{◌≡◌, false, sym, ◌∙◌, is_some, keyword_in_table}
 use Rattle.std.specs.Prelude.{option_map, string_bytes}
-use Rattle.kmin_inputs.proofs.AnswerFileLists.{on_ok_map}
+use Rattle.kmin_report.proofs.Results.{on_ok_map}
 use Rattle.kmin_inputs.proofs.LentAnswers.{lent_kept, lent_new, no_answer}
 use Rattle.kmin_inputs.proofs.answers.answer_one_from_environment.Goals as goal
 

@@ -2,7 +2,8 @@ use Rattle.kmin_inputs.proofs.Common.{refl, if_err_map}
 use Rattle.kmin_inputs.specs.AnswerStops.{unopened}
 use Rattle.kmin_inputs.specs.between.AnswerSteps.{at_file}
 use Rattle.kmin_inputs.proofs.FailureCounts.{closed_rises}
-use Rattle.kmin_inputs.proofs.AnswerFileLists.{recorded_from, stopped_reading, on_ok_map}
+use Rattle.kmin_report.proofs.Results.{on_ok_map}
+use Rattle.kmin_inputs.proofs.AnswerFileLists.{recorded_from, stopped_reading}
 use Rattle.kmin_inputs.proofs.answers.record_path.Goals as goal
 
 pub returns-in-Some-clause-recorded : goal.returns-in-Some-clause-recorded

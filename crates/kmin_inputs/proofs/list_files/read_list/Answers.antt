@@ -1,6 +1,5 @@
 use Rattle.kmin_inputs.proofs.Common.{◌∙◌, inl, inr, refl, sym, list_content, unread, lines_one, if_err_map}
-use Rattle.kmin_report.proofs.Results.{if_ok_map}
-use Rattle.kmin_inputs.proofs.AnswerFileLists.{on_ok_map}
+use Rattle.kmin_report.proofs.Results.{if_ok_map, on_ok_map}
 use Rattle.kmin_inputs.proofs.FailureCounts.{closed_rises, at_most_itself, rises_twice}
 use Rattle.kmin_inputs.proofs.ListReads.{opens_input, opens_file, not_both, on_ok}
 use Rattle.kmin_inputs.proofs.list_files.read_list.Goals as goal

@@ -1,5 +1,6 @@
 use Rattle.kmin_outputs.proofs.Common.{◌∙◌, map, refl, sym, subst, arith, Fragment, file_format, tree_of_settled, at_file, IsLoaded, status_of, lines_one, if_ok_map, if_err_map}
-use Rattle.kc_dotconfig.specs.Fragments.{FitsTree, notice_pair}
+use Rattle.kc_dotconfig.specs.Fragments.{FitsTree}
+use Rattle.kc_dotconfig_model.specs.between.Notices.{notice_pair}
 use Rattle.kmin_outputs.specs.Strictness.{AllowsNotices}
 use Rattle.kmin_outputs.specs.Stops.{unopened}
 use Rattle.kmin_inputs.proofs.FailureCounts.{closed_rises, rises_twice}

@@ -1,6 +1,6 @@
 use Rattle.std.proofs.Common.{ap, ◌∙◌}
 use Rattle.kmin_messages.proofs.WriterSteps.{and_then}
-use Rattle.kmin_records.specs.between.RecordTokens.{texts_of}
+use Rattle.kmin_lines.specs.between.Texts.{texts_of}
 use Rattle.kmin_records.proofs.RecordSteps.{recorded, file_record}
 use Rattle.kmin_records.proofs.file_record.tidy_record.Goals as goal
 

@@ -1,7 +1,5 @@
-use Rattle.kmin_run.proofs.Common.{inl, inr, refl, sym, ◌∙◌, arith, ◌++◌, settings_view, task_view, lines_kept}
+use Rattle.kmin_run.proofs.Common.{inl, inr, refl, sym, ◌∙◌, arith, ◌++◌, settings_view, task_view, lines_kept, output_at_most_six, output_not_two, fault_at_most_six, of_fault}
 use Rattle.kmin_run.specs.Saves.{saved}
-use Rattle.kmin_run.proofs.RunEnds.{of_fault}
-use Rattle.kmin_run.proofs.RunStatuses.{output_at_most_six, output_not_two, fault_at_most_six}
 use Rattle.kmin_run.proofs.SaveLemmas.{ends_before, ends_at_file}
 use Rattle.kmin_run.proofs.output_file.save.Goals as goal
 

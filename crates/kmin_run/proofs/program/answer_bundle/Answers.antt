@@ -1,7 +1,8 @@
-use Rattle.kmin_run.proofs.Common.{◌++◌, Err, refl, ap, ◌∙◌, last_lines, stopped}
+use Rattle.kmin_run.proofs.Common.{◌++◌, Err, refl, ap, ◌∙◌, last_lines, stopped, of_fault}
+use Rattle.kmin_run.specs.BundleOutputs.{StopsOnBundle}
 use Rattle.kmin_run.specs.Runs.{done}
-use Rattle.kmin_run.proofs.BundleOutputs.{bundle_ends}
-use Rattle.kmin_run.proofs.RunEnds.{bundle_wrote, five_is_failed, of_fault}
+use Rattle.kmin_report.proofs.LastLines.{ends_by}
+use Rattle.kmin_run.proofs.RunEnds.{bundle_wrote, five_is_failed}
 use Rattle.kmin_run.proofs.program.answer_bundle.Goals as goal
 
 pub returns-in-Ok-clause-ends : goal.returns-in-Ok-clause-ends
@@ -13,7 +14,8 @@ returns-in-Ok-clause-ends g c = λ disk.
 pub returns-in-Err-clause-ends : goal.returns-in-Err-clause-ends
 returns-in-Err-clause-ends g c = λ disk.
     let status = c.exit_status.ensures.status in
-    let w = bundle_ends _ _ c.in-Err.stop c.exit_status.result _ _ _ _ _ _ status c.in-Err.ensures.stopped c.exit_status.ensures.reported in (
+    let w = ends_by (StopsOnBundle (g.I.Source.left c.args.input.now) (g.I.Source.left c.run_bundle.new.input)) c.exit_status.result _ _ _ _ _ _ c.in-Err.stop status
+    c.in-Err.ensures.stopped c.exit_status.ensures.reported in (
       w.0 ++ last_lines c.exit_status.result,
       stopped w.0 w.1 (of_fault c.in-Err.stop c.exit_status.result status)
           (bundle_wrote _ _ c.in-Err.stop c.exit_status.result status (λ e. c.run_bundle.ensures.part (c.in-Err.is ∙ ap Err e)) c.in-Err.ensures.unwritten)

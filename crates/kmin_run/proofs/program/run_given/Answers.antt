@@ -1,6 +1,6 @@
-use Rattle.kmin_run.proofs.Common.{◌≡◌, ◌∙◌, ℕ, List, Option, map, inl, inr, refl, ap, arith, rules, Bor, texts_of, Represent, AreWordsRead, Memory, none}
+use Rattle.kmin_run.proofs.Common.{◌≡◌, ◌∙◌, ℕ, List, Option, map, inl, inr, refl, ap, arith, rules, Bor, texts_of, Represent, AreWordsRead, Memory, none, fault_at_most_six}
 use Rattle.kmin_run.proofs.RunEnds.{words_malformed, words_forgotten, words_ended, changes_asked, tidying_asked}
-use Rattle.kmin_run.proofs.RunStatuses.{fault_at_most_six, two_at_most_six}
+use Rattle.kmin_run.proofs.RunStatuses.{two_at_most_six}
 use Rattle.kmin_run.proofs.program.run_given.Goals as goal
 
 pub returns-in-Ok : goal.returns-in-Ok

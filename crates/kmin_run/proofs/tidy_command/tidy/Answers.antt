@@ -1,5 +1,4 @@
-use Rattle.kmin_run.proofs.Common.{refl, inl, inr, sym, ◌∙◌, tidy_job_view, rises_later}
-use Rattle.kmin_run.proofs.RunStatuses.{fault_at_most_six}
+use Rattle.kmin_run.proofs.Common.{refl, inl, inr, sym, ◌∙◌, tidy_job_view, rises_later, fault_at_most_six}
 use Rattle.kmin_run.proofs.TidyLemmas.{list_ends, read_before}
 use Rattle.kmin_run.proofs.tidy_command.tidy.Goals as goal
 

@@ -1,6 +1,6 @@
-use Rattle.kmin_run.proofs.Common.{ℕ, List, [], map, inl, inr, refl, arith, rules, Bor, tidy_job_view, last_lines, Memory, at_list}
+use Rattle.kmin_run.proofs.Common.{ℕ, List, [], map, inl, inr, refl, arith, rules, Bor, tidy_job_view, last_lines, Memory, at_list, fault_at_most_six}
 use Rattle.kmin_run.specs.TidyRuns.{for_memory}
-use Rattle.kmin_run.proofs.RunStatuses.{fault_at_most_six, two_at_most_six}
+use Rattle.kmin_run.proofs.RunStatuses.{two_at_most_six}
 use Rattle.kmin_run.proofs.TidyLemmas.{malformed_ends, over_all}
 use Rattle.kmin_run.proofs.tidy_command.tidy_listed.Goals as goal
 

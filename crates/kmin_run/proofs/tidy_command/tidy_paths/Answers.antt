@@ -1,5 +1,4 @@
-use Rattle.kmin_run.proofs.Common.{inl, inr, refl, sym, ◌∙◌, settings_view}
-use Rattle.kmin_run.proofs.RunStatuses.{fault_at_most_six}
+use Rattle.kmin_run.proofs.Common.{inl, inr, refl, sym, ◌∙◌, settings_view, fault_at_most_six}
 use Rattle.kmin_run.proofs.TidyLemmas.{ends_small, ends_unwritten, went_over, tree_ends}
 use Rattle.kmin_run.proofs.tidy_command.tidy_paths.Goals as goal
 

@@ -1,5 +1,5 @@
 use Rattle.std.proofs.Common.{◌∙◌}
-use Rattle.kmin_run.proofs.QuestionEnds.{mapped_lines}
+use Rattle.kmin_run.proofs.QuestionLines.{mapped_lines}
 use Rattle.kmin_run.proofs.wants_command.lines_of.Goals as goal
 
 pub returns-clause-text : goal.returns-clause-text

@@ -1,6 +1,6 @@
 use Rattle.kmin_tidy.proofs.Common.{◌≡◌, ◌∙◌, refl, inr, subst, Disk, FailsOnce, MayFailOnce, if_ok_map, if_err_map, unopened}
 use Rattle.kmin_tidy.proofs.ClosedFiles.{same_disk}
-use Rattle.kmin_tidy.proofs.ReadingLemmas.{on_ok_map}
+use Rattle.kmin_report.proofs.Results.{on_ok_map}
 use Rattle.kmin_tidy.proofs.accepted_file.read_file.Goals as goal
 
 pub returns-in-Some-clause-ok : goal.returns-in-Some-clause-ok

@@ -1,6 +1,5 @@
-use Rattle.kmin_report.proofs.Results.{if_err_map}
+use Rattle.kmin_report.proofs.Results.{if_err_map, on_ok_map}
 use Rattle.kmin_tidy.proofs.ClosedFiles.{closed_unfailed, closed_failed, closed_once}
-use Rattle.kmin_tidy.proofs.ReadingLemmas.{on_ok_map}
 use Rattle.kmin_tidy.proofs.accepted_file.read_opened.Goals as goal
 
 pub returns-clause-unfailed : goal.returns-clause-unfailed

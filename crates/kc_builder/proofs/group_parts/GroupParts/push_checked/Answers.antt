@@ -1,4 +1,3 @@
-use Rattle.std.proofs.Common.{inr, ◌∙◌}
 use Rattle.kc_builder.proofs.GroupPartSteps.{represented_by}
 use Rattle.kc_builder.proofs.group_parts.GroupParts.push_checked.Goals as goal
 

@@ -1,8 +1,7 @@
-use Rattle.std.proofs.Common.{◌≡◌, arith}
+use Rattle.kc_builder.proofs.Common.{arith, no_group}
 use Rattle.std.proofs.lemmas.List.{get_or_read}
-use Rattle.kc_checks.specs.between.Summaries.{group_at, no_group}
-use Rattle.kc_conditions.specs.between.GroupConditions.{conditions_at, no_conditions}
-use Rattle.kc_builder.proofs.GroupPartSteps.{conditioned_by, has_conditions, one_for_each, represented_by, same_given}
+use Rattle.kc_conditions.specs.between.GroupConditions.{no_conditions}
+use Rattle.kc_builder.proofs.GroupPartSteps.{has_conditions, one_for_each, same_given}
 use Rattle.kc_builder.proofs.group_parts.GroupParts.push_group.Goals as goal
 
 pub bounds-groups-i : goal.bounds-groups-i

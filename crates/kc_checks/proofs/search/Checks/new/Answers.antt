@@ -1,7 +1,5 @@
-use Rattle.kc_checks.proofs.Common.{◌≡◌, replicate, length, ap, subst, sym, ◌∙◌, arith, contents_of, names_defined, AreSmall}
+use Rattle.kc_checks.proofs.Common.{◌≡◌, replicate, length, ap, subst, sym, ◌∙◌, arith, contents_of, names_defined, AreSmall, RepresentsListing, IsSummary}
 use Rattle.std.proofs.lemmas.List.{length-replicate}
-use Rattle.kc_parser.specs.between.ListingView.{RepresentsListing}
-use Rattle.kc_checks.specs.between.Summaries.{IsSummary}
 use Rattle.kc_checks.proofs.GroupPlaces.{count_is}
 use Rattle.kc_checks.proofs.Rounds.{none_counted}
 use Rattle.kc_checks.proofs.FaultSearch.{few_choices, grouped_are, keys_fit, no_fault_yet, zeros_small}

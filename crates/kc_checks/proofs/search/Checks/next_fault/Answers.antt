@@ -1,5 +1,4 @@
-use Rattle.kc_checks.proofs.Common.{◌≡◌, ◌+◌, cond, refl, sym, subst, ap, ◌∙◌, get_or_read, names_defined, AreSmall, group_at, is_choice_code, no_group}
-use Rattle.kc_parser.specs.between.ListingView.{RepresentsListing}
+use Rattle.kc_checks.proofs.Common.{◌≡◌, ◌+◌, cond, refl, sym, subst, ap, ◌∙◌, get_or_read, names_defined, AreSmall, group_at, is_choice_code, no_group, RepresentsListing}
 use Rattle.kc_checks.proofs.Rounds.{one_counted}
 use Rattle.kc_checks.proofs.FaultSearch.{at_most_count, fault_here, reported_first}
 use Rattle.kc_checks.proofs.search.Checks.next_fault.Goals as goal

@@ -1,9 +1,7 @@
 use Rattle.std.proofs.Common.{◌^◌}
 use Rattle.kc_checks.proofs.Common.{◌≡◌, ◌+◌, ◌<◌, ◌≤◌, [], ◌∷◌, ◌++◌, true, false, length, reverse, refl, sym, ap, ◌∙◌, arith, append-nil, filter_map, slice_get, common_steps, get_or_read, groups_in_context, contents_of, names_defined, choices_before, choices_opened_after, group_at}
-use Rattle.kc_checks.proofs.Common.{innermost_choice, no_group, read_before, type_in, Summary}
-use Rattle.kc_parser.specs.between.ListingView.{RepresentsListing}
+use Rattle.kc_checks.proofs.Common.{innermost_choice, no_group, read_before, type_in, Summary, RepresentsListing, IsSummedTo}
 use Rattle.kc_parser.specs.declared.listing.GroupHead.TheVariants as codes
-use Rattle.kc_checks.specs.checker.SummarySteps.{IsSummedTo}
 use Rattle.kc_checks.proofs.FaultSearch.{few_choices}
 use Rattle.kc_checks.proofs.GroupPlaces.{count_before, count_is}
 use Rattle.kc_checks.proofs.SummarySteps.{definition_more, no_choice, other_more}

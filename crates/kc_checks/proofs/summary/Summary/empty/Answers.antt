@@ -1,6 +1,4 @@
-use Rattle.kc_checks.proofs.Common.{◌≡◌, length, replicate, refl, ap, ◌∙◌, arith, names_defined, as_many_names, nothing_known}
-use Rattle.kc_parser.specs.between.ListingView.{RepresentsListing}
-use Rattle.kc_checks.specs.checker.SummarySteps.{IsSummedTo}
+use Rattle.kc_checks.proofs.Common.{◌≡◌, length, replicate, refl, ap, ◌∙◌, arith, names_defined, as_many_names, nothing_known, RepresentsListing, IsSummedTo}
 use Rattle.kc_checks.proofs.SummarySteps.{none_summed}
 use Rattle.kc_checks.proofs.summary.Summary.empty.Goals as goal
 

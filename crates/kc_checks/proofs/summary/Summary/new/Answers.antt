@@ -1,6 +1,4 @@
-use Rattle.kc_checks.proofs.Common.{arith, common_steps, names_defined}
-use Rattle.kc_parser.specs.between.ListingView.{RepresentsListing}
-use Rattle.kc_checks.specs.checker.SummarySteps.{IsSummedTo}
+use Rattle.kc_checks.proofs.Common.{arith, common_steps, names_defined, RepresentsListing, IsSummedTo}
 use Rattle.kc_checks.proofs.GroupPlaces.{count_is}
 use Rattle.kc_checks.proofs.SummarySteps.{all_summed}
 use Rattle.kc_checks.proofs.summary.Summary.new.Goals as goal

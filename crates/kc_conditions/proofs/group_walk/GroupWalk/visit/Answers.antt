@@ -1,25 +1,22 @@
-use Rattle.kc_conditions.proofs.Common.{◌≡◌, ◌∙◌, List, None, [], length, reverse, arith, refl, sym, subst, common_steps, slice_get, is_linux_6_12, Grows, represents_on, grows_same, attribute_held, Group, open_blocks, conjunction_of, context, dependencies_of, AreAppended, RepresentsPrompt}
-use Rattle.kc_conditions.proofs.Common.{RepresentsEnclosing, or_yes, EnclosingConditions, grows_on}
+use Rattle.kc_conditions.proofs.Common.{◌≡◌, ◌∙◌, List, None, [], length, arith, refl, sym, subst, common_steps, slice_get, is_linux_6_12, Grows, represents_on, grows_same, attribute_held, Group, open_blocks, conjunction_of, context, dependencies_of, AreAppended, RepresentsPrompt, or_yes, grows_on}
 use Rattle.kc_parser.proofs.AppendSteps.{on_ok}
 use Rattle.kc_tree_model.specs.Conditions.{prompts_of}
 use Rattle.kc_conditions.proofs.Growth.{there_on, conjoins_there, joined_on}
-use Rattle.kc_conditions.proofs.WalkSteps.{top_shown, entry_is, ended, entered, end_side, other_side, prompt_there, prompt_represents, inside_on, around_on, what_on}
+use Rattle.kc_conditions.proofs.WalkSteps.{enclosing_shown, entry_is, ended, entered, end_side, other_side, prompt_there, prompt_represents, inside_on, around_on, what_on}
 use Rattle.kc_conditions.proofs.group_walk.GroupWalk.visit.Goals as goal
 
 pub entry_conditions-requires-clause-dependencies : goal.entry_conditions-requires-clause-dependencies
 entry_conditions-requires-clause-dependencies c =
     let w = c.args.self.now in
     let k = c.requires.walked in
-    let t = top_shown _ w.arena k.0 w.yes (reverse w.stack.items) (open_blocks 0 k.1) (k.2 w.arena (grows_same w.arena)).stack_is in
-    let a = subst (λ (x : EnclosingConditions). RepresentsEnclosing c.args.language w.arena k.0 w.yes x (open_blocks 0 k.1)) (sym c.enclosing-enclosing.ensures) t in
+    let a = enclosing_shown c.args.language k.0 w k.1 _ k.2 c.enclosing-enclosing.ensures in
     conjoins_there w.arena c.enclosing-enclosing.result.dependencies _ a.dependencies_are
 
 pub entry_conditions-requires-clause-visibles : goal.entry_conditions-requires-clause-visibles
 entry_conditions-requires-clause-visibles c =
     let w = c.args.self.now in
     let k = c.requires.walked in
-    let t = top_shown _ w.arena k.0 w.yes (reverse w.stack.items) (open_blocks 0 k.1) (k.2 w.arena (grows_same w.arena)).stack_is in
-    let a = subst (λ (x : EnclosingConditions). RepresentsEnclosing c.args.language w.arena k.0 w.yes x (open_blocks 0 k.1)) (sym c.enclosing-enclosing.ensures) t in
+    let a = enclosing_shown c.args.language k.0 w k.1 _ k.2 c.enclosing-enclosing.ensures in
     conjoins_there w.arena c.enclosing-enclosing.result.visibles _ a.visibles_are
 
 pub entry_conditions-requires-clause-held : goal.entry_conditions-requires-clause-held
@@ -33,8 +30,7 @@ pub inside-requires-clause-enclosing : goal.inside-requires-clause-enclosing
 inside-requires-clause-enclosing c =
     let w = c.args.self.now in
     let k = c.requires.walked in
-    let t = top_shown _ w.arena k.0 w.yes (reverse w.stack.items) (open_blocks 0 k.1) (k.2 w.arena (grows_same w.arena)).stack_is in
-    let a = subst (λ (x : EnclosingConditions). RepresentsEnclosing c.args.language w.arena k.0 w.yes x (open_blocks 0 k.1)) (sym c.enclosing-enclosing.ensures) t in
+    let a = enclosing_shown c.args.language k.0 w k.1 _ k.2 c.enclosing-enclosing.ensures in
     there_on w.arena c.push_conditions.new.arena (grows_on w.arena c.entry_conditions.new.arena c.push_conditions.new.arena c.entry_conditions.ensures.grows
     c.push_conditions.ensures.grows) c.enclosing-enclosing.result.dependencies
     (conjoins_there w.arena c.enclosing-enclosing.result.dependencies _ a.dependencies_are)
@@ -43,8 +39,7 @@ pub push_conditions-requires-clause-dependencies : goal.push_conditions-requires
 push_conditions-requires-clause-dependencies c =
     let w = c.args.self.now in
     let k = c.requires.walked in
-    let t = top_shown _ w.arena k.0 w.yes (reverse w.stack.items) (open_blocks 0 k.1) (k.2 w.arena (grows_same w.arena)).stack_is in
-    let a = subst (λ (x : EnclosingConditions). RepresentsEnclosing c.args.language w.arena k.0 w.yes x (open_blocks 0 k.1)) (sym c.enclosing-enclosing.ensures) t in
+    let a = enclosing_shown c.args.language k.0 w k.1 _ k.2 c.enclosing-enclosing.ensures in
     let j = c.in_ok-entry.ensures.joined _ _ a.dependencies_are a.visibles_are in
     conjoins_there c.entry_conditions.new.arena c.in_ok-entry.entry.dependencies _ j.dependencies_are
 
@@ -52,8 +47,7 @@ pub push_conditions-requires-clause-shown : goal.push_conditions-requires-clause
 push_conditions-requires-clause-shown c =
     let w = c.args.self.now in
     let k = c.requires.walked in
-    let t = top_shown _ w.arena k.0 w.yes (reverse w.stack.items) (open_blocks 0 k.1) (k.2 w.arena (grows_same w.arena)).stack_is in
-    let a = subst (λ (x : EnclosingConditions). RepresentsEnclosing c.args.language w.arena k.0 w.yes x (open_blocks 0 k.1)) (sym c.enclosing-enclosing.ensures) t in
+    let a = enclosing_shown c.args.language k.0 w k.1 _ k.2 c.enclosing-enclosing.ensures in
     let j = c.in_ok-entry.ensures.joined _ _ a.dependencies_are a.visibles_are in
     conjoins_there c.entry_conditions.new.arena c.in_ok-entry.entry.shown _ j.shown_is
 
@@ -62,8 +56,7 @@ inside-requires-clause-prompt c =
     let w = c.args.self.now in
     let k = c.requires.walked in
     let here = k.2 w.arena (grows_same w.arena) in
-    let t = top_shown _ w.arena k.0 w.yes (reverse w.stack.items) (open_blocks 0 k.1) here.stack_is in
-    let a = subst (λ (x : EnclosingConditions). RepresentsEnclosing c.args.language w.arena k.0 w.yes x (open_blocks 0 k.1)) (sym c.enclosing-enclosing.ensures) t in
+    let a = enclosing_shown c.args.language k.0 w k.1 _ k.2 c.enclosing-enclosing.ensures in
     let j = c.in_ok-entry.ensures.joined _ _ a.dependencies_are a.visibles_are in
     let b = c.in_ok-push_conditions.ensures.appended _ _ _ j (represents_on w.arena c.entry_conditions.new.arena w.yes (conjunction_of [])
     c.entry_conditions.ensures.grows here.yes_is) in
@@ -125,8 +118,7 @@ returns-clause-walked c = λ names texts before m walked what attributes_are.
     c.first_prompt_condition-prompt.result c.len-first.result c.entry_conditions.ensures.grows c.requires.lines l
     c.first_prompt_condition-prompt.ensures.value in
     let p : RepresentsPrompt far c.first_prompt_condition-prompt.result (slice_get (prompts_of (context (is_linux_6_12 c.args.language) s) m) 0) = rw (← attributes_are) at p0 in
-    let t = top_shown _ w.arena texts w.yes (reverse w.stack.items) s here.stack_is in
-    let a = subst (λ (x : EnclosingConditions). RepresentsEnclosing c.args.language w.arena texts w.yes x s) (sym c.enclosing-enclosing.ensures) t in
+    let a = enclosing_shown c.args.language texts w before _ walked c.enclosing-enclosing.ensures in
     let shown = c.in_ok-opened.ensures.represents names texts w.yes m s (what_on w.arena far names texts c.args.head.now m.head to_far what)
     (around_on _ w.arena far texts w.yes c.enclosing-enclosing.result s to_far a)
     (joined_on mid far c.push_conditions.ensures.grows c.in_ok-entry.entry _ _ _ j) p
@@ -153,35 +145,21 @@ returns-in_err-push_conditions-clause-grows c =
 
 pub returns-then-ends-clause-grows : goal.returns-then-ends-clause-grows
 returns-then-ends-clause-grows c =
-    let w = c.args.self.now in
-    let mid = c.entry_conditions.new.arena in
-    let far = c.push_conditions.new.arena in
-    let g = grows_on w.arena mid far c.entry_conditions.ensures.grows c.push_conditions.ensures.grows in
-    subst (λ e. Grows w.arena e) (sym c.end.ensures.arena) g
+    subst (λ e. Grows c.args.self.now.arena e) (sym c.end.ensures.arena) (grows_on _ _ _ c.entry_conditions.ensures.grows c.push_conditions.ensures.grows)
 
 pub returns-in_err-opened-clause-grows : goal.returns-in_err-opened-clause-grows
 returns-in_err-opened-clause-grows c =
-    let w = c.args.self.now in
-    let mid = c.entry_conditions.new.arena in
-    let far = c.push_conditions.new.arena in
-    let g = grows_on w.arena mid far c.entry_conditions.ensures.grows c.push_conditions.ensures.grows in
-    grows_on w.arena far c.inside.new.arena g c.inside.ensures.grows
+    grows_on _ _ _ (grows_on _ _ _ c.entry_conditions.ensures.grows c.push_conditions.ensures.grows) c.inside.ensures.grows
 
 pub returns-in_err-enter-clause-grows : goal.returns-in_err-enter-clause-grows
 returns-in_err-enter-clause-grows c =
-    let w = c.args.self.now in
-    let mid = c.entry_conditions.new.arena in
-    let far = c.push_conditions.new.arena in
-    let g = grows_on w.arena mid far c.entry_conditions.ensures.grows c.push_conditions.ensures.grows in
-    subst (λ e. Grows w.arena e) (sym c.enter.ensures.arena) (grows_on w.arena far c.inside.new.arena g c.inside.ensures.grows)
+    let g = grows_on _ _ _ (grows_on _ _ _ c.entry_conditions.ensures.grows c.push_conditions.ensures.grows) c.inside.ensures.grows in
+    subst (λ e. Grows c.args.self.now.arena e) (sym c.enter.ensures.arena) g
 
 pub returns-clause-grows : goal.returns-clause-grows
 returns-clause-grows c =
-    let w = c.args.self.now in
-    let mid = c.entry_conditions.new.arena in
-    let far = c.push_conditions.new.arena in
-    let g = grows_on w.arena mid far c.entry_conditions.ensures.grows c.push_conditions.ensures.grows in
-    subst (λ e. Grows w.arena e) (sym (c.push_group.ensures.arena ∙ c.enter.ensures.arena)) (grows_on w.arena far c.inside.new.arena g c.inside.ensures.grows)
+    let g = grows_on _ _ _ (grows_on _ _ _ c.entry_conditions.ensures.grows c.push_conditions.ensures.grows) c.inside.ensures.grows in
+    subst (λ e. Grows c.args.self.now.arena e) (sym (c.push_group.ensures.arena ∙ c.enter.ensures.arena)) g
 
 pub returns-then-ends-clause-more : goal.returns-then-ends-clause-more
 returns-then-ends-clause-more c = grind (arith, common_steps)

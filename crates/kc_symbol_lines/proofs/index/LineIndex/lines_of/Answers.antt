@@ -1,4 +1,4 @@
-use Rattle.kc_symbol_lines.proofs.Common.{◌≡◌, ℕ, List, cond, map, take, refl, ap, sym, ◌∙◌, subst, arith, is_some, All, is_linux_6_12, GroupInContext, contents_of, definitions_of, SymbolLines, position_view, HasBlocks, AreDefinitionLines}
+use Rattle.kc_symbol_lines.proofs.Common.{cond, map, take, refl, ap, sym, ◌∙◌, subst, arith, is_some, is_linux_6_12, SymbolLines, position_view, HasBlocks, AreDefinitionLines}
 use Rattle.kc_tree.specs.between.GroupedItems.{items_at}
 use Rattle.kc_tree.specs.between.Views.{symbol_view}
 use Rattle.kc_symbol_lines.proofs.IndexLaws.{many_symbols, symbol_name, symbol_choice, numbers_below, own_prompts_held, own_direct_held, kept_held, lines_are}
@@ -43,6 +43,12 @@ returns c =
     let numbers = c.get-numbers.result.now in
     let found = c.in_ok-found.found in
     let chosen = c.is_some.ensures in
+    let r = c.requires.read in
+    let own = c.requires.index r.read r.tree_is r.has in
+    let named = symbol_name t r.read c.args.s r.tree_is c.requires.there in
+    let here = c.get-numbers.ensures.value ∙ ap (items_at self.definitions.starts.items self.definitions.items.items) c.number-at.ensures ∙ own.definitions c.args.s named.0 named.1 in
+    let held = subst (λ l. AreDefinitionLines (is_linux_6_12 l) lines r.read numbers found) c.language.ensures
+    (c.in_ok-found.ensures.ok t.exprs r.read r.has (subst (λ bs. HasBlocks bs r.read) (sym c.deref.ensures.value) own.blocks)) in
     record {
       ok = λ read name tree_is has at.
           let index = c.requires.index read tree_is has in
@@ -64,21 +70,7 @@ returns c =
           ∙ index.selectors c.args.s name at)
           (ap (map position_view) (c.in_ok-from_slice-2.ensures.items ∙ c.get-2.ensures.value ∙ ap (items_at self.impliers.starts.items self.impliers.items.items) c.number-at.ensures)
           ∙ index.impliers c.args.s name at);
-      prompts =
-          let r = c.requires.read in
-          let index = c.requires.index r.read r.tree_is r.has in
-          let name = symbol_name t r.read c.args.s r.tree_is c.requires.there in
-          let given = c.get-numbers.ensures.value ∙ ap (items_at self.definitions.starts.items self.definitions.items.items) c.number-at.ensures ∙ index.definitions c.args.s name.0 name.1 in
-          let around = subst (λ bs. HasBlocks bs r.read) (sym c.deref.ensures.value) index.blocks in
-          let are = subst (λ l. AreDefinitionLines (is_linux_6_12 l) lines r.read numbers found) c.language.ensures (c.in_ok-found.ensures.ok t.exprs r.read r.has around) in
-          own_prompts_held t.exprs t.tree.language lines r.read r.has name.0 numbers given found are;
-      direct =
-          let r = c.requires.read in
-          let index = c.requires.index r.read r.tree_is r.has in
-          let name = symbol_name t r.read c.args.s r.tree_is c.requires.there in
-          let given = c.get-numbers.ensures.value ∙ ap (items_at self.definitions.starts.items self.definitions.items.items) c.number-at.ensures ∙ index.definitions c.args.s name.0 name.1 in
-          let around = subst (λ bs. HasBlocks bs r.read) (sym c.deref.ensures.value) index.blocks in
-          let are = subst (λ l. AreDefinitionLines (is_linux_6_12 l) lines r.read numbers found) c.language.ensures (c.in_ok-found.ensures.ok t.exprs r.read r.has around) in
-          kept_held t.exprs t.tree.language lines r.read r.has _ found.direct.items c.keep_own.new.parts.items c.keep_own.ensures
-          (own_direct_held t.exprs t.tree.language lines r.read r.has name.0 numbers given found are);
+      prompts = own_prompts_held t.exprs t.tree.language lines r.read r.has named.0 numbers here found held;
+      direct = kept_held t.exprs t.tree.language lines r.read r.has _ found.direct.items c.keep_own.new.parts.items c.keep_own.ensures
+          (own_direct_held t.exprs t.tree.language lines r.read r.has named.0 numbers here found held);
     }

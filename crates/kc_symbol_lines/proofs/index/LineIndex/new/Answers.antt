@@ -1,4 +1,4 @@
-use Rattle.std.proofs.Common.{◌≡◌, ◌<◌, ℕ, length, ap, sym, ◌∙◌, subst, arith}
+use Rattle.std.proofs.Common.{◌∙◌, arith}
 use Rattle.kc_symbol_lines.proofs.IndexLaws.{index_is, many_symbols}
 use Rattle.kc_symbol_lines.proofs.index.LineIndex.new.Goals as goal
 

@@ -1,4 +1,4 @@
-use Rattle.kmin_lines.proofs.Common.{◌≡◌, [], ◌∷◌, ◌+◌, cond, Some, ap, sym, ◌∙◌, arith, length-append, bytes_eq, hash_map_updates_str, get_by, times_among}
+use Rattle.kmin_lines.proofs.Common.{◌≡◌, ◌+◌, cond, Some, ap, sym, ◌∙◌, arith, bytes_eq, hash_map_updates_str, get_by, times_among}
 use Rattle.kmin_lines.proofs.BagLemmas.{added, times-le-length}
 use Rattle.kmin_lines.proofs.line_bag.LineBag.add.Goals as goal
 
@@ -10,7 +10,6 @@ returns c = λ lines has few.
     let few_of : times_among lines line ≡ c.times-count.result = sym (c.times-count.ensures ∙ has.each line) in
     let one_more : c.saturating_add.result ≡ c.times-count.result + 1 = let b = times-le-length lines line in omega arith in
     record {
-      len = let l = has.len in let a = length-append lines (c.args.line.now ∷ []) in omega arith;
       each = added (λ any. get_by (λ k. bytes_eq any k.now) m) (λ any. get_by (λ k. bytes_eq any k.now) n) lines line c.times-count.result has.each
           c.times-count.ensures
           (λ any. hash_map_updates_str line m n _ c.in_ok-insert.ensures.updates any
