@@ -1,33 +1,13 @@
 -- Lines of parts of conditions, and of selects and implies.
-use Rattle.std.proofs.Common.{cond, Option, None}
-use Rattle.kc_explanation.proofs.Common.{◌≡◌, ℕ, List, [], ◌∷◌, ◌++◌, map, Some, refl, ap, ◌∙◌, append_assoc, codes, slice_get, append-nil, Exprs, Tree, Symbol, Position, UnitValue, environment, Strings, located_alternatives_view, located_forcing_lines, joined_parts, part_lines, needed_lines}
+use Rattle.std.proofs.Common.{cond, Option}
+use Rattle.kc_explanation.proofs.Common.{◌≡◌, ℕ, List, [], ◌∷◌, ◌++◌, map, refl, ap, ◌∙◌, append_assoc, codes, Exprs, Tree, Symbol, Position, UnitValue, environment, Strings, located_alternatives_view, located_forcing_lines, joined_parts, part_lines, needed_lines}
 use Rattle.std.specs.Global.{Vec}
 use Rattle.kc_expr.specs.Expr.{Environment}
-use Rattle.kc_tree_model.specs.Trees.{ReverseDependency}
-use Rattle.kc_reasons.specs.declared.low_parts.LowPart.{LowPart}
-use Rattle.kc_reasons.specs.between.Parts.{part_view, parts_view, alternatives_view}
 use Rattle.kc_located_reasons.specs.declared.located_parts.LocatedPart.{LocatedPart}
 use Rattle.kc_located_reasons.specs.between.PartsView.{located_part_view, located_parts_view}
 use Rattle.kc_reasons_model.specs.declared.cases.Hindrance.{Hindrance}
-use Rattle.kc_explanation.specs.Explained.{inner_line, low_part_text, low_parts_text, alternative_lines, needs_lines, is_without_prompt, forcing_text, forcing_line, forcing_lines}
-use Rattle.kc_explanation.specs.Located.{located_part_text, located_parts_text, located_alternative_lines, located_needs_lines, located_forcing_line}
-
-module _ (strings : Strings) (names : Environment) (exprs : Exprs) where
-  abbrev pub low_texts : List LowPart → List (List ℕ)
-  low_texts ps = map (λ p. low_part_text strings names (part_view exprs p)) ps
-
-  abbrev pub each_low : List (Vec LowPart) → List (List (List ℕ))
-  each_low vs = map (λ (v : Vec LowPart). low_texts v.items) vs
-
-  low_parts : (word : List ℕ) (ps : List LowPart) → joined_parts word (low_texts ps) ≡ low_parts_text strings names word (parts_view exprs ps)
-  low_parts word [] = refl
-  low_parts word (p ∷ ps) = ap (λ x. word ++ (low_part_text strings names (part_view exprs p) ++ x)) (low_parts (codes " and ") ps)
-
-  pub low_lines : (word : List ℕ) (vs : List (Vec LowPart)) → part_lines word (each_low vs) ≡ alternative_lines strings names word (alternatives_view exprs vs)
-  low_lines word [] = refl
-  low_lines word (v ∷ vs) =
-      ap (λ x. inner_line x ++ part_lines (codes "or ") (each_low vs)) (low_parts word v.items)
-      ∙ ap (λ x. inner_line (low_parts_text strings names word (parts_view exprs v.items)) ++ x) (low_lines (codes "or ") vs)
+use Rattle.kc_explanation.specs.Explained.{inner_line, is_without_prompt}
+use Rattle.kc_explanation.specs.Located.{located_part_text, located_parts_text, located_alternative_lines, located_needs_lines}
 
 module _ (strings : Strings) (names : Environment) (exprs : Exprs) (paths : List (List ℕ)) where
   abbrev pub located_texts : List LocatedPart → List (List ℕ)
@@ -48,18 +28,6 @@ module _ (strings : Strings) (names : Environment) (exprs : Exprs) (paths : List
       ap (λ x. inner_line x ++ part_lines (codes "or ") (each_located vs)) (located_parts word v.items)
       ∙ ap (λ x. inner_line (located_parts_text strings names paths word (located_parts_view exprs v.items)) ++ x) (located_lines (codes "or ") vs)
 
--- without their places
-module _ (strings : Strings) (paths : List (List ℕ)) (tree : Tree) (values : List UnitValue) (word : List ℕ) (fs : List ReverseDependency) where
-  without_place : (o : Option ReverseDependency) → located_forcing_line strings paths tree values word o None ≡ forcing_line strings tree values word o
-  without_place None = refl
-  without_place (Some f) = ap (λ x. inner_line (word ++ x)) (append-nil (forcing_text strings tree values f))
-
-  pub without_places : (numbers : List ℕ) → located_forcing_lines strings paths tree values word fs [] numbers ≡ forcing_lines strings tree values word fs numbers
-  without_places [] = refl
-  without_places (n ∷ ns) =
-      ap (λ x. x ++ located_forcing_lines strings paths tree values word fs [] ns) (without_place (slice_get fs n))
-      ∙ ap (λ x. forcing_line strings tree values word (slice_get fs n) ++ x) (without_places ns)
-
 -- the details of a symbol, each part equal to another text
 joined_details : (n m f g h i u v : List ℕ) → n ≡ m → f ≡ g → h ≡ i → u ≡ v → n ++ ((f ++ h) ++ u) ≡ m ++ (g ++ (i ++ v))
 joined_details n m f g h i u v is_n is_f is_h is_u =
@@ -67,28 +35,6 @@ joined_details n m f g h i u v is_n is_f is_h is_u =
     ∙ ap (λ x. m ++ x) (append_assoc f h u ∙ ap (λ x. x ++ (h ++ u)) is_f ∙ ap (λ x. g ++ (x ++ u)) is_h ∙ ap (λ x. g ++ (i ++ x)) is_u)
 
 module _ (strings : Strings) (tree : Tree) (values : List UnitValue) (exprs : Exprs) (symbol : Symbol) (hindrance : Option Hindrance) (selected_by implied_by : List ℕ) where
-  -- without their places
-  abbrev pub low_details : List (Vec LowPart) → List (Vec LowPart) → List ℕ
-  low_details needs unmet =
-      needed_lines (is_without_prompt hindrance symbol) (each_low strings (environment tree values) exprs needs)
-      ++ ((located_forcing_lines strings [] tree values (codes "selected by ") symbol.selectors [] selected_by
-      ++ located_forcing_lines strings [] tree values (codes "implied by ") symbol.impliers [] implied_by)
-      ++ part_lines (codes "unmet: ") (each_low strings (environment tree values) exprs unmet))
-
-  pub low_details_are : (needs unmet : List (Vec LowPart))
-      → low_details needs unmet
-      ≡ needs_lines strings (environment tree values) (is_without_prompt hindrance symbol) (alternatives_view exprs needs)
-      ++ (forcing_lines strings tree values (codes "selected by ") symbol.selectors selected_by
-      ++ (forcing_lines strings tree values (codes "implied by ") symbol.impliers implied_by
-      ++ alternative_lines strings (environment tree values) (codes "unmet: ") (alternatives_view exprs unmet)))
-  low_details_are needs unmet =
-      joined_details _ _ _ _ _ _ _ _
-      (ap (λ x. cond (is_without_prompt hindrance symbol) (inner_line (codes "it has no prompt")) x) (low_lines strings (environment tree values) exprs (codes "needs ") needs))
-      (without_places strings [] tree values (codes "selected by ") symbol.selectors selected_by)
-      (without_places strings [] tree values (codes "implied by ") symbol.impliers implied_by)
-      (low_lines strings (environment tree values) exprs (codes "unmet: ") unmet)
-
-  -- and with them
   abbrev pub placed_details : List (List ℕ) → List (Vec LocatedPart) → List (Vec LocatedPart) → List Position → List Position → List ℕ
   placed_details paths needs unmet selectors impliers =
       needed_lines (is_without_prompt hindrance symbol) (each_located strings (environment tree values) exprs paths needs)

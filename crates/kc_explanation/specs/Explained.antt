@@ -1,5 +1,5 @@
 -- The text that explains a symbol's value.
-use Rattle.std.specs.Prelude.{ℕ, Bool, true, false, ◌&&◌, List, [], ◌∷◌, ◌++◌, flat_map, Option, Some, None, option_map, unwrap_or, slice_get, codes, if◌then◌else◌}
+use Rattle.std.specs.Prelude.{ℕ, Bool, true, false, ◌&&◌, List, [], ◌∷◌, ◌++◌, flat_map, Option, Some, None, codes}
 use Rattle.kc_value.specs.declared.tri.Tri.{Tri}
 use Rattle.kc_value.specs.declared.tri.Tri.TheVariants.{M, Y}
 use Rattle.kc_expr.specs.Expr.{Expr, Environment, value}
@@ -22,7 +22,6 @@ use Rattle.kc_reasons_model.specs.declared.cases.Hindrance.{Hindrance}
 use Rattle.kc_reasons_model.specs.declared.cases.Hindrance.TheVariants.{BelowSelected, FromEnvironment, Hidden, AboveVisibility, Promoted, ImpliedY as NoMBesideY, UpsideDown, OutOfRange, ChoiceNotShown, MemberHidden, LaterY, FirstOfAll}
 use Rattle.kc_reasons_model.specs.Conjuncts.{Part}
 use Rattle.kc_reasons_model.specs.Reasons.{ValuedToken, valued_token, value_text, name_of_symbol, is_empty}
-use Rattle.kc_reasons_model.specs.PlainReasons.{PlainReasons}
 use Rattle.kc_reasons_model.specs.Spelling.{spelling}
 
 abbrev pub in_parentheses : List ℕ → List ℕ
@@ -48,20 +47,9 @@ wanted_text v w = []
 abbrev pub low_part_text : Strings → Environment → Part → List ℕ
 low_part_text strings names p = spelled_with_values strings names p.expr ++ wanted_text (value names p.expr) p.wanted
 
--- parts that are all needed: `WORD`, the first part, ` and `, the next one
-abbrev pub low_parts_text : Strings → Environment → List ℕ → List Part → List ℕ
-low_parts_text strings names word [] = []
-low_parts_text strings names word (p ∷ ps) = word ++ (low_part_text strings names p ++ low_parts_text strings names (codes " and ") ps)
-
 -- a line below the first
 abbrev pub inner_line : List ℕ → List ℕ
 inner_line text = codes "  " ++ (text ++ 10 ∷ [])
-
--- a line for each alternative: the first begins with this word, the others with `or`
-abbrev pub alternative_lines : Strings → Environment → List ℕ → List (List Part) → List ℕ
-alternative_lines strings names word [] = []
-alternative_lines strings names word (ps ∷ rest) =
-    inner_line (low_parts_text strings names word ps) ++ alternative_lines strings names (codes "or ") rest
 
 abbrev pub tri_case_text : TriCase → List ℕ
 tri_case_text UserTri = codes "by user"
@@ -129,19 +117,6 @@ abbrev pub forcing_text : Strings → Tree → List UnitValue → ReverseDepende
 forcing_text strings tree values f =
     name_of_symbol tree f.by ++ in_parentheses (value_text strings (value_of_symbol tree values f.by))
 
--- a line for the select or imply with a number, if there is one
-abbrev pub forcing_line : Strings → Tree → List UnitValue → List ℕ → Option ReverseDependency → List ℕ
-forcing_line strings tree values word None = []
-forcing_line strings tree values word (Some f) = inner_line (word ++ forcing_text strings tree values f)
-
-abbrev pub forcing_lines : Strings → Tree → List UnitValue → List ℕ → List ReverseDependency → List ℕ → List ℕ
-forcing_lines strings tree values word fs numbers = flat_map (λ n. forcing_line strings tree values word (slice_get fs n)) numbers
-
--- `NAME=VALUE: CASE`
-abbrev pub first_line : Strings → Tree → List UnitValue → ℕ → Option ℕ → Case → List ℕ
-first_line strings tree values s chosen case =
-    name_of_symbol tree s ++ (61 ∷ (value_text strings (value_of_symbol tree values s) ++ (codes ": " ++ (chosen_text tree chosen ++ (case_text case ++ 10 ∷ [])))))
-
 -- whether a hindrance is a missing visibility
 abbrev pub is_hidden : Option Hindrance → Bool
 is_hidden (Some Hidden) = true
@@ -151,28 +126,3 @@ is_hidden _ = false
 -- whether a hindrance is a missing visibility, for want of a prompt; a choice's may be that of another member than this symbol
 abbrev pub is_without_prompt : Option Hindrance → Symbol → Bool
 is_without_prompt hindrance symbol = is_hidden hindrance && is_empty symbol.prompts
-
--- what the prompts need, if there is one
-abbrev pub needs_lines : Strings → Environment → (without_prompt : Bool) → List (List Part) → List ℕ
-needs_lines strings names without_prompt needs = if without_prompt
-    then inner_line (codes "it has no prompt")
-    else alternative_lines strings names (codes "needs ") needs
-
--- that what the user value asks isn't taken, and why
-abbrev pub hindrance_line : Option Hindrance → List ℕ
-hindrance_line None = []
-hindrance_line (Some h) = inner_line (codes "not taken: " ++ hindrance_text h)
-
--- the text of the reasons of symbol s
-abbrev pub explained : Strings → Tree → List UnitValue → ℕ → Symbol → PlainReasons → List ℕ
-explained strings tree values s symbol r =
-    first_line strings tree values s r.chosen r.case
-    ++ (hindrance_line r.hindrance
-    ++ (needs_lines strings (environment tree values) (is_without_prompt r.hindrance symbol) r.needs
-    ++ (forcing_lines strings tree values (codes "selected by ") symbol.selectors r.selected_by
-    ++ (forcing_lines strings tree values (codes "implied by ") symbol.impliers r.implied_by
-    ++ alternative_lines strings (environment tree values) (codes "unmet: ") r.unmet))))
-
--- and of the symbol with number s, if the tree has it
-abbrev pub explained_at : Strings → Tree → List UnitValue → ℕ → PlainReasons → List ℕ
-explained_at strings tree values s r = unwrap_or (option_map (λ symbol. explained strings tree values s symbol r) (slice_get tree.symbols s)) []

@@ -11,7 +11,7 @@ use Rattle.kc_reasons_model.specs.Reasons.{value_text, name_of_symbol}
 use Rattle.kc_located_reasons.specs.LocatedNeeds.{LocatedPart}
 use Rattle.kc_reasons_model.specs.PlainReasons.{PlainReasons}
 use Rattle.kc_reasons_model.specs.SymbolLines.{SymbolLines}
-use Rattle.kc_explanation.specs.Explained.{in_parentheses, low_part_text, inner_line, forcing_text, is_without_prompt, chosen_text, case_text, hindrance_line}
+use Rattle.kc_explanation.specs.Explained.{in_parentheses, low_part_text, inner_line, forcing_text, is_without_prompt, chosen_text, case_text}
 
 -- `PATH:LINE`, by the paths of the tree's files in the order of their numbers
 abbrev pub place_text : List (List ℕ) → Position → List ℕ
@@ -87,14 +87,3 @@ located_unmet_at strings paths tree values s selectors selected_by parts =
 abbrev pub located_details_at : Strings → List (List ℕ) → Tree → List UnitValue → ℕ → SymbolLines → PlainReasons → ReasonPlaces → List ℕ
 located_details_at strings paths tree values s lines r places =
     unwrap_or (option_map (λ symbol. located_details strings paths tree values symbol lines r places) (slice_get tree.symbols s)) []
-
--- the text of the reasons of symbol s, with the places of its lines
-abbrev pub located_explained : Strings → List (List ℕ) → Tree → List UnitValue → ℕ → Symbol → SymbolLines → PlainReasons → ReasonPlaces → List ℕ
-located_explained strings paths tree values s symbol lines r places =
-    located_first_line strings paths tree values s r.chosen r.case places.given_at
-    ++ (hindrance_line r.hindrance ++ located_details strings paths tree values symbol lines r places)
-
--- and of the symbol with number s, if the tree has it
-abbrev pub located_explained_at : Strings → List (List ℕ) → Tree → List UnitValue → ℕ → SymbolLines → PlainReasons → ReasonPlaces → List ℕ
-located_explained_at strings paths tree values s lines r places =
-    unwrap_or (option_map (λ symbol. located_explained strings paths tree values s symbol lines r places) (slice_get tree.symbols s)) []

@@ -4,9 +4,9 @@ ghost use Rattle.kc_expr.specs.between.Arena.{Exprs};
 ghost use Rattle.kc_tree.specs.between.Views.{symbol_view};
 ghost use Rattle.kc_evaluation.specs.checker.ValuationView.{valuation_tree};
 ghost use Rattle.kc_reasons_model.specs.Reasons.{name_of_symbol};
-ghost use Rattle.kc_explanation.specs.Explained.{case_text, chosen_text, is_hidden, is_without_prompt, hindrance_line};
+ghost use Rattle.kc_explanation.specs.Explained.{case_text, chosen_text, is_hidden, is_without_prompt};
 
-use super::words::{given_text, hindrance_text, lifted_text};
+use super::words::{given_text, lifted_text};
 use kc_evaluation::Valuation;
 use kc_reasons::{Case, Hindrance};
 use kc_tree::{Sym, Symbol};
@@ -45,23 +45,6 @@ pub(crate) fn push_chosen(
         Some(m) => {
             out.extend_from_slice(name_of(under, m).as_bytes())?;
             out.extend_from_slice(b" is y, ")
-        }
-    }
-}
-
-/// Appends a line that says that a user value isn't taken, and why; nothing without a hindrance.
-pub(crate) fn push_hindrance_line(
-    out: &mut Vec<u8>,
-    hindrance: Option<Hindrance>,
-) -> Result<(), AllocError>
-    ensures { OnOk result (out.new.items ≡ out.old.items ++ hindrance_line hindrance) }
-{
-    match hindrance {
-        None => out.extend_from_slice(b""),
-        Some(h) => {
-            out.extend_from_slice(b"  not taken: ")?;
-            out.extend_from_slice(hindrance_text(h).as_bytes())?;
-            out.extend_from_slice(b"\n")
         }
     }
 }

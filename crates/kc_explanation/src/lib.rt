@@ -17,8 +17,7 @@ pub use asked_texts::{
 pub use explanation::{is_without_prompt, name_of};
 pub use kc_evaluation::letter_of;
 pub use located_explanation::{
-    ReasonPlaces, place_at, push_alternatives, push_explanation, push_located_alternatives,
-    push_located_details, push_located_explanation, push_located_first_line, push_located_unmet,
+    ReasonPlaces, place_at, push_located_details, push_located_first_line, push_located_unmet,
 };
 pub use located_texts::{path_of, push_tree_place};
 pub use spelling::{SpelledToken, spelled_tokens};

@@ -1,28 +1,26 @@
-//! The text that explains a symbol's value, with the places of lines or without.
-ghost use Rattle.std.specs.Prelude.{◌≡◌, ◌<◌, ◌++◌, ◌∷◌, ◌&&◌, [], ℕ, length, map, slice_get, option_map, codes, All, OnOk, Some};
+//! The text that explains a symbol's value, with the places of lines.
+ghost use Rattle.std.specs.Prelude.{◌≡◌, ◌<◌, ◌++◌, ◌∷◌, [], length, map, slice_get, option_map, codes, All, OnOk, Some};
 ghost use Rattle.kc_tree.specs.between.Views.{reverse_dependency_view, symbol_view, SymbolFits};
 ghost use Rattle.kc_dependencies.specs.checker.StoredRules.{AreReverseDependencies};
 ghost use Rattle.kc_evaluation.specs.checker.ValuationView.{valuation_tree, valuation_exprs, valuation_values};
-ghost use Rattle.kc_rules_model.specs.SymbolValues.{environment};
-ghost use Rattle.kc_reasons.specs.between.Parts.{alternatives_view, AreThere};
 ghost use Rattle.kc_reasons.specs.between.ReasonsView.{reasons_view};
 ghost use Rattle.kc_symbol_lines.specs.between.LinesView.{position_view, symbol_lines_view};
 ghost use Rattle.kc_located_reasons.specs.between.PartsView.{located_alternatives_view, ArePartsThere};
-ghost use Rattle.kc_explanation.specs.Explained.{case_text, chosen_text, alternative_lines, explained_at};
-ghost use Rattle.kc_explanation.specs.Located.{place_in_parentheses, located_first_line, located_forcing_line, located_forcing_lines, located_alternative_lines, located_details_at, located_explained_at, located_unmet_at};
+ghost use Rattle.kc_explanation.specs.Explained.{case_text, chosen_text};
+ghost use Rattle.kc_explanation.specs.Located.{place_in_parentheses, located_first_line, located_forcing_line, located_forcing_lines, located_details_at, located_unmet_at};
 ghost use Rattle.kc_explanation.specs.checker.Contexts.{exprs_of, tree_of, values_of};
 ghost use Rattle.kc_explanation.specs.checker.PartLines.{needed_lines, forces_lines, detail_lines};
 ghost use Rattle.kc_explanation.specs.between.ReasonPlacesView.{places_view};
 
 use super::context::Context;
-use super::explanation::{is_without_prompt, name_of, push_case, push_chosen, push_hindrance_line};
+use super::explanation::{is_without_prompt, name_of, push_case, push_chosen};
 use super::located_texts::push_place_if;
 use super::part_texts::{PartText, push_part_lines};
 use super::token_texts::{push_value, push_value_text};
 use kc_dotconfig_model::Strings;
 use kc_evaluation::Valuation;
 use kc_located_reasons::LocatedPart;
-use kc_reasons::{Case, LowPart, SymbolReasons};
+use kc_reasons::{Case, SymbolReasons};
 use kc_symbol_lines::{Position, SymbolLines};
 use kc_tree::{ReverseDependency, Sym, Symbol};
 use kc_value::Text;
@@ -228,94 +226,6 @@ fn push_details<P: PartText>(
     push_part_lines(out, by, b"unmet: ", unmet)
 }
 
-/// Appends a line for each alternative: the first begins with a word, the others with `or`. An `Err` means out of memory.
-pub fn push_alternatives(
-    alloc: Global,
-    out: &mut Vec<u8>,
-    under: &Valuation<'_>,
-    strings: Strings,
-    word: &[u8],
-    lists: &[Vec<LowPart>],
-) -> Result<(), AllocError>
-    requires there { AreThere (valuation_exprs under.now) lists.now }
-    ensures { OnOk result (out.new.items ≡ out.old.items ++ alternative_lines strings (environment (valuation_tree under.now) (valuation_values under.now)) word.now (alternatives_view (valuation_exprs under.now) lists.now)) }
-{
-    let by = &Context {
-        alloc,
-        under,
-        strings,
-        paths: &[],
-    };
-    push_part_lines(out, by, word, lists)
-}
-
-/// Appends a line for each alternative, each part with its place: the first begins with a word, the others with `or`. `paths` has
-/// those of the tree's files in the order of their numbers. An `Err` means out of memory.
-pub fn push_located_alternatives(
-    alloc: Global,
-    out: &mut Vec<u8>,
-    under: &Valuation<'_>,
-    strings: Strings,
-    paths: &[Text],
-    word: &[u8],
-    lists: &[Vec<LocatedPart>],
-) -> Result<(), AllocError>
-    requires there { ArePartsThere (valuation_exprs under.now) lists.now }
-    ensures { OnOk result (out.new.items ≡ out.old.items ++ located_alternative_lines strings (environment (valuation_tree under.now) (valuation_values under.now)) paths.now word.now (located_alternatives_view (valuation_exprs under.now) lists.now)) }
-{
-    let by = &Context {
-        alloc,
-        under,
-        strings,
-        paths,
-    };
-    push_part_lines(out, by, word, lists)
-}
-
-/// Appends the text that explains the value of symbol `s`, by its reasons. An `Err` means out of memory.
-pub fn push_explanation(
-    alloc: Global,
-    out: &mut Vec<u8>,
-    under: &Valuation<'_>,
-    strings: Strings,
-    s: Sym,
-    reasons: &SymbolReasons,
-) -> Result<(), AllocError>
-    requires there { s < length (valuation_tree under.now).symbols }
-    requires needs { AreThere (valuation_exprs under.now) reasons.now.needs.items }
-    requires unmet { AreThere (valuation_exprs under.now) reasons.now.unmet.items }
-    ensures { OnOk result (out.new.items ≡ out.old.items ++ explained_at strings (valuation_tree under.now) (valuation_values under.now) s (reasons_view (valuation_exprs under.now) reasons.now)) }
-{
-    let by = &Context {
-        alloc,
-        under,
-        strings,
-        paths: &[],
-    };
-    let symbol = &under.rules.tree.symbol(s);
-    push_located_first_line(
-        out,
-        under,
-        strings,
-        &[],
-        s,
-        reasons.chosen,
-        reasons.case,
-        None,
-    )?;
-    push_hindrance_line(out, reasons.hindrance)?;
-    push_details(
-        out,
-        by,
-        symbol,
-        reasons,
-        &reasons.needs,
-        &reasons.unmet,
-        &[],
-        &[],
-    )
-}
-
 /// Appends what comes in the text that explains symbol `s` after its value and what was asked: what its prompts need, what selects and
 /// implies it, and what is unmet, by its reasons, its lines and the places of what it lacks. `paths` has those of the tree's files in
 /// the order of their numbers. An `Err` means out of memory.
@@ -380,36 +290,4 @@ pub fn push_located_unmet(
     let symbol = &under.rules.tree.symbol(s);
     push_selects(out, by, symbol, selectors, selected_by)?;
     push_part_lines(out, by, b"unmet: ", unmet)
-}
-
-/// Appends the text that explains the value of symbol `s`, by its reasons, its lines and the places of what it lacks. `paths` has
-/// those of the tree's files in the order of their numbers. An `Err` means out of memory.
-pub fn push_located_explanation(
-    alloc: Global,
-    out: &mut Vec<u8>,
-    under: &Valuation<'_>,
-    strings: Strings,
-    paths: &[Text],
-    s: Sym,
-    lines: &SymbolLines,
-    reasons: &SymbolReasons,
-    places: &ReasonPlaces,
-) -> Result<(), AllocError>
-    requires there { s < length (valuation_tree under.now).symbols }
-    requires needs { ArePartsThere (valuation_exprs under.now) places.now.needs.items }
-    requires unmet { ArePartsThere (valuation_exprs under.now) places.now.unmet.items }
-    ensures { OnOk result (out.new.items ≡ out.old.items ++ located_explained_at strings paths.now (valuation_tree under.now) (valuation_values under.now) s (symbol_lines_view (valuation_exprs under.now) lines.now) (reasons_view (valuation_exprs under.now) reasons.now) (places_view (valuation_exprs under.now) places.now)) }
-{
-    push_located_first_line(
-        out,
-        under,
-        strings,
-        paths,
-        s,
-        reasons.chosen,
-        reasons.case,
-        places.given_at,
-    )?;
-    push_hindrance_line(out, reasons.hindrance)?;
-    push_located_details(alloc, out, under, strings, paths, s, lines, reasons, places)
 }

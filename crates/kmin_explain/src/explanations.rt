@@ -8,7 +8,7 @@ ghost use Rattle.kc_rules.specs.between.SettledViews.{tree_model_of};
 ghost use Rattle.kc_config.specs.ConfigStates.{tree_in};
 ghost use Rattle.kc_reasons.specs.between.ReasonsView.{reasons_view};
 ghost use Rattle.kc_symbol_lines.specs.between.LinesView.{symbol_lines_view, AreHeld};
-ghost use Rattle.kmin_explain.specs.Explanations.{explained_by, explained_at, explained_in, all_symbols, is_hindered_at, is_one_hindered};
+ghost use Rattle.kmin_explain.specs.Explanations.{explained_by, explained_at, explained_in, is_hindered_at, is_one_hindered};
 ghost use Rattle.kmin_explain.specs.between.Sources.{config_of, AreReadSources, AreSourcesOf, sources_model};
 
 use super::asked_lines::{AskedSymbol, push_asked_lines};
@@ -107,17 +107,8 @@ pub fn explanation_of(
     Ok(text)
 }
 
-/// The text that explains each symbol of the tree, in order of first definition. An `Err` means out of memory.
-pub fn explanation_of_all(alloc: Global, by: &Sources<'_>, all: bool) -> Result<Vec<u8>, AllocError>
-    requires read { AreReadSources by.now }
-    ensures { (read : List Group) (meanings : List (List LineMeaning)) → AreSourcesOf by.now read meanings → IfOk result (λ text. text.items ≡ explained_in (sources_model by.now read meanings) all (all_symbols (tree_in (config_of by.now)))) }
-{
-    let symbols = each_symbol(alloc, by.config.settled().tree().symbol_count())?;
-    explanation_of(alloc, by, all, &symbols)
-}
-
-/// The symbols with the numbers below a count.
-fn each_symbol(alloc: Global, count: u32) -> Result<Vec<Sym>, AllocError>
+/// The symbols with the numbers below a count, in their order. An `Err` means out of memory.
+pub fn every_symbol(alloc: Global, count: u32) -> Result<Vec<Sym>, AllocError>
     ensures { IfOk result (λ symbols. symbols.items ≡ range_with_len 0 count) }
 {
     let mut symbols = Vec::new(alloc);

@@ -14,7 +14,7 @@ mod symbol_reasons;
 pub use asked_lines::{AskedSymbol, line_in, path_at};
 pub use deep::deep_symbols;
 pub use each_once::SymbolsOnce;
-pub use explanations::{explanation_of, explanation_of_all, is_one_hindered};
+pub use explanations::{every_symbol, explanation_of, is_one_hindered};
 pub use names::{named_symbols, unknown_name};
 pub use nearest_names::nearest_name;
 pub use sources::Sources;

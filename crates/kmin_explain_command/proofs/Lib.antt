@@ -4,4 +4,5 @@ pub mod ReadFiles
 pub mod SourceParts
 pub mod OverEnds
 pub mod TextEnds
+pub mod TextForms
 pub mod Endings

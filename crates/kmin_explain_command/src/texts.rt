@@ -1,6 +1,5 @@
 //! The text of a command that gives reasons, for a configuration whose files were read.
 ghost use Rattle.std.specs.Prelude.{◌≡◌, ◌≤◌, ◌<◌, ℕ, List, All, Option, length, IfOk, IfErr};
-ghost use Rattle.std.specs.List.{range_with_len};
 ghost use Rattle.kc_tree_model.specs.Blocks.{Group};
 ghost use Rattle.kc_rules.specs.between.SettledViews.{tree_model_of};
 ghost use Rattle.kc_config.specs.ConfigStates.{tree_in};
@@ -21,7 +20,9 @@ use crate::unknown_names::refuse_unknown;
 use kc_symbol_lines::LineIndex;
 use kc_tree::{Sym, Tree};
 use kc_value::Seed;
-use kmin_explain::{Sources, deep_symbols, explanation_of, is_one_hindered, named_symbols};
+use kmin_explain::{
+    Sources, deep_symbols, every_symbol, explanation_of, is_one_hindered, named_symbols,
+};
 use kmin_explain_records::{records_of, records_of_missed};
 use kmin_missed::{lines_of_missed, lines_of_unmet, missed_by_cause};
 use kmin_options::{ExplainFlags, ExplainJob, MissedForm, Question};
@@ -216,17 +217,6 @@ fn symbols_for(alloc: Global, job: &ExplainJob<'_>, tree: &Tree) -> Result<Vec<S
         None => every_symbol(alloc, tree.symbol_count()),
         Some(names) => named_symbols(alloc, tree, &job.settings.format.prefix, names),
     }
-}
-
-/// The symbols with the numbers below a count.
-fn every_symbol(alloc: Global, count: u32) -> Result<Vec<Sym>, AllocError>
-    ensures { IfOk result (λ symbols. symbols.items ≡ range_with_len 0 count) }
-{
-    let mut symbols = Vec::new(alloc);
-    for s in 0..count {
-        symbols.push(Sym::at(s))?;
-    }
-    Ok(symbols)
 }
 
 /// The output for symbols, and its status.

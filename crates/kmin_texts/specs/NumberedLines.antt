@@ -3,9 +3,7 @@ use Rattle.std.specs.Prelude.{ℕ, ◌-◌, ◌==◌, List, [], Option, Some, No
 use Rattle.std.specs.Str.{is_utf8}
 use Rattle.kc_value.specs.Lines.{pieces}
 use Rattle.kc_dotconfig_model.specs.declared.fault.LoadKind.{LoadKind}
-use Rattle.kc_dotconfig_model.specs.declared.notice.NoticeKind.{NoticeKind}
 use Rattle.kmin_details.specs.LineTexts.{file_line_text}
-use Rattle.kmin_details.specs.between.NamedSymbols.{notice_text, notice_names}
 
 -- the line of a file with this number, counted from 1, without its newline; None if there is none
 abbrev pub line_at : (bytes : List ℕ) (number : ℕ) → Option (List ℕ)
@@ -19,12 +17,3 @@ file_fault_text kind bytes number = elim (line_at bytes number) [ None ↦ [] | 
 abbrev pub utf8_line : Option (List ℕ) → Option (List ℕ)
 utf8_line None = None
 utf8_line (Some line) = if is_utf8 line then Some line else None
-
--- the text for a notice at a line of a configuration file, by its kind, without a name that is near; empty if there is no such line,
--- or it isn't UTF-8
-abbrev pub file_notice_text : NoticeKind → (prefix bytes : List ℕ) (number : ℕ) → List ℕ
-file_notice_text kind prefix bytes number = elim (utf8_line (line_at bytes number)) [ None ↦ [] | Some line ↦ notice_text kind prefix line ]
-
--- the names of symbols in that text
-abbrev pub file_notice_names : NoticeKind → (prefix bytes : List ℕ) (number : ℕ) → List (List ℕ)
-file_notice_names kind prefix bytes number = elim (utf8_line (line_at bytes number)) [ None ↦ [] | Some line ↦ notice_names kind prefix line ]

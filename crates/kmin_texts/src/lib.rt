@@ -16,4 +16,4 @@ mod worded_lines;
 pub use form_messages::{FormMessages, Wording};
 pub use formed_messages::FormedMessages;
 pub use line_files::{LineFiles, Reread};
-pub use numbered_lines::{after_lines, file_fault_text, file_notice_detail, line_at};
+pub use numbered_lines::{after_lines, file_fault_text, line_at};

@@ -3,12 +3,10 @@ ghost use Rattle.std.specs.Prelude.{◌≡◌, ℕ, List, Some, None, drop, opti
 ghost use Rattle.std.specs.Str.{is_utf8};
 ghost use Rattle.std.specs.Borrow.{Bor};
 ghost use Rattle.kc_value.specs.Lines.{pieces};
-ghost use Rattle.kc_dotconfig_model.specs.between.Prefixes.{prefix_bytes};
-ghost use Rattle.kmin_texts.specs.NumberedLines.{file_fault_text, file_notice_names, file_notice_text, line_at, utf8_line};
-ghost use Rattle.kmin_details.specs.between.Details.{detail_names, detail_text};
+ghost use Rattle.kmin_texts.specs.NumberedLines.{file_fault_text, line_at, utf8_line};
 
-use kc_dotconfig_model::{LoadKind, NoticeKind, Prefix};
-use kmin_details::{Detail, file_line_text, notice_detail};
+use kc_dotconfig_model::LoadKind;
+use kmin_details::file_line_text;
 use kmin_lines::first_piece;
 use std::alloc::{AllocError, Global};
 
@@ -53,23 +51,6 @@ pub fn file_fault_text(
     match line_at(bytes, number) {
         Some(line) => file_line_text(alloc, kind, line),
         None => Ok(String::new(alloc)),
-    }
-}
-
-/// The detail of a notice at a line of a configuration file, without a name that is near. `Nothing` if there is no such line, or it
-/// isn't UTF-8.
-pub fn file_notice_detail<'a>(
-    kind: NoticeKind,
-    prefix: &Prefix,
-    bytes: &'a [u8],
-    number: u32,
-) -> Detail<'a>
-    ensures text { detail_text result ≡ file_notice_text kind (prefix_bytes prefix.now) bytes.now number }
-    ensures names { detail_names result ≡ file_notice_names kind (prefix_bytes prefix.now) bytes.now number }
-{
-    match utf8_line(line_at(bytes, number)) {
-        Some(line) => notice_detail(kind, prefix, line),
-        None => Detail::Nothing,
     }
 }
 

@@ -1,9 +1,6 @@
-use Rattle.kmin_explain_command.proofs.Common.{ℕ, false, ◌<◌, List, All, length, subst, sym, ◌∙◌, ap, IfOk-weaker, tree_in, config_of, sources_model}
-use Rattle.std.specs.Prelude.{flat_map}
-use Rattle.kmin_missed.specs.UnmetLines.{unmet_row_at}
+use Rattle.kmin_explain_command.proofs.Common.{ℕ, ◌<◌, List, All, length, subst, sym, tree_in, config_of}
 use Rattle.kmin_missed.proofs.MissedMarks.{unmet_below}
-use Rattle.kmin_explain_records.specs.SymbolRecords.{records_in}
-use Rattle.kmin_explain_command.specs.Explains.{unmet_text}
+use Rattle.kmin_explain_command.proofs.TextForms.{plain_unmet, unmet_as_json, rows_of_unmet, records_of_unmet}
 use Rattle.kmin_explain_command.proofs.texts.unmet_text.Goals as goal
 
 pub lines_of_unmet-requires-clause-there : goal.lines_of_unmet-requires-clause-there
@@ -17,15 +14,11 @@ records_of-requires-clause-there c =
     subst (λ (xs : List ℕ). All (λ s. s < length (tree_in config).symbols) xs) (sym c.requires.unmet) (unmet_below (tree_in config) config.values)
 
 pub returns-in-Plain : goal.returns-in-Plain
-returns-in-Plain c = λ read meanings are.
-    let g = sources_model c.args.by.now read meanings in
-    IfOk-weaker c.lines_of_unmet.result _ _
-    (λ text is. is ∙ ap (flat_map (unmet_row_at g)) c.requires.unmet ∙ ap (λ form. unmet_text form g) (sym c.in-Plain.is))
-    (c.lines_of_unmet.ensures read meanings are)
+returns-in-Plain c =
+    plain_unmet c.args.by.now c.lines_of_unmet.result c.args.output_form c.in-Plain.is
+    (rows_of_unmet c.args.by.now c.lines_of_unmet.result c.args.symbols.now c.requires.unmet c.lines_of_unmet.ensures)
 
 pub returns-in-Json : goal.returns-in-Json
-returns-in-Json c = λ read meanings are.
-    let g = sources_model c.args.by.now read meanings in
-    IfOk-weaker c.records_of.result _ _
-    (λ text is. is ∙ ap (records_in g false) c.requires.unmet ∙ ap (λ form. unmet_text form g) (sym c.in-Json.is))
-    (c.records_of.ensures read meanings are)
+returns-in-Json c =
+    unmet_as_json c.args.by.now c.records_of.result c.args.output_form c.in-Json.is
+    (records_of_unmet c.args.by.now c.records_of.result c.args.symbols.now c.requires.unmet c.records_of.ensures)

@@ -1,6 +1,6 @@
 use Rattle.std.proofs.Common.{[], ◌∷◌, ◌++◌, ap, ◌∙◌}
 use Rattle.kmin_explain.proofs.EachOnce.{more_found}
-use Rattle.kmin_explain.proofs.explanations.each_symbol.Goals as goal
+use Rattle.kmin_explain.proofs.explanations.every_symbol.Goals as goal
 
 pub loop-s-preserved : goal.loop-s-preserved
 loop-s-preserved c =

@@ -1,5 +1,0 @@
-use Rattle.kmin_explain_command.proofs.Common.{◌≡◌, range_with_len}
-use Rattle.kmin_explain_command.proofs.texts.every_symbol.Given as goal
-
-abbrev pub invariant-loop-s : goal.invariant-loop-s
-invariant-loop-s l = l.symbols.items ≡ range_with_len 0 l.s
