@@ -128,10 +128,12 @@ def beginning(text, place):
 def owner_of(head):
     """The name under which a check prints the functions of an impl or a trait with this head."""
     head = re.sub(r"\bwhere\b.*", "", head, flags=re.S)
-    head = re.sub(r"^(impl|trait)\s*(<([^<>]|<[^<>]*>)*>)?", "", head)
-    of_trait, is_of_trait, of_type = head.rpartition(" for ")
+    parameters = re.match(r"(?:impl|trait)\s*(<(?:[^<>]|<[^<>]*>)*>)?", head)
+    of_trait, is_of_trait, of_type = head[parameters.end() :].rpartition(" for ")
     words = lambda it: re.sub(r"'\w+|\b(mut|dyn)\b|\w+::", " ", it)
-    bare = lambda it: re.findall(r"\w+", re.sub(r"<.*", "", words(it), flags=re.S))[:1]
+    own = re.findall(r"\w+", words(parameters[1] or ""))
+    given = lambda it: [word for word in re.findall(r"\w+", "".join(re.findall(r"^[^<:]*<([^:]*)>", it))) if word not in own]
+    bare = lambda it: [*re.findall(r"\w+", words(it))[:1], *(word[0].upper() + word[1:] for word in given(words(it)))]
     inner = re.sub(r"(<[^<>]*)<[^<>]*>", r"\1", words(of_trait))
     return "".join([*bare(of_type), *re.findall(r"\w+", inner)]) if is_of_trait else "".join(bare(of_type))
 

@@ -7,7 +7,7 @@ use super::answers::Answers;
 use super::file_records::record_lines;
 use super::line_records::out_of_memory;
 use kc_macros_model::{AnswersFault, AnswersKind};
-use kc_value::{MAX_ANSWER_BYTES, ReadBytes, ReadEnd, Source, read_up_to};
+use kc_value::{MAX_ANSWER_BYTES, MAX_BLOCK_BYTES, ReadBytes, ReadEnd, Source, read_up_to};
 use std::alloc::{AllocError, Global};
 
 /// Reads a reader to its end, or to the first byte too many for a file of answers; returns the bytes, and the fault that
@@ -20,7 +20,8 @@ fn read_whole<R: Source>(
     ensures end { IfOk result (λ r. ReadsToEnd (R.left source.new) (R.failures source.old) (R.failures source.new) r.0.items r.1) }
     ensures unfailed { OnErr result (R.failures source.new ≡ R.failures source.old) }
 {
-    let ReadBytes { bytes, end } = read_up_to(alloc, source, MAX_ANSWER_BYTES + 1, 0)?;
+    let block = &mut [0; MAX_BLOCK_BYTES];
+    let ReadBytes { bytes, end } = read_up_to(alloc, source, MAX_ANSWER_BYTES + 1, 0, block)?;
     match end {
         ReadEnd::AtEnd => Ok((bytes, None)),
         ReadEnd::AtLimit => Ok((bytes, Some(AnswersKind::TooLarge))),

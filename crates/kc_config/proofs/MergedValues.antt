@@ -1,4 +1,4 @@
--- The user values of a list laid over those of an assignment.
+-- The user values of an assignment, overridden by those of a list.
 use Rattle.std.proofs.Common.{◌+◌}
 use Rattle.std.specs.Prelude.{slice_index}
 use Rattle.kc_config.proofs.Common.{◌≡◌, inl, inr, ℕ, zero, suc, ◌<◌, true, cond, IsTrue, List, [], ◌∷◌, ◌++◌, length, Option, Some, None, refl, sym, ◌∙◌, ap, subst, arith, slice_get, option_or, nat_cmp, cases_eq, Tree, changed_users, user_of, FitsUsers, UserValue, user_fits, over, overlay}
@@ -99,7 +99,7 @@ overlay_length (o ∷ later) [] e = absurd (omega arith)
 overlay_length (None ∷ later) (y ∷ users) e = let rest = overlay_length later users (omega arith) in omega arith
 overlay_length (Some x ∷ later) (y ∷ users) e = let rest = overlay_length later users (omega arith) in omega arith
 
--- changes to a list's user values over the held ones give the list's assignment laid over the held one
+-- changes to user values of a list that override the held ones give the held assignment, overridden by that of the list
 pub lies_over : (tree : Tree) (es : List (ℕ × UserValue)) (users : List (Option UserValue)) → FitsTree tree es → length users ≡ length tree.units
     → changed_users (changes_of (overs users es)) users ≡ overlay (users_of tree es) users
 lies_over tree es users fits same =

@@ -12,8 +12,8 @@ ghost use Rattle.kc_dotconfig.specs.Fragments.{FitsTree, users_of};
 ghost use Rattle.kc_config.specs.ConfigStates.{tree_in, IsSolved};
 
 use super::changes::{merge_units, push_cleared, push_users, units_assigned, users_assigned};
+use super::merged_values::push_overs;
 use super::missed_assignments::missed_symbols;
-use super::overlaid::push_overs;
 use kc_dotconfig::Fragment;
 use kc_rules::{Settled, Steps};
 use kc_rules_model::{UnitValue, UserValue};

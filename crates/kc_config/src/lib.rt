@@ -3,8 +3,8 @@
 
 mod changes;
 mod config;
+mod merged_values;
 mod missed_assignments;
-mod overlaid;
 
 pub use config::Config;
-pub use overlaid::user_at;
+pub use merged_values::user_at;

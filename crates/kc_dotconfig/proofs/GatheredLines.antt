@@ -19,7 +19,7 @@ listed_push (k ∷ lines) l s = ap (λ t. (k.member == s) || t) (listed_push lin
   assoc true b c = refl
   assoc false b c = refl
 
--- one more assignment is laid over those kept
+-- one more assignment overrides those kept
 pub kept_push : (lines : List MemberLine) (l : MemberLine) → kept_last (lines ++ l ∷ []) ≡ laid_over (l ∷ []) (kept_last lines)
 kept_push [] l = refl
 kept_push (k ∷ lines) l =

@@ -11,7 +11,7 @@ use Rattle.kc_dotconfig_model.specs.declared.fault.LoadKind.TheVariants.{Read}
 use Rattle.kc_dotconfig.specs.declared.fragment.Fragment.{Fragment}
 use Rattle.kc_dotconfig_model.specs.LoadFaults.{OccursAt}
 use Rattle.kc_dotconfig.proofs.UserValueFits.{fragment_fits}
-use Rattle.kc_dotconfig.specs.ReadResults.{IsReadAs, IsFileRefused, IsCutShort, ReportsFault}
+use Rattle.kc_dotconfig.specs.ReadResults.{IsReadAs, IsReadKeeping, IsFileRefused, IsCutShort, ReportsFault}
 use Rattle.kc_dotconfig.proofs.Insertions.{whole_users, whole_rises, whole_below}
 use Rattle.kc_dotconfig.specs.checker.Accumulation.{fault_line, IsFragmentOf}
 use Rattle.kc_dotconfig_model.proofs.FirstFaults.{failed_reads}
@@ -34,18 +34,21 @@ consumes_nothing None = tt
 consumes_nothing (Some xs) = refl
 
 -- a reader supplied `size` bytes without a fault, which end with the incomplete line `line`; `g` has the meanings of the complete
--- ones
-pub record HasRead (format : FileFormat) (tree : Tree) (before after : Option (List ℕ)) (line : List ℕ) (g : Accumulator) (size : ℕ) : Type 0 where
+-- ones, and `keeps` is true of the bytes
+pub record HasRead (format : FileFormat) (tree : Tree) (before after : Option (List ℕ)) (line : List ℕ) (g : Accumulator) (size : ℕ)
+    (keeps : List ℕ → Type 0) : Type 0 where
   pub known : List ℕ
   pub consumed : Consumes before after known
   pub counted : length known ≡ size
   pub holds : Holds format tree known line g
+  pub kept : keeps known
 
-pub has_read_none : (format : FileFormat) (tree : Tree) (a : Option (List ℕ)) (line : List ℕ) (g : Accumulator) → line ≡ [] → IsGathered tree [] g
-    → HasRead format tree a a line g 0
-has_read_none format tree a line g empty gathered =
+pub has_read_none : (format : FileFormat) (tree : Tree) (a : Option (List ℕ)) (line : List ℕ) (g : Accumulator) (keeps : List ℕ → Type 0) → line ≡ []
+    → IsGathered tree [] g → keeps [] → HasRead format tree a a line g 0 keeps
+has_read_none format tree a line g keeps empty gathered none =
     record {
       known = [];
+      kept = none;
       consumed = consumes_nothing a;
       counted = refl;
       holds = subst (λ l. Holds format tree [] l g) (sym empty)
@@ -53,25 +56,27 @@ has_read_none format tree a line g empty gathered =
     }
 
 pub has_read_more : (format : FileFormat) (tree : Tree) (a b c : Option (List ℕ)) (line : List ℕ) (g : Accumulator) (size : ℕ) (block line_new : List ℕ)
-    (h : Accumulator) (count : ℕ)
-    → HasRead format tree a b line g size → Consumes b c block → length block ≡ count → AcceptsBytes format tree line g block line_new h
-    → size + length block ≤ MAX_CONFIG_BYTES → HasRead format tree a c line_new h (size + count)
-has_read_more format tree a b c line g size block line_new h count r consumed n takes room =
+    (h : Accumulator) (count : ℕ) (keeps keeps_new : List ℕ → Type 0)
+    → HasRead format tree a b line g size keeps → Consumes b c block → length block ≡ count → AcceptsBytes format tree line g block line_new h
+    → size + length block ≤ MAX_CONFIG_BYTES → ((known : List ℕ) → keeps known → keeps_new (known ++ block))
+    → HasRead format tree a c line_new h (size + count) keeps_new
+has_read_more format tree a b c line g size block line_new h count keeps keeps_new r consumed n takes room more =
     let known_size = r.counted in record {
       known = r.known ++ block;
+      kept = more r.known r.kept;
       consumed = consumes_both a b c r.known block r.consumed consumed;
       counted = (let e = length-append r.known block in omega arith);
       holds = takes r.known r.holds (omega arith);
     }
 
 -- while a file is read, the incomplete line is empty or the complete lines are fewer than `MAX_CONFIG_LINES`
-pub room_of : (format : FileFormat) (tree : Tree) (a b : Option (List ℕ)) (line : List ℕ) (g : Accumulator) (size : ℕ) → HasRead format tree a b line g size
-    → (line ≡ []) ⊎ (g.lines < MAX_CONFIG_LINES)
+pub room_of : (format : FileFormat) (tree : Tree) (a b : Option (List ℕ)) (line : List ℕ) (g : Accumulator) (size : ℕ) {keeps : List ℕ → Type 0}
+    → HasRead format tree a b line g size keeps → (line ≡ []) ⊎ (g.lines < MAX_CONFIG_LINES)
 room_of format tree a b [] g size r = inl refl
 room_of format tree a b (x ∷ line) g size r = let room = r.holds.1.room (omega arith) in let counted = r.holds.2.counted in inr (omega arith)
 
-pub read_cut_short : (format : FileFormat) (tree : Tree) (a b c : Option (List ℕ)) (line : List ℕ) (g : Accumulator) (size lines : ℕ)
-    → HasRead format tree a b line g size → Keeps b c → lines ≡ g.lines + 1 → IsCutShort format tree a c lines
+pub read_cut_short : (format : FileFormat) (tree : Tree) (a b c : Option (List ℕ)) (line : List ℕ) (g : Accumulator) (size lines : ℕ) {keeps : List ℕ → Type 0}
+    → HasRead format tree a b line g size keeps → Keeps b c → lines ≡ g.lines + 1 → IsCutShort format tree a c lines
 read_cut_short format tree a b c line g size lines r kept is =
     let cut = r.holds.1 in
     record {
@@ -116,8 +121,8 @@ reports_refused format tree a c f f_after OutOfMemory number h = elim h [
 ]
 
 pub refused_in : (format : FileFormat) (tree : Tree) (a b c : Option (List ℕ)) (line : List ℕ) (g : Accumulator) (size : ℕ) (block : List ℕ) (kind : LoadKind)
-    (number : ℕ)
-    → HasRead format tree a b line g size → Consumes b c block → length block ≤ MAX_CONFIG_BLOCK_BYTES
+    (number : ℕ) {keeps : List ℕ → Type 0}
+    → HasRead format tree a b line g size keeps → Consumes b c block → length block ≤ MAX_CONFIG_BLOCK_BYTES
     → ((kind ≡ OutOfMemory) × (number ≡ 0)) ⊎ ((known rest : List ℕ) → Holds format tree known line g → length known ≡ size
     → IsFirstFault format tree complete (known ++ (block ++ rest)) kind number)
     → ((kind ≡ OutOfMemory) × (number ≡ 0)) ⊎ IsFileRefused format tree a c kind number
@@ -136,8 +141,8 @@ refused_in format tree a b c line g size block kind number r consumed short faul
   })
 ]
 
-pub refused_at_end : (format : FileFormat) (tree : Tree) (a b c : Option (List ℕ)) (line : List ℕ) (g : Accumulator) (size : ℕ) (kind : LoadKind) (number : ℕ)
-    → HasRead format tree a b line g size → Consumes b c [] → IsAtEnd c
+pub refused_at_end : (format : FileFormat) (tree : Tree) (a b c : Option (List ℕ)) (line : List ℕ) (g : Accumulator) (size : ℕ) (kind : LoadKind) (number : ℕ) {keeps : List ℕ → Type 0}
+    → HasRead format tree a b line g size keeps → Consumes b c [] → IsAtEnd c
     → ((kind ≡ OutOfMemory) × (number ≡ 0)) ⊎ ((known : List ℕ) → Holds format tree known line g → IsFirstFault format tree complete known kind number)
     → ((kind ≡ OutOfMemory) × (number ≡ 0)) ⊎ IsFileRefused format tree a c kind number
 refused_at_end format tree a b c line g size kind number r consumed end fault = elim fault [
@@ -150,21 +155,24 @@ refused_at_end format tree a b c line g size kind number r consumed end fault = 
   })
 ]
 
-pub read_whole : (format : FileFormat) (tree : Tree) (a b c : Option (List ℕ)) (line : List ℕ) (g : Accumulator) (size : ℕ) (f : Fragment)
-    → HasRead format tree a b line g size → Consumes b c [] → IsAtEnd c → IsFragmentOf format tree line g f → IsReadAs format tree a c f
+pub read_whole : (format : FileFormat) (tree : Tree) (a b c : Option (List ℕ)) (line : List ℕ) (g : Accumulator) (size : ℕ) (f : Fragment) {keeps : List ℕ → Type 0}
+    → HasRead format tree a b line g size keeps → Consumes b c [] → IsAtEnd c → IsFragmentOf format tree line g f
+    → IsReadKeeping format tree a c keeps f
 read_whole format tree a b c line g size f r consumed end whole =
-    let all = whole r.known r.holds in
-    record {
-      known = r.known;
-      consumed = subst (Consumes a c) (append-nil r.known) (consumes_both a b c r.known [] r.consumed consumed);
-      ended = end;
-      accepted = all.1;
-      meanings = all.0;
-      has_meaning = all.2;
-      users = all.3;
-      noted = all.4;
-      chosen = all.7;
-    }
+    let all = whole r.known r.holds in (
+      record {
+        known = r.known;
+        consumed = subst (Consumes a c) (append-nil r.known) (consumes_both a b c r.known [] r.consumed consumed);
+        ended = end;
+        accepted = all.1;
+        meanings = all.0;
+        has_meaning = all.2;
+        users = all.3;
+        noted = all.4;
+        chosen = all.7;
+      },
+      r.kept,
+    )
 
 -- a first fault of a complete file is of a line
 fault_has_line : (format : FileFormat) (tree : Tree) (bytes : List ℕ) (kind : LoadKind) (number lines : ℕ) → IsFirstFault format tree complete bytes kind number
@@ -230,17 +238,32 @@ none_taken : (count : ℕ) (block : List ℕ) → count ≡ 0 → take count blo
 none_taken count block e = ap (λ n. take n block) e
 
 pub whole_read : (r : Result Fragment LoadFault) (format : FileFormat) (tree : Tree) (a b c : Option (List ℕ)) (line : List ℕ) (g : Accumulator)
-    (size count : ℕ) (block : List ℕ)
-    → HasRead format tree a b line g size → count ≡ 0 → 0 < length block
+    (size count : ℕ) (block : List ℕ) {keeps : List ℕ → Type 0}
+    → HasRead format tree a b line g size keeps → count ≡ 0 → 0 < length block
     → Consumes b c (take count block) × (count ≡ 0 → 0 < length block → IsAtEnd c) → IfOk r (IsFragmentOf format tree line g)
-    → IfOk r (IsReadAs format tree a c)
+    → IfOk r (IsReadKeeping format tree a c keeps)
 whole_read (Ok f) format tree a b c line g size count block r none some bytes whole =
     read_whole format tree a b c line g size f r (subst (Consumes b c) (none_taken count block none) bytes.0) (bytes.1 none some) whole
 whole_read (Err e) format tree a b c line g size count block r none some bytes whole = tt
 
+-- a file that was read, whatever is true of its bytes
+pub read_alone : (r : Result Fragment LoadFault) (format : FileFormat) (tree : Tree) (a c : Option (List ℕ)) (keeps : List ℕ → Type 0)
+    → IfOk r (IsReadKeeping format tree a c keeps) → IfOk r (IsReadAs format tree a c)
+read_alone (Ok f) format tree a c keeps read = read.0
+read_alone (Err e) format tree a c keeps read = tt
+
+-- neither a first fault of whole bytes nor lack of memory is a failed read
+pub refused_unread : (format : FileFormat) (tree : Tree) (a c : Option (List ℕ)) (kind : LoadKind) (number : ℕ)
+    → ((kind ≡ OutOfMemory) × (number ≡ 0)) ⊎ IsFileRefused format tree a c kind number → kind ≡ Read → ⊥
+refused_unread format tree a c kind number (inl e) is = let other = e.0 in cc
+refused_unread format tree a c kind number (inr r) is = elim r.first [
+  | inl whole ↦ absurd (subst (λ k. IsFirstFault format tree complete r.known k number) is whole.1).comes
+  | inr any ↦ absurd (subst (λ k. IsFirstFault format tree complete (r.known ++ []) k number) is (any [])).comes
+]
+
 pub end_fault : (r : Result Fragment LoadFault) (format : FileFormat) (tree : Tree) (a b c : Option (List ℕ)) (line : List ℕ) (g : Accumulator) (size count : ℕ)
-    (block : List ℕ) (f f_after : ℕ)
-    → HasRead format tree a b line g size → count ≡ 0 → 0 < length block
+    (block : List ℕ) (f f_after : ℕ) {keeps : List ℕ → Type 0}
+    → HasRead format tree a b line g size keeps → count ≡ 0 → 0 < length block
     → Consumes b c (take count block) × (count ≡ 0 → 0 < length block → IsAtEnd c)
     → IfErr r (λ fault. ((fault.kind ≡ OutOfMemory) × (fault.line ≡ 0))
     ⊎ ((known : List ℕ) → Holds format tree known line g → IsFirstFault format tree complete known fault.kind fault.line))
@@ -250,8 +273,32 @@ end_fault (Err e) format tree a b c line g size count block f f_after r none som
     reports_refused format tree a c f f_after e.kind e.line (refused_at_end format tree a b c line g size e.kind e.line r
     (subst (Consumes b c) (none_taken count block none) bytes.0) (bytes.1 none some) fault)
 
-pub whole_fits : (r : Result Fragment LoadFault) (format : FileFormat) (tree : Tree) (a b : Option (List ℕ)) (line : List ℕ) (g : Accumulator) (size : ℕ)
-    → is_name_prefix format.prefix ≡ true → IsConsistent tree → HasRead format tree a b line g size
+-- nor is the fault at the end of a file
+pub end_unread : (r : Result Fragment LoadFault) (format : FileFormat) (tree : Tree) (a b c : Option (List ℕ)) (line : List ℕ) (g : Accumulator) (size count : ℕ)
+    (block : List ℕ) (P : Type 0) {keeps : List ℕ → Type 0}
+    → HasRead format tree a b line g size keeps → count ≡ 0 → 0 < length block
+    → Consumes b c (take count block) × (count ≡ 0 → 0 < length block → IsAtEnd c)
+    → IfErr r (λ fault. ((fault.kind ≡ OutOfMemory) × (fault.line ≡ 0))
+    ⊎ ((known : List ℕ) → Holds format tree known line g → IsFirstFault format tree complete known fault.kind fault.line))
+    → IfErr r (λ fault. fault.kind ≡ Read → P)
+end_unread (Ok x) format tree a b c line g size count block P r none some bytes fault = tt
+end_unread (Err e) format tree a b c line g size count block P r none some bytes fault = λ is.
+    absurd (refused_unread format tree a c e.kind e.line (refused_at_end format tree a b c line g size e.kind e.line r
+    (subst (Consumes b c) (none_taken count block none) bytes.0) (bytes.1 none some) fault) is)
+
+-- nor is the fault of a block
+pub block_unread : (format : FileFormat) (tree : Tree) (a b : Option (List ℕ)) (line : List ℕ) (g : Accumulator) (size : ℕ) (block : List ℕ) (kind k : LoadKind)
+    (lines : ℕ) (P : Type 0) {keeps : List ℕ → Type 0}
+    → HasRead format tree a b line g size keeps → k ≡ kind
+    → (kind ≡ OutOfMemory) ⊎ ((known rest : List ℕ) → Holds format tree known line g → length known ≡ size
+    → IsFirstFault format tree complete (known ++ (block ++ rest)) kind (lines + 1))
+    → k ≡ Read → P
+block_unread format tree a b line g size block kind k lines P r same (inl e) is = let z : Read ≡ OutOfMemory = sym is ∙ same ∙ e in cc
+block_unread format tree a b line g size block kind k lines P r same (inr first) is =
+    absurd (subst (λ x. IsFirstFault format tree complete (r.known ++ (block ++ [])) x (lines + 1)) (sym same ∙ is) (first r.known [] r.holds r.counted)).comes
+
+pub whole_fits : (r : Result Fragment LoadFault) (format : FileFormat) (tree : Tree) (a b : Option (List ℕ)) (line : List ℕ) (g : Accumulator) (size : ℕ) {keeps : List ℕ → Type 0}
+    → is_name_prefix format.prefix ≡ true → IsConsistent tree → HasRead format tree a b line g size keeps
     → IfOk r (IsFragmentOf format tree line g) → IfOk r (λ f. FitsTree tree f.assigns.items)
 whole_fits (Ok f) format tree a b line g size valid sound read whole =
     let all = whole read.known read.holds in

@@ -26,6 +26,10 @@ pub record IsReadAs (format : FileFormat) (tree : Tree) (before after : Option (
   pub noted : map notice_pair f.notices.items ≡ notices_from 1 meanings
   pub chosen : f.chosen.items ≡ choice_lines_from 1 meanings
 
+-- such a file was read, and `keeps` is true of its bytes
+abbrev pub IsReadKeeping : FileFormat → Tree → (before after : Option (List ℕ)) → (keeps : List ℕ → Type 0) → Fragment → Type 0
+IsReadKeeping format tree before after keeps f = (read : IsReadAs format tree before after f) × keeps read.known
+
 -- the bytes read have a first fault, of this kind and line: either they are the whole configuration file, or the fault is the
 -- first whatever bytes follow; no fault occurs before the last `MAX_CONFIG_BLOCK_BYTES` of the bytes read
 pub record IsFileRefused (format : FileFormat) (tree : Tree) (before after : Option (List ℕ)) (kind : LoadKind) (number : ℕ) : Type 0 where

@@ -1,16 +1,18 @@
 //! Reading a configuration file, a block at a time.
 ghost use Rattle.std.specs.Prelude.{◌≡◌, ◌⊎◌, ◌<◌, ◌≤◌, ℕ, ◌+◌, ◌-◌, List, [], ◌∷◌, ◌++◌, length, true, IfOk, IfErr, OnOk};
 ghost use Rattle.kc_value.specs.Lines.{has_no_byte};
+ghost use Rattle.kc_value.specs.Streams.{one_failure_more};
 ghost use Rattle.kc_dotconfig_model.specs.between.Formats.{file_format};
 ghost use Rattle.kc_dotconfig_model.specs.LoadFaults.{complete, IsFirstFault};
 ghost use Rattle.kc_dotconfig.specs.checker.Accumulation.{fault_line, Holds, GoesOn, StopsIn, AcceptsBytes, Refuses, EndsWell, EndsBadly, IsFragmentOf};
 ghost use Rattle.kc_dotconfig.specs.Fragments.{FitsTree};
-ghost use Rattle.kc_dotconfig.specs.ReadResults.{IsReadAs, ReportsFault};
+ghost use Rattle.kc_dotconfig.specs.ReadResults.{IsReadAs, IsReadKeeping, ReportsFault};
 ghost use Rattle.kc_rules.specs.between.SettledViews.{tree_of_settled};
 
 use super::accumulate::{empty_accumulator, fragment_of, take_line};
 use super::accumulator::Accumulator;
 use super::fragment::Fragment;
+use super::kept_bytes::KeptBytes;
 use super::line_buffer::LineBuffer;
 use bstr::ByteSlice;
 use kc_dotconfig_model::{Format, LoadFault, LoadKind};
@@ -21,11 +23,11 @@ use kc_value::{
 use std::alloc::{AllocError, Global};
 
 /// Takes a piece of a line that has no newline yet; `lines` counts the complete lines before it.
-fn take_piece(cutter: &mut LineBuffer, lines: u32, piece: &[u8]) -> Result<(), LoadKind>
+fn take_piece(buffer: &mut LineBuffer, lines: u32, piece: &[u8]) -> Result<(), LoadKind>
     requires few { lines ≤ MAX_CONFIG_LINES }
     requires one_line { has_no_byte 10 piece.now ≡ true }
-    ensures ok { OnOk result (GoesOn cutter.old cutter.new piece.now lines) }
-    ensures err { IfErr result (λ kind. (kind ≡ LoadKind.OutOfMemory) ⊎ StopsIn cutter.old piece.now lines kind) }
+    ensures ok { OnOk result (GoesOn buffer.old buffer.new piece.now lines) }
+    ensures err { IfErr result (λ kind. (kind ≡ LoadKind.OutOfMemory) ⊎ StopsIn buffer.old piece.now lines kind) }
 {
     if piece.is_empty() {
         return Ok(());
@@ -33,7 +35,7 @@ fn take_piece(cutter: &mut LineBuffer, lines: u32, piece: &[u8]) -> Result<(), L
     if lines == MAX_CONFIG_LINES {
         return Err(LoadKind::TooManyLines);
     }
-    cutter.push(piece)
+    buffer.push(piece)
 }
 
 /// Takes the last piece of a line, before its newline.
@@ -41,28 +43,28 @@ fn take_ended(
     alloc: Global,
     settled: &Settled,
     format: &Format,
-    cutter: &mut LineBuffer,
-    gathered: &mut Accumulator,
+    buffer: &mut LineBuffer,
+    accumulator: &mut Accumulator,
     piece: &[u8],
 ) -> Result<(), LoadKind>
-    requires few { gathered.old.lines ≤ MAX_CONFIG_LINES }
+    requires few { accumulator.old.lines ≤ MAX_CONFIG_LINES }
     requires one_line { has_no_byte 10 piece.now ≡ true }
-    ensures ok { OnOk result (AcceptsBytes (file_format format.now) (tree_of_settled settled.now) cutter.old gathered.old (piece.now ++ 10 ∷ []) cutter.new gathered.new) }
-    ensures err { IfErr result (λ kind. (kind ≡ LoadKind.OutOfMemory) ⊎ Refuses (file_format format.now) (tree_of_settled settled.now) cutter.old gathered.old (piece.now ++ 10 ∷ []) kind gathered.new.lines) }
-    ensures few { gathered.new.lines ≤ MAX_CONFIG_LINES }
+    ensures ok { OnOk result (AcceptsBytes (file_format format.now) (tree_of_settled settled.now) buffer.old accumulator.old (piece.now ++ 10 ∷ []) buffer.new accumulator.new) }
+    ensures err { IfErr result (λ kind. (kind ≡ LoadKind.OutOfMemory) ⊎ Refuses (file_format format.now) (tree_of_settled settled.now) buffer.old accumulator.old (piece.now ++ 10 ∷ []) kind accumulator.new.lines) }
+    ensures few { accumulator.new.lines ≤ MAX_CONFIG_LINES }
 {
-    if gathered.lines == MAX_CONFIG_LINES {
+    if accumulator.lines == MAX_CONFIG_LINES {
         return Err(LoadKind::TooManyLines);
     }
-    if cutter.line().is_empty() {
+    if buffer.line().is_empty() {
         if piece.len() > MAX_LINE_BYTES {
             return Err(LoadKind::LineTooLong);
         }
-        return take_line(alloc, settled, format, gathered, piece);
+        return take_line(alloc, settled, format, accumulator, piece);
     }
-    cutter.push(piece)?;
-    take_line(alloc, settled, format, gathered, cutter.line())?;
-    cutter.clear();
+    buffer.push(piece)?;
+    take_line(alloc, settled, format, accumulator, buffer.line())?;
+    buffer.clear();
     Ok(())
 }
 
@@ -71,21 +73,21 @@ fn take_bytes(
     alloc: Global,
     settled: &Settled,
     format: &Format,
-    cutter: &mut LineBuffer,
-    gathered: &mut Accumulator,
+    buffer: &mut LineBuffer,
+    accumulator: &mut Accumulator,
     bytes: &[u8],
 ) -> Result<(), LoadKind>
-    requires few { gathered.old.lines ≤ MAX_CONFIG_LINES }
-    ensures ok { OnOk result (AcceptsBytes (file_format format.now) (tree_of_settled settled.now) cutter.old gathered.old bytes.now cutter.new gathered.new) }
-    ensures err { IfErr result (λ kind. (kind ≡ LoadKind.OutOfMemory) ⊎ Refuses (file_format format.now) (tree_of_settled settled.now) cutter.old gathered.old bytes.now kind gathered.new.lines) }
-    ensures few { gathered.new.lines ≤ MAX_CONFIG_LINES }
+    requires few { accumulator.old.lines ≤ MAX_CONFIG_LINES }
+    ensures ok { OnOk result (AcceptsBytes (file_format format.now) (tree_of_settled settled.now) buffer.old accumulator.old bytes.now buffer.new accumulator.new) }
+    ensures err { IfErr result (λ kind. (kind ≡ LoadKind.OutOfMemory) ⊎ Refuses (file_format format.now) (tree_of_settled settled.now) buffer.old accumulator.old bytes.now kind accumulator.new.lines) }
+    ensures few { accumulator.new.lines ≤ MAX_CONFIG_LINES }
 {
     let mut rest = bytes;
     while let Some(at) = rest.find_byte(b'\n') {
-        take_ended(alloc, settled, format, cutter, gathered, &rest[..at])?;
+        take_ended(alloc, settled, format, buffer, accumulator, &rest[..at])?;
         rest = &rest[at + 1..];
     }
-    take_piece(cutter, gathered.lines, rest)
+    take_piece(buffer, accumulator.lines, rest)
 }
 
 /// Takes a block, which follows `size` bytes of the file.
@@ -93,24 +95,24 @@ fn take_block(
     alloc: Global,
     settled: &Settled,
     format: &Format,
-    cutter: &mut LineBuffer,
-    gathered: &mut Accumulator,
+    buffer: &mut LineBuffer,
+    accumulator: &mut Accumulator,
     size: usize,
     block: &[u8],
 ) -> Result<(), LoadKind>
-    requires few { gathered.old.lines ≤ MAX_CONFIG_LINES }
+    requires few { accumulator.old.lines ≤ MAX_CONFIG_LINES }
     requires size { size ≤ MAX_CONFIG_BYTES }
-    ensures ok { OnOk result (AcceptsBytes (file_format format.now) (tree_of_settled settled.now) cutter.old gathered.old block.now cutter.new gathered.new) }
+    ensures ok { OnOk result (AcceptsBytes (file_format format.now) (tree_of_settled settled.now) buffer.old accumulator.old block.now buffer.new accumulator.new) }
     ensures room { OnOk result (size + length block.now ≤ MAX_CONFIG_BYTES) }
-    ensures err { IfErr result (λ kind. (kind ≡ LoadKind.OutOfMemory) ⊎ ((known rest : List ℕ) → Holds (file_format format.now) (tree_of_settled settled.now) known cutter.old gathered.old → length known ≡ size → IsFirstFault (file_format format.now) (tree_of_settled settled.now) complete (known ++ (block.now ++ rest)) kind (gathered.new.lines + 1))) }
-    ensures few { gathered.new.lines ≤ MAX_CONFIG_LINES }
+    ensures err { IfErr result (λ kind. (kind ≡ LoadKind.OutOfMemory) ⊎ ((known rest : List ℕ) → Holds (file_format format.now) (tree_of_settled settled.now) known buffer.old accumulator.old → length known ≡ size → IsFirstFault (file_format format.now) (tree_of_settled settled.now) complete (known ++ (block.now ++ rest)) kind (accumulator.new.lines + 1))) }
+    ensures few { accumulator.new.lines ≤ MAX_CONFIG_LINES }
 {
     let room = MAX_CONFIG_BYTES - size;
     if block.len() > room {
-        take_bytes(alloc, settled, format, cutter, gathered, &block[..room])?;
+        take_bytes(alloc, settled, format, buffer, accumulator, &block[..room])?;
         return Err(LoadKind::TooLarge);
     }
-    take_bytes(alloc, settled, format, cutter, gathered, block)
+    take_bytes(alloc, settled, format, buffer, accumulator, block)
 }
 
 /// Takes the last line at the end of the file, if it has no newline.
@@ -118,18 +120,18 @@ fn take_end(
     alloc: Global,
     settled: &Settled,
     format: &Format,
-    cutter: &LineBuffer,
-    gathered: &mut Accumulator,
+    buffer: &LineBuffer,
+    accumulator: &mut Accumulator,
 ) -> Result<(), LoadKind>
-    requires room { (cutter.now ≡ []) ⊎ (gathered.old.lines < MAX_CONFIG_LINES) }
-    ensures ok { OnOk result (EndsWell (file_format format.now) (tree_of_settled settled.now) cutter.now gathered.old gathered.new) }
-    ensures err { IfErr result (λ kind. (kind ≡ LoadKind.OutOfMemory) ⊎ EndsBadly (file_format format.now) (tree_of_settled settled.now) cutter.now gathered.old kind gathered.new.lines) }
-    ensures few { gathered.old.lines ≤ MAX_CONFIG_LINES → gathered.new.lines ≤ MAX_CONFIG_LINES }
+    requires room { (buffer.now ≡ []) ⊎ (accumulator.old.lines < MAX_CONFIG_LINES) }
+    ensures ok { OnOk result (EndsWell (file_format format.now) (tree_of_settled settled.now) buffer.now accumulator.old accumulator.new) }
+    ensures err { IfErr result (λ kind. (kind ≡ LoadKind.OutOfMemory) ⊎ EndsBadly (file_format format.now) (tree_of_settled settled.now) buffer.now accumulator.old kind accumulator.new.lines) }
+    ensures few { accumulator.old.lines ≤ MAX_CONFIG_LINES → accumulator.new.lines ≤ MAX_CONFIG_LINES }
 {
-    if cutter.line().is_empty() {
+    if buffer.line().is_empty() {
         return Ok(());
     }
-    take_line(alloc, settled, format, gathered, cutter.line())
+    take_line(alloc, settled, format, accumulator, buffer.line())
 }
 
 /// A fault on the line after the complete ones; out of memory is of no line, and has the line 0.
@@ -145,24 +147,24 @@ fn fault_on_next_line(lines: u32, kind: LoadKind) -> LoadFault
     LoadFault { line, kind }
 }
 
-/// The assignment and the notices of a file that ends after the incomplete line in `cutter`.
+/// The assignment and the notices of a file that ends after the incomplete line in `buffer`.
 fn finish(
     alloc: Global,
     settled: &Settled,
     format: &Format,
-    cutter: &LineBuffer,
-    mut gathered: Accumulator,
+    buffer: &LineBuffer,
+    mut accumulator: Accumulator,
 ) -> Result<Fragment, LoadFault>
-    requires few { gathered.lines ≤ MAX_CONFIG_LINES }
-    requires room { (cutter.now ≡ []) ⊎ (gathered.lines < MAX_CONFIG_LINES) }
-    ensures ok { IfOk result (λ f. IsFragmentOf (file_format format.now) (tree_of_settled settled.now) cutter.now gathered f) }
-    ensures err { IfErr result (λ fault. ((fault.kind ≡ LoadKind.OutOfMemory) × (fault.line ≡ 0)) ⊎ ((known : List ℕ) → Holds (file_format format.now) (tree_of_settled settled.now) known cutter.now gathered → IsFirstFault (file_format format.now) (tree_of_settled settled.now) complete known fault.kind fault.line)) }
+    requires few { accumulator.lines ≤ MAX_CONFIG_LINES }
+    requires room { (buffer.now ≡ []) ⊎ (accumulator.lines < MAX_CONFIG_LINES) }
+    ensures ok { IfOk result (λ f. IsFragmentOf (file_format format.now) (tree_of_settled settled.now) buffer.now accumulator f) }
+    ensures err { IfErr result (λ fault. ((fault.kind ≡ LoadKind.OutOfMemory) × (fault.line ≡ 0)) ⊎ ((known : List ℕ) → Holds (file_format format.now) (tree_of_settled settled.now) known buffer.now accumulator → IsFirstFault (file_format format.now) (tree_of_settled settled.now) complete known fault.kind fault.line)) }
 {
-    if let Err(kind) = take_end(alloc, settled, format, cutter, &mut gathered) {
-        return Err(fault_on_next_line(gathered.lines, kind));
+    if let Err(kind) = take_end(alloc, settled, format, buffer, &mut accumulator) {
+        return Err(fault_on_next_line(accumulator.lines, kind));
     }
-    let lines = gathered.lines;
-    match fragment_of(alloc, gathered) {
+    let lines = accumulator.lines;
+    match fragment_of(alloc, accumulator) {
         Ok(fragment) => Ok(fragment),
         Err(AllocError) => Err(fault_on_next_line(lines, LoadKind::OutOfMemory)),
     }
@@ -177,43 +179,51 @@ fn finish(
 /// that begins with the bytes read is accepted, unless the fault came with the end of the file or with a failed read.
 /// `OutOfMemory` has the line 0, and says nothing about the file. After a fault the position of the reader isn't specified. At
 /// most one read fails.
-pub fn read_config<R: Source>(
+///
+/// `kept`, if it was empty, has the bytes of an accepted file afterwards; `&mut ()` keeps none.
+pub fn read_config<R: Source, K: KeptBytes>(
     alloc: Global,
     settled: &Settled,
     format: &Format,
     source: &mut R,
+    kept: &mut K,
 ) -> Result<Fragment, LoadFault>
     ensures ok { IfOk result (IsReadAs (file_format format.now) (tree_of_settled settled.now) (R.left source.old) (R.left source.new)) }
+    ensures kept { IfOk result (IsReadKeeping (file_format format.now) (tree_of_settled settled.now) (R.left source.old) (R.left source.new) (λ bytes. K.has kept.old [] → K.has kept.new bytes)) }
     ensures fits { IfOk result (λ f. FitsTree (tree_of_settled settled.now) f.assigns.items) }
     ensures unfailed { OnOk result (R.failures source.new ≡ R.failures source.old) }
     ensures fault { IfErr result (λ fault. ReportsFault (file_format format.now) (tree_of_settled settled.now) (R.left source.old) (R.left source.new) (R.failures source.old) (R.failures source.new) fault.kind fault.line) }
     ensures failed { IfErr result (λ fault. (fault.kind ≡ LoadKind.Read) ⊎ (R.failures source.new ≡ R.failures source.old)) }
+    ensures counted { IfErr result (λ fault. fault.kind ≡ LoadKind.Read → R.failures source.new ≡ one_failure_more (R.failures source.old)) }
     ensures once { R.failures source.new ≤ R.failures source.old + 1 }
 {
     let _ = settled.tree();
-    let mut cutter = LineBuffer::new(alloc);
-    let mut gathered = empty_accumulator(alloc);
+    let mut buffer = LineBuffer::new(alloc);
+    let mut accumulator = empty_accumulator(alloc);
     let mut size = 0;
     let mut block = [0; MAX_CONFIG_BLOCK_BYTES];
     while size <= MAX_CONFIG_BYTES {
         let Ok(count) = source.read_some(&mut block) else {
-            return Err(fault_on_next_line(gathered.lines, LoadKind::Read));
+            return Err(fault_on_next_line(accumulator.lines, LoadKind::Read));
         };
         if count == 0 {
-            return finish(alloc, settled, format, &cutter, gathered);
+            return finish(alloc, settled, format, &buffer, accumulator);
         }
         if let Err(kind) = take_block(
             alloc,
             settled,
             format,
-            &mut cutter,
-            &mut gathered,
+            &mut buffer,
+            &mut accumulator,
             size,
             &block[..count],
         ) {
-            return Err(fault_on_next_line(gathered.lines, kind));
+            return Err(fault_on_next_line(accumulator.lines, kind));
+        }
+        if let Err(AllocError) = kept.keep(&block[..count]) {
+            return Err(fault_on_next_line(accumulator.lines, LoadKind::OutOfMemory));
         }
         size += count;
     }
-    Err(fault_on_next_line(gathered.lines, LoadKind::TooLarge))
+    Err(fault_on_next_line(accumulator.lines, LoadKind::TooLarge))
 }

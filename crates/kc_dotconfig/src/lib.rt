@@ -7,6 +7,7 @@ mod assigned_values;
 mod fragment;
 mod fragment_reader;
 mod gathered_lines;
+mod kept_bytes;
 mod line_buffer;
 mod maps;
 mod meanings;
@@ -17,5 +18,6 @@ pub use gathered_lines::last_lines;
 pub use kc_dotconfig_model::{
     ChoiceLine, Format, LoadFault, LoadKind, Notice, NoticeKind, Prefix, Strings,
 };
+pub use kept_bytes::KeptBytes;
 pub use maps::{add_item, put};
 pub use meanings::{Meaning, read_line};

@@ -33,7 +33,7 @@ pub use Rattle.kc_expr.specs.Grammar.{is_operand_kind}
 pub use Rattle.kc_files.proofs.ProgramLemmas.{grouped, nothing_after, same_rest}
 pub use Rattle.kc_files.proofs.StoreLemmas.{grows_same, stays_same}
 pub use Rattle.kc_files.specs.TextViews.{items_of, texts_of}
-pub use Rattle.kc_files.specs.TreeContents.{FileContent, FolderContent, HasRisen, IsContentRead, IsFolderRead, IsWholeWorldOf, IsWorldOf, StaysKnown, TreeContents}
+pub use Rattle.kc_files.specs.TreeContents.{FolderContent, HasRisen, IsContentRead, IsFolderRead, IsWholeWorldOf, IsWorldOf, StaysKnown, TreeContents}
 pub use Rattle.kc_files.specs.between.KnownFiles.{Agrees, AreAsKnown, AreBytes, FileRead, Grows, KnownFiles, missing, too_long, unreadable, whole}
 pub use Rattle.kc_files.specs.checker.FileViews.{file_of, known_of}
 pub use Rattle.kc_lines.specs.between.LinePlaces.{IsLogicalAt}
@@ -86,4 +86,5 @@ pub use Rattle.kc_tree_model.specs.declared.fault.TreeKind.{TreeKind}
 pub use Rattle.kc_tree_model.specs.declared.fault.TreeKind.TheVariants.{SourceLoop, TooDeep, TooMany}
 pub use Rattle.kc_tree_model.specs.declared.keyword.Block.{Block}
 pub use Rattle.kc_tree_model.specs.declared.keyword.Keyword.{Keyword}
+pub use Rattle.kc_value.specs.FileContents.{FileContent}
 pub use Rattle.kc_value.specs.declared.limits.TheConstants.{MAX_FILES, MAX_LINE_BYTES, MAX_OPEN_FILES, MAX_TEXT_BYTES, MAX_TREE_BYTES, MAX_WORK}

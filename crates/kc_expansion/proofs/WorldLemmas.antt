@@ -3,6 +3,7 @@ use Rattle.kc_expansion.proofs.Common.{◌≡◌, ℕ, suc, ◌<◌, List, [], �
 use Rattle.kc_expansion.proofs.Common.{without_repeats, RecordedAnswers, MAX_TREE_BYTES, World, with_questions, HasAnswers, FileContent, FolderContent, TreeContents, IsContentRead, IsFolderRead, HasRisen, IsWorldOf, IsWholeWorldOf, FileRead, missing, unreadable, whole, too_long, KnownFiles}
 use Rattle.kc_expansion.proofs.Common.{AreBytes, Agrees, AreAsKnown}
 use Rattle.std.proofs.lemmas.List.{length-replicate}
+use Rattle.kc_value.specs.FileContents.{unknown, absent, known}
 use Rattle.kc_value.specs.declared.limits.TheConstants.{MAX_LISTED_NAMES}
 use Rattle.kc_files.specs.TreeContents.{IsContent, IsFolder}
 use Rattle.kc_files.specs.between.KnownFiles.{FolderRead, names, too_many, unlisted, IsUnreadable, AreNames, MatchFile, MatchFolder}
@@ -18,11 +19,12 @@ pub bytes_of : FileContent → Option FileRead → Option (List ℕ)
 bytes_of content (Some missing) = None
 bytes_of content (Some unreadable) = None
 bytes_of content (Some (whole bytes)) = Some bytes
-bytes_of (Some (Some known)) (Some too_long) = Some known
-bytes_of (Some None) (Some too_long) = None
-bytes_of None (Some too_long) = Some (longer 0 MAX_TREE_BYTES).0
-bytes_of (Some known) None = known
-bytes_of None None = None
+bytes_of (known all) (Some too_long) = Some all
+bytes_of absent (Some too_long) = None
+bytes_of unknown (Some too_long) = Some (longer 0 MAX_TREE_BYTES).0
+bytes_of (known all) None = Some all
+bytes_of absent None = None
+bytes_of unknown None = None
 
 -- whether the file of a path is there and can't be read, by the result of reading it, if it was read
 pub unread_of : Option FileRead → Bool
@@ -32,16 +34,16 @@ unread_of x = false
 pub names_of : FolderContent → Option FolderRead → Option (List (List ℕ))
 names_of content (Some (names read)) = Some read
 names_of content (Some unlisted) = None
-names_of (Some known) (Some too_many) = Some known
+names_of (Some all) (Some too_many) = Some all
 names_of None (Some too_many) = Some (longer {A = List ℕ} [] MAX_LISTED_NAMES).0
-names_of (Some known) None = Some known
+names_of (Some all) None = Some all
 names_of None None = Some []
 
 bytes_agree : (content : FileContent) (a b : ℕ) (read : FileRead) → MatchFile content a b read → AreBytes read (bytes_of content (Some read))
 unfolding bytes_of
-bytes_agree (Some (Some known)) a b too_long m = (known, refl, m)
-bytes_agree (Some None) a b too_long m = absurd (let z : ⊥ = cc in z)
-bytes_agree None a b too_long m = ((longer 0 MAX_TREE_BYTES).0, refl, (longer 0 MAX_TREE_BYTES).1)
+bytes_agree (known all) a b too_long m = (all, refl, m)
+bytes_agree absent a b too_long m = absurd (let z : ⊥ = cc in z)
+bytes_agree unknown a b too_long m = ((longer 0 MAX_TREE_BYTES).0, refl, (longer 0 MAX_TREE_BYTES).1)
 bytes_agree content a b x m = refl
 
 unread_agrees : (read : FileRead) → IsUnreadable read (unread_of (Some read))
@@ -53,69 +55,69 @@ unread_agrees read = tt
 bytes_allowed : (content : FileContent) (a b : ℕ) (read : Option FileRead) → ((r : FileRead) → read ≡ Some r → MatchFile content a b r)
     → IsContentRead content (bytes_of content read) (unread_of read)
 unfolding bytes_of unread_of
-bytes_allowed None a b read m = tt
-bytes_allowed (Some None) a b None m = (refl, refl)
-bytes_allowed (Some None) a b (Some missing) m = (refl, refl)
-bytes_allowed (Some None) a b (Some unreadable) m = absurd (let e : unreadable ≡ missing = m unreadable refl in let z : ⊥ = cc in z)
-bytes_allowed (Some None) a b (Some (whole bytes)) m = absurd (let e : whole bytes ≡ missing = m (whole bytes) refl in let z : ⊥ = cc in z)
-bytes_allowed (Some None) a b (Some too_long) m = (refl, refl)
-bytes_allowed (Some (Some known)) a b None m = inl refl
-bytes_allowed (Some (Some known)) a b (Some missing) m = absurd (m missing refl)
-bytes_allowed (Some (Some known)) a b (Some unreadable) m = inr (refl, refl)
-bytes_allowed (Some (Some known)) a b (Some (whole bytes)) m = inl (ap Some (m (whole bytes) refl))
-bytes_allowed (Some (Some known)) a b (Some too_long) m = inl refl
+bytes_allowed unknown a b read m = tt
+bytes_allowed absent a b None m = (refl, refl)
+bytes_allowed absent a b (Some missing) m = (refl, refl)
+bytes_allowed absent a b (Some unreadable) m = absurd (let e : unreadable ≡ missing = m unreadable refl in let z : ⊥ = cc in z)
+bytes_allowed absent a b (Some (whole bytes)) m = absurd (let e : whole bytes ≡ missing = m (whole bytes) refl in let z : ⊥ = cc in z)
+bytes_allowed absent a b (Some too_long) m = (refl, refl)
+bytes_allowed (known all) a b None m = inl refl
+bytes_allowed (known all) a b (Some missing) m = absurd (m missing refl)
+bytes_allowed (known all) a b (Some unreadable) m = inr (refl, refl)
+bytes_allowed (known all) a b (Some (whole bytes)) m = inl (ap Some (m (whole bytes) refl))
+bytes_allowed (known all) a b (Some too_long) m = inl refl
 
 names_agree : (content : FolderContent) (a b : ℕ) (read : FolderRead) → MatchFolder content a b read → AreNames read (names_of content (Some read))
 unfolding names_of
 names_agree content a b (names ns) m = refl
 names_agree content a b unlisted m = refl
-names_agree (Some known) a b too_many m = (known, refl, m)
+names_agree (Some all) a b too_many m = (all, refl, m)
 names_agree None a b too_many m = ((longer {A = List ℕ} [] MAX_LISTED_NAMES).0, refl, (longer {A = List ℕ} [] MAX_LISTED_NAMES).1)
 
 names_allowed : (content : FolderContent) (a b : ℕ) (read : Option FolderRead) → ((r : FolderRead) → read ≡ Some r → MatchFolder content a b r)
     → IsFolderRead content (names_of content read)
 unfolding names_of
 names_allowed None a b read m = tt
-names_allowed (Some known) a b None m = inl refl
-names_allowed (Some known) a b (Some (names ns)) m = inl (ap Some (m (names ns) refl))
-names_allowed (Some known) a b (Some too_many) m = inl refl
-names_allowed (Some known) a b (Some unlisted) m = inr refl
+names_allowed (Some all) a b None m = inl refl
+names_allowed (Some all) a b (Some (names ns)) m = inl (ap Some (m (names ns) refl))
+names_allowed (Some all) a b (Some too_many) m = inl refl
+names_allowed (Some all) a b (Some unlisted) m = inr refl
 
 -- where the count of failures didn't rise, each known file has its bytes, and each known folder its names
 bytes_whole : (content : FileContent) (a b : ℕ) (read : Option FileRead) → (HasRisen a b → ⊥) → ((r : FileRead) → read ≡ Some r → MatchFile content a b r)
     → IsContent content (bytes_of content read) (unread_of read)
 unfolding bytes_of unread_of
-bytes_whole None a b read n m = tt
-bytes_whole (Some None) a b None n m = (refl, refl)
-bytes_whole (Some None) a b (Some missing) n m = (refl, refl)
-bytes_whole (Some None) a b (Some unreadable) n m = absurd (let e : unreadable ≡ missing = m unreadable refl in let z : ⊥ = cc in z)
-bytes_whole (Some None) a b (Some (whole bytes)) n m = absurd (let e : whole bytes ≡ missing = m (whole bytes) refl in let z : ⊥ = cc in z)
-bytes_whole (Some None) a b (Some too_long) n m = (refl, refl)
-bytes_whole (Some (Some known)) a b None n m = (refl, refl)
-bytes_whole (Some (Some known)) a b (Some missing) n m = absurd (m missing refl)
-bytes_whole (Some (Some known)) a b (Some unreadable) n m = absurd (n (m unreadable refl))
-bytes_whole (Some (Some known)) a b (Some (whole bytes)) n m = (ap Some (m (whole bytes) refl), refl)
-bytes_whole (Some (Some known)) a b (Some too_long) n m = (refl, refl)
+bytes_whole unknown a b read n m = tt
+bytes_whole absent a b None n m = (refl, refl)
+bytes_whole absent a b (Some missing) n m = (refl, refl)
+bytes_whole absent a b (Some unreadable) n m = absurd (let e : unreadable ≡ missing = m unreadable refl in let z : ⊥ = cc in z)
+bytes_whole absent a b (Some (whole bytes)) n m = absurd (let e : whole bytes ≡ missing = m (whole bytes) refl in let z : ⊥ = cc in z)
+bytes_whole absent a b (Some too_long) n m = (refl, refl)
+bytes_whole (known all) a b None n m = (refl, refl)
+bytes_whole (known all) a b (Some missing) n m = absurd (m missing refl)
+bytes_whole (known all) a b (Some unreadable) n m = absurd (n (m unreadable refl))
+bytes_whole (known all) a b (Some (whole bytes)) n m = (ap Some (m (whole bytes) refl), refl)
+bytes_whole (known all) a b (Some too_long) n m = (refl, refl)
 
 names_whole : (content : FolderContent) (a b : ℕ) (read : Option FolderRead) → (HasRisen a b → ⊥)
     → ((r : FolderRead) → read ≡ Some r → MatchFolder content a b r) → IsFolder content (names_of content read)
 unfolding names_of
 names_whole None a b read n m = tt
-names_whole (Some known) a b None n m = refl
-names_whole (Some known) a b (Some (names ns)) n m = ap Some (m (names ns) refl)
-names_whole (Some known) a b (Some too_many) n m = refl
-names_whole (Some known) a b (Some unlisted) n m = absurd (n (m unlisted refl))
+names_whole (Some all) a b None n m = refl
+names_whole (Some all) a b (Some (names ns)) n m = ap Some (m (names ns) refl)
+names_whole (Some all) a b (Some too_many) n m = refl
+names_whole (Some all) a b (Some unlisted) n m = absurd (n (m unlisted refl))
 
-module _ (contents : TreeContents) (failed : ℕ) (known : KnownFiles) (answers : RecordedAnswers) (m : AreAsKnown contents failed known) where
+module _ (contents : TreeContents) (failed : ℕ) (store : KnownFiles) (answers : RecordedAnswers) (m : AreAsKnown contents failed store) where
   abbrev pub world_of : World
   world_of = record {
     answer = keyword_in_table answers;
-    bytes = λ path. bytes_of (contents.file path) (keyword_in_table known.files path);
-    unreadable = λ path. unread_of (keyword_in_table known.files path);
-    names = λ folder. names_of (contents.folder folder) (keyword_in_table known.folders folder);
+    bytes = λ path. bytes_of (contents.file path) (keyword_in_table store.files path);
+    unreadable = λ path. unread_of (keyword_in_table store.files path);
+    names = λ folder. names_of (contents.folder folder) (keyword_in_table store.folders folder);
   }
 
-  pub world_agrees : Agrees world_of known
+  pub world_agrees : Agrees world_of store
   world_agrees = record {
     files = λ path read e. let f : AreBytes read (bytes_of (contents.file path) (Some read)) = bytes_agree (contents.file path) failed contents.failures read (m.files path read e) in
         subst (λ (o : Option FileRead). AreBytes read (bytes_of (contents.file path) o)) (sym e) f;
@@ -128,14 +130,14 @@ module _ (contents : TreeContents) (failed : ℕ) (known : KnownFiles) (answers 
 
   pub world_allowed : IsWorldOf contents world_of
   world_allowed = record {
-    files = λ path. bytes_allowed (contents.file path) failed contents.failures (keyword_in_table known.files path) (m.files path);
-    folders = λ folder. names_allowed (contents.folder folder) failed contents.failures (keyword_in_table known.folders folder) (m.folders folder);
+    files = λ path. bytes_allowed (contents.file path) failed contents.failures (keyword_in_table store.files path) (m.files path);
+    folders = λ folder. names_allowed (contents.folder folder) failed contents.failures (keyword_in_table store.folders folder) (m.folders folder);
   }
 
   pub world_whole : (HasRisen failed contents.failures → ⊥) → IsWholeWorldOf contents world_of
   world_whole n = record {
-    files = λ path. bytes_whole (contents.file path) failed contents.failures (keyword_in_table known.files path) n (m.files path);
-    folders = λ folder. names_whole (contents.folder folder) failed contents.failures (keyword_in_table known.folders folder) n (m.folders folder);
+    files = λ path. bytes_whole (contents.file path) failed contents.failures (keyword_in_table store.files path) n (m.files path);
+    folders = λ folder. names_whole (contents.folder folder) failed contents.failures (keyword_in_table store.folders folder) n (m.folders folder);
   }
 
   pub world_answers : HasAnswers world_of answers

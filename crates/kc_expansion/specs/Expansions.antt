@@ -1,6 +1,7 @@
 -- The expansion of a tree, and the questions that it asks, in a world of known files.
 use Rattle.std.specs.Prelude.{◌≡◌, ◌≢◌, ℕ, false, List, Vec, Option, Some, None, Result, Ok, Err}
 use Rattle.std.specs.declared.alloc.Global.{Global}
+use Rattle.kc_value.specs.FileContents.{FileContent, unknown, absent, known}
 use Rattle.kc_tree_model.specs.Keywords.{keyword_in_table}
 use Rattle.kc_macros_model.specs.AnswerFiles.{RecordedAnswers}
 use Rattle.kc_macros_model.specs.Programs.{Fault, Notice}
@@ -9,7 +10,7 @@ use Rattle.kc_macros_model.specs.Worlds.{World, Ending, returned, failed, expans
 use Rattle.kc_macros.specs.declared.stop.MacroFault.{MacroFault}
 use Rattle.kc_macros.specs.Runs.{HasAnswers, fault_of}
 use Rattle.kc_files.specs.TextViews.{texts_of}
-use Rattle.kc_files.specs.TreeContents.{FileContent, TreeContents, HasRisen, IsWorldOf, IsWholeWorldOf}
+use Rattle.kc_files.specs.TreeContents.{TreeContents, HasRisen, IsWorldOf, IsWholeWorldOf}
 
 -- what an expansion by the code ends with: the expanded files, or the fault as one of `kc_macros_model`
 abbrev pub tree_of : Result (List ExpandedFile) MacroFault → Result (List ExpandedFile) Fault
@@ -28,8 +29,9 @@ ending_of (Err fault) = failed fault
 
 -- the bytes that a file is known to have: none where there is no such file, or nothing is known of it
 abbrev pub known_bytes : FileContent → Option (List ℕ)
-known_bytes None = None
-known_bytes (Some bytes) = bytes
+known_bytes unknown = None
+known_bytes absent = None
+known_bytes (known bytes) = Some bytes
 
 -- the world in which each file and each folder of a tree is as it is known, and that has just these answers
 abbrev pub known_world : TreeContents → RecordedAnswers → World
@@ -83,5 +85,5 @@ AreCountedUnused contents counted counted_after answers root answered questions 
 -- notices: what can't be read is a fault, and is never passed over.
 abbrev pub KnownFilesDetermineTheExpansion : Type 0
 KnownFilesDetermineTheExpansion = (contents : TreeContents) (answers : RecordedAnswers) (root : List ℕ) (notices : List Notice) (files : List ExpandedFile)
-    → ((path : List ℕ) → contents.file path ≢ None) → ((folder : List ℕ) → contents.folder folder ≢ None) → IsExpansion contents answers root notices (Ok files)
+    → ((path : List ℕ) → contents.file path ≢ unknown) → ((folder : List ℕ) → contents.folder folder ≢ None) → IsExpansion contents answers root notices (Ok files)
     → ((expansion (known_world contents answers) root).ending ≡ returned files) × ((expansion (known_world contents answers) root).notices ≡ notices)

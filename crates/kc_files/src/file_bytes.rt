@@ -1,12 +1,13 @@
 //! The bytes of a file, as far as they are read.
 ghost use Rattle.std.specs.Prelude.{◌≡◌, ◌⊎◌, ◌≤◌, IfOk, IfNone, IfSome, length};
 ghost use Rattle.std.specs.Io.KnownBytes.{Consumes, IsAtEnd};
-ghost use Rattle.kc_files.specs.between.KnownFiles.{MatchFile, content_of_reader};
+ghost use Rattle.kc_value.specs.FileContents.{content_of_reader};
+ghost use Rattle.kc_files.specs.between.KnownFiles.{MatchFile};
 ghost use Rattle.kc_files.specs.checker.FileViews.{file_of};
 ghost use Rattle.kc_files.specs.TreeContents.{HasRisen, StaysKnown};
 
 use super::files::{FileStop, TreeFiles};
-use kc_value::{MAX_BLOCK_BYTES, MAX_FILE_BYTES, Source};
+use kc_value::{MAX_BLOCK_BYTES, MAX_FILE_BYTES, ReadBytes, ReadEnd, Source, read_up_to};
 use std::alloc::{AllocError, Global};
 use std::rc::Rc;
 
@@ -19,9 +20,9 @@ pub enum FileRead {
     TooLong,
 }
 
-/// All bytes of a reader, or the first `MAX_FILE_BYTES` of more; nothing where a read fails. Room is made for `room` bytes at
-/// once, and `block` is read into, one for all files of a tree, since to clear it anew takes an instruction for each of its bytes.
-fn read_front<S: Source>(
+/// All bytes of a reader, or the first `MAX_FILE_BYTES` of more; `None` where a read fails. Room is made for `room` bytes at once,
+/// and `block` is read into, which may serve for many files, since to clear it anew takes an instruction for each of its bytes.
+pub fn read_front<S: Source>(
     alloc: Global,
     source: &mut S,
     room: usize,
@@ -30,18 +31,11 @@ fn read_front<S: Source>(
     ensures bytes { IfOk result (λ found. IfSome found (λ bytes. Consumes (S.left source.old) (S.left source.new) bytes.items × (length bytes.items ≤ MAX_FILE_BYTES) × ((length bytes.items ≡ MAX_FILE_BYTES) ⊎ IsAtEnd (S.left source.new)))) }
     ensures failed { IfOk result (λ found. IfNone found (HasRisen (S.failures source.old) (S.failures source.new))) }
 {
-    let mut bytes = Vec::with_capacity(alloc, room)?;
-    while bytes.len() < MAX_FILE_BYTES {
-        let most = (MAX_FILE_BYTES - bytes.len()).min(MAX_BLOCK_BYTES);
-        let Ok(count) = source.read_some(&mut block[..most]) else {
-            return Ok(None);
-        };
-        if count == 0 {
-            return Ok(Some(bytes));
-        }
-        bytes.extend_from_slice(&block[..count])?;
+    let ReadBytes { bytes, end } = read_up_to(alloc, source, MAX_FILE_BYTES, room, block)?;
+    match end {
+        ReadEnd::AtEnd | ReadEnd::AtLimit => Ok(Some(bytes)),
+        ReadEnd::AtFailure => Ok(None),
     }
-    Ok(Some(bytes))
 }
 
 /// The result of reading the file of a reader; where a read fails, the file is unreadable.

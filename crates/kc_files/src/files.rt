@@ -1,8 +1,9 @@
 //! The files and folders of a tree.
-ghost use Rattle.std.specs.Prelude.{◌≡◌, ◌≢◌, ◌<◌, IfOk, IfErr, IfSome, None, Some, option_map};
+ghost use Rattle.std.specs.Prelude.{◌≡◌, ◌≢◌, ◌<◌, IfOk, IfErr, IfSome, option_map};
 ghost use Rattle.kc_files.specs.TextViews.{texts_of};
 ghost use Rattle.kc_files.specs.declared.files.FileStop.TheVariants.{Failed};
-ghost use Rattle.kc_files.specs.TreeContents.{TreeContents, StaysKnown, HasRisen, OpensAs, ListsAs};
+ghost use Rattle.kc_value.specs.FileContents.{OpensAs, absent};
+ghost use Rattle.kc_files.specs.TreeContents.{TreeContents, StaysKnown, HasRisen, ListsAs};
 
 use kc_value::{Seed, Source};
 use std::alloc::{AllocError, Global};
@@ -45,7 +46,7 @@ pub trait TreeFiles {
         ensures same { StaysKnown (contents self.old) (contents self.new) }
         ensures opens { IfOk result (λ reader. OpensAs ((contents self.old).file path.now) (option_map Self.File.Source.left reader)) }
         ensures unread { IfOk result (λ reader. IfSome reader (λ file. Self.File.Source.failures file ≡ 0)) }
-        ensures there { IfErr result (λ stop. stop ≡ Failed → (contents self.old).file path.now ≢ Some None) }
+        ensures there { IfErr result (λ stop. stop ≡ Failed → (contents self.old).file path.now ≢ absent) }
         ensures failed { IfErr result (λ stop. stop ≡ Failed → HasRisen (contents self.old).failures (contents self.new).failures) };
 
     /// Closes a file, and counts its reads that failed.

@@ -15,7 +15,7 @@ mod patterns;
 
 pub use expanded_files::ExpandedFiles;
 pub use expanded_tree::{ExpandedText, ExpandedTree};
-pub use file_bytes::FileRead;
+pub use file_bytes::{FileRead, read_front};
 pub use file_cache::FileCache;
 pub use files::{FileStop, TreeFiles};
 pub use name_matches::is_utf8;

@@ -66,7 +66,7 @@ pub fn minimise<R: Source, W: Sink>(
     ensures one_write { W.failures sink.new ≤ W.failures sink.old + 1 }
     ensures fault { IfErr result (FailsWith (file_format format.now) (profile_of settled.now) (tree_of_settled settled.now) (R.left source.old) (R.left source.new) (R.failures source.old) (R.failures source.new) (W.taken sink.old) (W.taken sink.new) (W.failures sink.old) (W.failures sink.new)) }
 {
-    let fragment = match read_config(alloc, settled, format, source) {
+    let fragment = match read_config(alloc, settled, format, source, &mut ()) {
         Ok(fragment) => fragment,
         Err(fault) => return Err(RunFault::Load(fault)),
     };

@@ -5,6 +5,7 @@ pub mod Digits
 pub mod EscapedBytes
 pub mod EscapeSteps
 pub mod HexLaws
+pub mod KnownContents
 pub mod NameHashSteps
 pub mod NumberLaws
 pub mod NumberSpelling

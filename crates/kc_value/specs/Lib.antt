@@ -1,4 +1,5 @@
 pub mod ByteSearch
+pub mod FileContents
 pub mod Kinds
 pub mod Lines
 pub mod NameHash

@@ -27,13 +27,14 @@ pub struct ReadBytes {
     pub end: ReadEnd,
 }
 
-/// Reads the bytes that a reader has left, up to `limit` in all and 8,192 at once, into memory of `room` bytes at first. Ends at
+/// Reads the bytes that a reader has left, up to `limit` in all, into memory of `room` bytes at first, by way of `block`. Ends at
 /// the first read that fails. An `Err` means out of memory, and leaves the reader at an unstated place.
 pub fn read_up_to<S: Source>(
     alloc: Global,
     source: &mut S,
     limit: usize,
     room: usize,
+    block: &mut [u8; MAX_BLOCK_BYTES],
 ) -> Result<ReadBytes, AllocError>
     ensures bytes { IfOk result (λ read. Consumes (S.left source.old) (S.left source.new) read.bytes.items) }
     ensures within { IfOk result (λ read. length read.bytes.items ≤ limit) }
@@ -44,7 +45,6 @@ pub fn read_up_to<S: Source>(
     ensures unfailed { OnErr result (S.failures source.new ≡ S.failures source.old) }
 {
     let mut bytes = Vec::with_capacity(alloc, room)?;
-    let mut block = [0; MAX_BLOCK_BYTES];
     while bytes.len() < limit {
         let most = (limit - bytes.len()).min(MAX_BLOCK_BYTES);
         let Ok(count) = source.read_some(&mut block[..most]) else {

@@ -1,5 +1,6 @@
 //! The files of the system.
 ghost use Rattle.std.specs.Prelude.{◌≡◌, ◌-◌, ◌^◌, min, None};
+ghost use Rattle.kc_value.specs.FileContents.{unknown};
 
 use kc_value::{Failed, Seed};
 use kmin_disk::{ReadDisk, SystemDisk, SystemFile, says_absent};
@@ -88,7 +89,7 @@ fn names_listed(
 impl<'a> Files for SystemFiles<'a> {
     type File = SystemFile;
 
-    ghost surroundings = { λ _. record { content = λ _. None; regular = λ _. None; names = λ _. None; variable = λ _. None } };
+    ghost surroundings = { λ _. record { content = λ _. unknown; regular = λ _. unknown; names = λ _. None; variable = λ _. None } };
 
     // the disk's own count, which doesn't pass this limit either
     ghost failures = { λ files. min (⟦<SystemDisk<'a> as ReadDisk>⟧.disk files.disk).failures (2 ^ 64 - 1) };

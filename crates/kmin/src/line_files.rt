@@ -1,7 +1,7 @@
 //! The files that messages are about, as they are on the system.
 ghost use Rattle.kmin_texts.specs.KnownLines.{nothing_known};
 
-use kc_value::{FromRead, MAX_FILE_BYTES, ReadEnd, read_up_to};
+use kc_value::{FromRead, MAX_BLOCK_BYTES, MAX_FILE_BYTES, ReadEnd, read_up_to};
 use kmin_details::Unreadable;
 use kmin_disk::says_absent;
 use kmin_texts::{LineFiles, Reread, after_lines, line_at};
@@ -144,7 +144,8 @@ fn read_again(
         Ok(file) => file,
         Err(error) => return Ok(Err(reason(error.kind()))),
     };
-    let read = read_up_to(alloc, &mut FromRead::new(file), MAX_FILE_BYTES, 0)?;
+    let block = &mut [0; MAX_BLOCK_BYTES];
+    let read = read_up_to(alloc, &mut FromRead::new(file), MAX_FILE_BYTES, 0, block)?;
     if read.end == ReadEnd::AtFailure {
         return Ok(Err(Unreadable::FailedRead));
     }

@@ -2,7 +2,8 @@
 ghost use Rattle.std.specs.Prelude.{◌≡◌, true, false, take, option_map, IfOk, OnOk, OnErr, IfErr, IfSome, IsErrOf};
 ghost use Rattle.std.specs.Io.{WritesAtMost};
 ghost use Rattle.kc_value.specs.Streams.{failures_after_read, failures_after_write};
-ghost use Rattle.kmin_disk.specs.Contents.{IsOfKind, OpensAs, readable};
+ghost use Rattle.kc_value.specs.FileContents.{OpensAs};
+ghost use Rattle.kmin_disk.specs.Contents.{IsOfKind, readable};
 ghost use Rattle.kmin_disk.specs.Disks.{Disk, content_at};
 ghost use Rattle.kmin_disk.specs.NewFiles.{Draft, Creates, IsTaken, Takes, IsSynced, IsSameDraft, Renames, Removes};
 ghost use Rattle.kmin_disk.specs.Failures.{failures_after_open, failures_after_close, failures_after_create};

@@ -2,7 +2,8 @@
 use Rattle.std.proofs.Common.{◌≡◌, Bool, true, false, cond, List, [], Some, None, sym, ap, ◌∙◌}
 use Rattle.std.specs.Prelude.{map}
 use Rattle.std.specs.Str.{is_utf8}
-use Rattle.kc_files.specs.TreeContents.{FileContent, FolderContent}
+use Rattle.kc_value.specs.FileContents.{FileContent, unknown, absent}
+use Rattle.kc_files.specs.TreeContents.{FolderContent}
 use Rattle.kc_macros_model.specs.Programs.{Notice}
 use Rattle.kc_expansion.proofs.KnownExpansions.{known_files_determine}
 use Rattle.kmin_inputs.specs.FileContents.{path_below}
@@ -10,7 +11,7 @@ use Rattle.kmin_expansions.specs.TreeFolders.{contents_below}
 use Rattle.kmin_expansions.specs.KnownExpansions.{KnownFilesDetermineTheExpandedTree}
 use Rattle.kmin_report.specs.Reports.{macro_notice_line}
 
-file_known : (b : Bool) (content : FileContent) → (content ≡ None → ⊥) → cond b content (Some None) ≡ None → ⊥
+file_known : (b : Bool) (content : FileContent) → (content ≡ unknown → ⊥) → cond b content absent ≡ unknown → ⊥
 file_known true content h e = h e
 file_known false content h e = (let z : ⊥ = cc in z)
 

@@ -1,5 +1,6 @@
 -- The expanded tree that known files, folders and answers determine.
 use Rattle.std.specs.Prelude.{◌≡◌, ◌≢◌, ℕ, List, None, map}
+use Rattle.kc_value.specs.FileContents.{unknown}
 use Rattle.kc_tokens.specs.declared.language.Language.{Language}
 use Rattle.kc_macros_model.specs.AnswerFiles.{RecordedAnswers}
 use Rattle.kc_macros_model.specs.ReadingStates.{ExpandedFile}
@@ -31,5 +32,5 @@ pub record AreKnownTexts (known : Surroundings) (root first : List ℕ) (languag
 -- where each regular file and each folder below the root is known, the texts of an expanded tree are those of the known tree
 abbrev pub KnownFilesDetermineTheExpandedTree : Type 0
 KnownFilesDetermineTheExpandedTree = (known : Surroundings) (root first : List ℕ) (language : Language) (job : Expansion) (t : TreeTexts)
-    → ((path : List ℕ) → known.regular (path_below root path) ≢ None) → ((folder : List ℕ) → known.names (path_below root folder) ≢ None)
+    → ((path : List ℕ) → known.regular (path_below root path) ≢ unknown) → ((folder : List ℕ) → known.names (path_below root folder) ≢ None)
     → AreExpandedTexts known root first language job t → AreKnownTexts known root first language job t

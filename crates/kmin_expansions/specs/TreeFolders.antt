@@ -1,12 +1,13 @@
 -- The files and folders of a tree below its root, as far as they are known.
 use Rattle.std.specs.Prelude.{ℕ, List, [], Some, None, if◌then◌else◌}
 use Rattle.std.specs.Str.{is_utf8}
-use Rattle.kc_files.specs.TreeContents.{FileContent, FolderContent, TreeContents}
+use Rattle.kc_value.specs.FileContents.{FileContent, absent}
+use Rattle.kc_files.specs.TreeContents.{FolderContent, TreeContents}
 use Rattle.kmin_inputs.specs.FileContents.{Surroundings, path_below}
 
 -- what is known of a file of a tree: the regular file at its path below the root; there is no file if its path isn't UTF-8
 abbrev pub regular_below : (List ℕ → FileContent) → (root path : List ℕ) → FileContent
-regular_below regular root path = if is_utf8 path then regular (path_below root path) else Some None
+regular_below regular root path = if is_utf8 path then regular (path_below root path) else absent
 
 -- what is known of the names in a folder of a tree: those of the folder below the root; none if its path isn't UTF-8
 abbrev pub names_below : (List ℕ → FolderContent) → (root folder : List ℕ) → FolderContent

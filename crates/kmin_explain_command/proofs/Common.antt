@@ -13,18 +13,18 @@ pub use Rattle.kc_dotconfig_model.specs.ConfigLines.{LineMeaning}
 pub use Rattle.kc_dotconfig_model.specs.Formats.{FileFormat}
 pub use Rattle.kc_dotconfig_model.specs.OtherChoices.{other_choices}
 pub use Rattle.kc_dotconfig_model.specs.between.Formats.{file_format}
-pub use Rattle.kc_files.specs.TreeContents.{FileContent}
 pub use Rattle.kc_rules.specs.between.SettledViews.{profile_of, tree_model_of, tree_of_settled}
 pub use Rattle.kc_rules.specs.declared.rules.Settled.{Settled}
 pub use Rattle.kc_solver.proofs.ErrorExits.{no_success, no_value}
 pub use Rattle.kc_tree.specs.TreeModel.{TreeModel}
 pub use Rattle.kc_tree_model.specs.Blocks.{Group}
 pub use Rattle.kc_tree_model.specs.Trees.{Tree}
+pub use Rattle.kc_value.specs.FileContents.{FileContent}
 pub use Rattle.kmin_expansions.specs.JobTexts.{TreeTexts}
 pub use Rattle.kmin_explain.specs.between.Sources.{config_of, sources_model}
 pub use Rattle.kmin_explain_command.specs.Explains.{IsExplained, explained_text, missed_text, symbols_in, unknown_for}
 pub use Rattle.kmin_explain_command.specs.Stops.{task_of}
-pub use Rattle.kmin_explain_command.specs.between.Ends.{AnswersOver, StopsOver}
+pub use Rattle.kmin_explain_command.specs.between.Ends.{ExplainsOver, StopsOver}
 pub use Rattle.kmin_explain_command.specs.between.LinedFiles.{AreLined, IsLinedFile}
 pub use Rattle.kmin_explain_command.specs.between.Texts.{AreOfSources, StopsAfterFiles, paths_of_job, sources_of}
 pub use Rattle.kmin_explain_command.specs.between.UnknownNames.{StopsAtName}

@@ -1,6 +1,6 @@
 -- `explain` as a whole: its output with all lines of standard error, or where it ends.
 use Rattle.kmin_explain_command.proofs.Common.{◌≡◌, ℕ, List, [], ◌∷◌, ◌++◌, Option, Result, Ok, Err, IfOk, IfErr, inl, inr, refl, sym, subst, append_assoc, append-nil, tree_of_settled, ErrorLine, refused_line, SpelledBytes, TakesLines, RunError, status_of, lines_append, TreeTexts, IsLinedTree}
-use Rattle.kmin_explain_command.proofs.Common.{LinedTree, JobOutput, StopsOverTree, task_of, AnswersOver, StopsOver}
+use Rattle.kmin_explain_command.proofs.Common.{LinedTree, JobOutput, StopsOverTree, task_of, ExplainsOver, StopsOver}
 use Rattle.kmin_options.specs.Jobs.{ExplainJob}
 use Rattle.kmin_inputs.specs.FileContents.{Surroundings}
 use Rattle.kmin_report.specs.Reports.{last_lines, output_line}
@@ -15,12 +15,12 @@ use Rattle.kmin_explain_command.specs.between.Ends as ends
 module _ (known : Surroundings) (job : ExplainJob) (tree : LinedTree) (t : TreeTexts) (are : AreTextsOfJob known job.settings t)
     (lined : IsLinedTree t job.settings.tree tree) (taken middle after : SpelledBytes) (failed failed_middle failed_after : ℕ)
     (before : TakesLines taken failed t.lines middle failed_middle) where
-  pub job_answers : (r : Result JobOutput RunError)
-      → IfOk r (λ answer. AnswersOver known.content job tree answer.text.items answer.status middle failed_middle after failed_after)
-      → IfOk r (λ answer. (t : TreeTexts) × (lines : List ErrorLine) × AreTextsOfJob known job.settings t
-      × Explains known.content job t answer.text.items answer.status lines × TakesLines taken failed lines after failed_after)
-  job_answers (Err stop) h = tt
-  job_answers (Ok answer) h = (
+  pub job_outputs : (r : Result JobOutput RunError)
+      → IfOk r (λ output. ExplainsOver known.content job tree output.text.items output.status middle failed_middle after failed_after)
+      → IfOk r (λ output. (t : TreeTexts) × (lines : List ErrorLine) × AreTextsOfJob known job.settings t
+      × Explains known.content job t output.text.items output.status lines × TakesLines taken failed lines after failed_after)
+  job_outputs (Err stop) h = tt
+  job_outputs (Ok output) h = (
     t,
     t.lines ++ h.own,
     are,
@@ -50,5 +50,5 @@ module _ (known : Surroundings) (job : ExplainJob) (tree : LinedTree) (t : TreeT
   pub job_stops : (counted counted_after : ℕ) (r : Result JobOutput RunError)
       → IfErr r (λ stop. StopsOver known.content job tree (status_of stop) middle failed_middle after failed_after)
       → IfErr r (λ stop. (lines : List ErrorLine) × StopsExplaining known counted counted_after job (status_of stop) lines × TakesLines taken failed lines after failed_after)
-  job_stops counted counted_after (Ok answer) h = tt
+  job_stops counted counted_after (Ok output) h = tt
   job_stops counted counted_after (Err stop) h = stops_of counted counted_after (status_of stop) h

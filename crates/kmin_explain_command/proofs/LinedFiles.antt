@@ -2,13 +2,13 @@
 use Rattle.kmin_explain_command.proofs.Common.{◌≡◌, ℕ, Bool, true, List, [], ◌∷◌, ◌++◌, Option, map, length, sym, ap, ◌∙◌, subst, append_assoc, append-nil, AllZip, Bor, Tree, FileFormat, LineMeaning, notice_pair, Fragment, FileContent, KeepsLines, FileLines, SpelledBytes, TakesLines, AllowsNotices}
 use Rattle.kmin_explain_command.proofs.Common.{IsLinedFile, AreLined}
 use Rattle.std.proofs.lemmas.List.{nil_from_length}
+use Rattle.kc_value.specs.FileContents.{AreKnownBytes}
 use Rattle.kc_rules_model.specs.declared.values.UserValue.{UserValue}
 use Rattle.kc_dotconfig_model.specs.PrefixGrammar.{is_name_prefix}
 use Rattle.kc_dotconfig_model.specs.ConfigFiles.{FileMeans, has_utf8_lines, overlay}
 use Rattle.kc_dotconfig_model.specs.declared.choice_line.ChoiceLine.{ChoiceLine}
 use Rattle.kc_dotconfig_model.proofs.AcceptedLines.{accepted_utf8}
 use Rattle.kc_dotconfig.specs.Fragments.{users_of}
-use Rattle.kmin_report.specs.KnownBytes.{AreKnownBytes}
 use Rattle.kmin_report.specs.StandardError as taking
 use Rattle.kmin_outputs.specs.Outputs.{none}
 use Rattle.kmin_outputs.specs.between.LoadResults.{IsLoaded}

@@ -1,6 +1,6 @@
 -- The output of `explain` over its tree, or its end, once its files were read.
 use Rattle.kmin_explain_command.proofs.Common.{◌≡◌, ℕ, List, [], ◌∷◌, ◌++◌, Option, Result, Ok, Err, IfOk, IfErr, inl, refl, sym, subst, arith, Group, Settled, tree_of_settled, profile_of, empty_assignment, LineMeaning, other_choices, file_format, IsSolved, tree_in, FileContent, explain_job_view}
-use Rattle.kmin_explain_command.proofs.Common.{settings_view, ExplainJob, ErrorLine, refused_line, SpelledBytes, TakesLines, RunError, status_of, lines_append, LinedTree, StopsAmongFiles, JobOutput, AreNoticed, lists_of, StopsOverTree, IsExplained, task_of, AnswersOver, StopsOver, AreLined}
+use Rattle.kmin_explain_command.proofs.Common.{settings_view, ExplainJob, ErrorLine, refused_line, SpelledBytes, TakesLines, RunError, status_of, lines_append, LinedTree, StopsAmongFiles, JobOutput, AreNoticed, lists_of, StopsOverTree, IsExplained, task_of, ExplainsOver, StopsOver, AreLined}
 use Rattle.kmin_explain_command.proofs.Common.{AreOfSources, StopsAfterFiles, paths_of_job, sources_of, LinedFiles}
 use Rattle.kmin_options.specs.declared.job.Verb.TheVariants.{Min}
 use Rattle.kmin_report.specs.Reports.{notice_lines, choice_notice_lines}
@@ -32,12 +32,12 @@ module _ (content_of : List ℕ → FileContent) (job : ExplainJob) (tree : Line
       (noticed_are content_of (settings_view job.settings) found.read.config tree.settled (paths_of_job job) (lists_of found.read.chosen.items) taken middle
       failed failed_middle same l.read middle to failed_middle failed_to n.noticed))
 
-  answers_of : (text : List ℕ) (status : ℕ)
+  explains_of : (text : List ℕ) (status : ℕ)
       → ((read : List Group) (meanings : List (List LineMeaning)) → AreOfSources tree found read meanings
       → IsExplained (explain_job_view job) (sources_of job tree found read meanings) text status)
       → AreNoticed job.settings.strict (paths_of_job job) found.read middle failed_middle after failed_after
-      → AnswersOver content_of (explain_job_view job) tree text status taken failed after failed_after
-  answers_of text status h n = record {
+      → ExplainsOver content_of (explain_job_view job) tree text status taken failed after failed_after
+  explains_of text status h n = record {
     own = notices;
     explains = λ t lined. record {
       sources = sources_of job tree found lined.lines.groups l.read.loaded.meanings;
@@ -49,13 +49,13 @@ module _ (content_of : List ℕ → FileContent) (job : ExplainJob) (tree : Line
     reported = noted after failed_after n;
   }
 
-  pub answers_over : (r : Result JobOutput RunError)
-      → IfOk r (λ answer. (read : List Group) (meanings : List (List LineMeaning)) → AreOfSources tree found read meanings
-      → IsExplained (explain_job_view job) (sources_of job tree found read meanings) answer.text.items answer.status)
-      → IfOk r (λ answer. AreNoticed job.settings.strict (paths_of_job job) found.read middle failed_middle after failed_after)
-      → IfOk r (λ answer. AnswersOver content_of (explain_job_view job) tree answer.text.items answer.status taken failed after failed_after)
-  answers_over (Err stop) h n = tt
-  answers_over (Ok answer) h n = answers_of answer.text.items answer.status h n
+  pub explains_over : (r : Result JobOutput RunError)
+      → IfOk r (λ output. (read : List Group) (meanings : List (List LineMeaning)) → AreOfSources tree found read meanings
+      → IsExplained (explain_job_view job) (sources_of job tree found read meanings) output.text.items output.status)
+      → IfOk r (λ output. AreNoticed job.settings.strict (paths_of_job job) found.read middle failed_middle after failed_after)
+      → IfOk r (λ output. ExplainsOver content_of (explain_job_view job) tree output.text.items output.status taken failed after failed_after)
+  explains_over (Err stop) h n = tt
+  explains_over (Ok output) h n = explains_of output.text.items output.status h n
 
   by_lines : (status : ℕ) → (lines : List ErrorLine)
       × StopsOverTree content_of (settings_view job.settings) (tree_of_settled tree.settled) (task_of (explain_job_view job)) status lines
@@ -83,7 +83,7 @@ module _ (content_of : List ℕ → FileContent) (job : ExplainJob) (tree : Line
 
   pub stops_over : (r : Result JobOutput RunError) → IfErr r (λ stop. StopsAfterFiles job tree found (status_of stop) middle failed_middle after failed_after)
       → IfErr r (λ stop. StopsOver content_of (explain_job_view job) tree (status_of stop) taken failed after failed_after)
-  stops_over (Ok answer) h = tt
+  stops_over (Ok output) h = tt
   stops_over (Err stop) h = stops_of (status_of stop) h
 
 -- a run that ended among its files

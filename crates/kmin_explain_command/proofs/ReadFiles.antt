@@ -4,7 +4,7 @@ use Rattle.kc_dotconfig_model.specs.LoadFaults.{IsFirstFault, complete, OccursAt
 use Rattle.kc_dotconfig_model.specs.declared.fault.LoadKind.{LoadKind}
 use Rattle.kc_dotconfig_model.specs.declared.fault.LoadKind.TheVariants.{Malformed, NotUtf8, LineTooLong, TooManyLines, Read, OutOfMemory, TooLarge}
 use Rattle.kmin_report.specs.StandardError as taking
-use Rattle.kmin_outputs.specs.Outputs as answers
+use Rattle.kmin_outputs.specs.Outputs as outputs
 use Rattle.kmin_outputs.specs.Stops as stops
 use Rattle.kmin_outputs.specs.between.LoadStops.{at_file, for_memory, load_status}
 use Rattle.kmin_outputs.proofs.LoadLines.{load_lines_one, load_status_4}
@@ -42,4 +42,4 @@ pub stopped_none : (content_of : List ℕ → FileContent) (format : FileFormat)
     (taken : SpelledBytes) (failed : ℕ) → status ≡ 6
     → (lines : List ErrorLine) × StopsAmongFiles content_of format strict tree paths status lines × TakesLines taken failed lines taken failed
 stopped_none content_of format strict tree paths status taken failed six =
-    ([], stops.for_memory [] paths [] refl answers.none six refl, taking.none)
+    ([], stops.for_memory [] paths [] refl outputs.none six refl, taking.none)

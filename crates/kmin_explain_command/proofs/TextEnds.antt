@@ -13,7 +13,7 @@ use Rattle.kmin_options.specs.Jobs.{Question, explain}
 use Rattle.kmin_options.specs.declared.job.ExplainFlags.{ExplainFlags}
 use Rattle.kmin_records.specs.declared.output_form.OutputForm.{OutputForm}
 use Rattle.kmin_explain_command.specs.Explains.{AreExplainedFor}
-use Rattle.kmin_explain_command.specs.between.Texts.{IsAnswerFor, IsAnswerOf, IsTextOf, status_by}
+use Rattle.kmin_explain_command.specs.between.Texts.{IsOutputFor, IsOutputOf, IsTextOf, status_by}
 use Rattle.kmin_explain_command.specs.between.Texts as after_files
 use Rattle.kmin_explain_command.specs.between.UnknownNames as names
 
@@ -38,10 +38,10 @@ module _ (job : ExplainJob) (tree : LinedTree) (found : LinedFiles) (taken middl
   name_stops_in named is status s =
       name_stops status (subst (λ (t : Tree). StopsAtName (explain_job_view job) t status middle failed_middle after failed_after) is s)
 
--- where each name means a symbol, the answer is the output
+-- where each name means a symbol, the text and the status of a job are the output of `explain`
 pub explained_by : (job : ExplainJob) (tree : LinedTree) (found : LinedFiles) (read : List Group) (meanings : List (List LineMeaning)) (text : List ℕ) (status : ℕ)
     → unknown_for (explain_job_view job) (tree_in found.read.config) ≡ None
-    → IsAnswerOf (explain_job_view job) (sources_of job tree found read meanings) text status
+    → IsOutputOf (explain_job_view job) (sources_of job tree found read meanings) text status
     → IsExplained (explain_job_view job) (sources_of job tree found read meanings) text status
 explained_by job tree found read meanings text status known a = record {
   known = known;
@@ -58,25 +58,25 @@ pub found_none : (found : Option (Bor (List ℕ))) (first : Option (List ℕ)) �
     → option_map (λ (n : Bor (List ℕ)). n.now) found ≡ first → first ≡ None
 found_none found first is e = sym e ∙ (let s : found ≡ None = is in rw s refl)
 
--- the text and the status for named symbols are the answer of `explain` for them
+-- the text and the status for named symbols are the output of `explain` for them
 pub named_is : (form : OutputForm) (flags : ExplainFlags) (names : Option (List ℕ)) (g : SourcesModel) (named other text : List ℕ) (status : ℕ) → named ≡ other
-    → IsTextOf form flags g named text → status ≡ status_by flags g named → IsAnswerFor form (explain flags names) g other text status
+    → IsTextOf form flags g named text → status ≡ status_by flags g named → IsOutputFor form (explain flags names) g other text status
 named_is form flags names g named other text status e t s =
-    subst (λ (n : List ℕ). IsAnswerFor form (explain flags names) g n text status) e (record { text_is = t; status_is = s })
+    subst (λ (n : List ℕ). IsOutputFor form (explain flags names) g n text status) e (record { text_is = t; status_is = s })
 
--- the answer for the question of a job is that of the job
-pub answer_of_question : (job : ExplainJob) (question : Question) (g : SourcesModel) (text : List ℕ) (status : ℕ) → question_view job.question ≡ question
-    → IsAnswerFor job.settings.output_form question g (symbols_in (explain_job_view job) g.tree) text status → IsAnswerOf (explain_job_view job) g text status
-answer_of_question job question g text status is a =
-    subst (λ (q : Question). IsAnswerFor job.settings.output_form q g (symbols_in (explain_job_view job) g.tree) text status) (sym is) a
+-- the output for the question of a job is that of the job
+pub output_of_question : (job : ExplainJob) (question : Question) (g : SourcesModel) (text : List ℕ) (status : ℕ) → question_view job.question ≡ question
+    → IsOutputFor job.settings.output_form question g (symbols_in (explain_job_view job) g.tree) text status → IsOutputOf (explain_job_view job) g text status
+output_of_question job question g text status is a =
+    subst (λ (q : Question). IsOutputFor job.settings.output_form q g (symbols_in (explain_job_view job) g.tree) text status) (sym is) a
 
 -- what symbols are explained by is of the tree and the files that were read
-pub answer_from : (by : Sources) (job : ExplainJob) (tree : LinedTree) (found : LinedFiles) (read : List Group) (meanings : List (List LineMeaning)) (text : List ℕ)
+pub output_from : (by : Sources) (job : ExplainJob) (tree : LinedTree) (found : LinedFiles) (read : List Group) (meanings : List (List LineMeaning)) (text : List ℕ)
     (status : ℕ) → config_of by ≡ found.read.config → by.lines.now ≡ tree.lines → by.files.now ≡ found.lines.items → by.tree_paths.now ≡ tree.paths.items
     → by.file_paths.now ≡ job.files.items → by.strings ≡ job.settings.format.strings → AreOfSources tree found read meanings
-    → (AreSourcesOf by read meanings → IsAnswerOf (explain_job_view job) (sources_model by read meanings) text status)
-    → IsAnswerOf (explain_job_view job) (sources_of job tree found read meanings) text status
-answer_from by job tree found read meanings text status config lines files paths named strings are h =
+    → (AreSourcesOf by read meanings → IsOutputOf (explain_job_view job) (sources_model by read meanings) text status)
+    → IsOutputOf (explain_job_view job) (sources_of job tree found read meanings) text status
+output_from by job tree found read meanings text status config lines files paths named strings are h =
     let of_these : AreSourcesOf by read meanings =
     record { tree_is = rw config are.tree_is; has = rw (config, lines) are.has; kept = rw (config, files) are.kept } in
     rw (config, paths, named, strings) at (h of_these)
@@ -90,26 +90,26 @@ pub no_status : (flags : ExplainFlags) (g : SourcesModel) (named : List ℕ) →
 no_status flags g named e = rw e refl
 
 -- and so of a result that has both
-pub both_answered : (form : OutputForm) (flags : ExplainFlags) (names : Option (List ℕ)) (by : Sources) (r : Result JobOutput AllocError) (named other : List ℕ) → named ≡ other
-    → IfOk r (λ answer. (read : List Group) (meanings : List (List LineMeaning)) → AreSourcesOf by read meanings
-    → IsTextOf form flags (sources_model by read meanings) named answer.text.items)
-    → IfOk r (λ answer. (read : List Group) (meanings : List (List LineMeaning)) → AreSourcesOf by read meanings
-    → answer.status ≡ status_by flags (sources_model by read meanings) named)
-    → IfOk r (λ answer. (read : List Group) (meanings : List (List LineMeaning)) → AreSourcesOf by read meanings
-    → IsAnswerFor form (explain flags names) (sources_model by read meanings) other answer.text.items answer.status)
-both_answered form flags names by (Err e) named other is t s = tt
-both_answered form flags names by (Ok answer) named other is t s = λ read meanings are.
-    named_is form flags names (sources_model by read meanings) named other answer.text.items answer.status is (t read meanings are) (s read meanings are)
+pub both_output : (form : OutputForm) (flags : ExplainFlags) (names : Option (List ℕ)) (by : Sources) (r : Result JobOutput AllocError) (named other : List ℕ) → named ≡ other
+    → IfOk r (λ output. (read : List Group) (meanings : List (List LineMeaning)) → AreSourcesOf by read meanings
+    → IsTextOf form flags (sources_model by read meanings) named output.text.items)
+    → IfOk r (λ output. (read : List Group) (meanings : List (List LineMeaning)) → AreSourcesOf by read meanings
+    → output.status ≡ status_by flags (sources_model by read meanings) named)
+    → IfOk r (λ output. (read : List Group) (meanings : List (List LineMeaning)) → AreSourcesOf by read meanings
+    → IsOutputFor form (explain flags names) (sources_model by read meanings) other output.text.items output.status)
+both_output form flags names by (Err e) named other is t s = tt
+both_output form flags names by (Ok output) named other is t s = λ read meanings are.
+    named_is form flags names (sources_model by read meanings) named other output.text.items output.status is (t read meanings are) (s read meanings are)
 
--- a result that has the answer for the question of a job has that of the job
-pub question_answered : (job : ExplainJob) (question : Question) (by : Sources) (r : Result JobOutput AllocError) → question_view job.question ≡ question
-    → IfOk r (λ answer. (read : List Group) (meanings : List (List LineMeaning)) → AreSourcesOf by read meanings
-    → IsAnswerFor job.settings.output_form question (sources_model by read meanings) (symbols_in (explain_job_view job) (tree_in (config_of by))) answer.text.items answer.status)
-    → IfOk r (λ answer. (read : List Group) (meanings : List (List LineMeaning)) → AreSourcesOf by read meanings
-    → IsAnswerOf (explain_job_view job) (sources_model by read meanings) answer.text.items answer.status)
-question_answered job question by (Err e) is a = tt
-question_answered job question by (Ok answer) is a = λ read meanings are.
-    answer_of_question job question (sources_model by read meanings) answer.text.items answer.status is (a read meanings are)
+-- a result that has the output for the question of a job has that of the job
+pub question_output : (job : ExplainJob) (question : Question) (by : Sources) (r : Result JobOutput AllocError) → question_view job.question ≡ question
+    → IfOk r (λ output. (read : List Group) (meanings : List (List LineMeaning)) → AreSourcesOf by read meanings
+    → IsOutputFor job.settings.output_form question (sources_model by read meanings) (symbols_in (explain_job_view job) (tree_in (config_of by))) output.text.items output.status)
+    → IfOk r (λ output. (read : List Group) (meanings : List (List LineMeaning)) → AreSourcesOf by read meanings
+    → IsOutputOf (explain_job_view job) (sources_model by read meanings) output.text.items output.status)
+question_output job question by (Err e) is a = tt
+question_output job question by (Ok output) is a = λ read meanings are.
+    output_of_question job question (sources_model by read meanings) output.text.items output.status is (a read meanings are)
 
 -- the text for some symbols is that for the named ones, by the flags
 module _ (form : OutputForm) (flags : ExplainFlags) (by : Sources) (named symbols : List ℕ) where

@@ -1,5 +1,6 @@
 -- The output of a command that gives reasons: of `explain`, and of `missed` and `check` where they ask for them.
 use Rattle.std.specs.Prelude.{◌≡◌, ℕ, Bool, true, false, ◌&&◌, List, [], ◌∷◌, ◌++◌, Option, Some, None, if◌then◌else◌}
+use Rattle.kc_value.specs.FileContents.{FileContent}
 use Rattle.kc_tree_model.specs.Trees.{Tree}
 use Rattle.kc_tree_model.specs.Contents.{tree_of_groups}
 use Rattle.kc_tree_model.specs.ReadingRelation.{IsWholeReading}
@@ -7,7 +8,6 @@ use Rattle.kc_tree_model.specs.TreeFaults.{tree_faults}
 use Rattle.kc_tree_model.specs.TreesOfFiles.{origin_of}
 use Rattle.kc_dotconfig_model.specs.ConfigFiles.{files_assignment}
 use Rattle.kc_dotconfig_model.specs.OtherChoices.{other_choices}
-use Rattle.kc_files.specs.TreeContents.{FileContent}
 use Rattle.kmin_explain.specs.Names.{names_in, symbols_named, unknown_in}
 use Rattle.kmin_explain.specs.NearestNames.{nearest_name}
 use Rattle.kmin_explain.specs.Explanations.{SourcesModel, explained_in, all_symbols, is_one_hindered}

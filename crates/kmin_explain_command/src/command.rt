@@ -6,7 +6,7 @@ ghost use Rattle.kc_symbol_lines.specs.between.Indexes.{IsReadTree};
 ghost use Rattle.kmin_options.specs.Jobs.{explain_job_view};
 ghost use Rattle.kmin_explain_command.specs.Explains.{Explains};
 ghost use Rattle.kmin_explain_command.specs.Stops.{ExplainsInPart, StopsExplaining};
-ghost use Rattle.kmin_explain_command.specs.between.Ends.{AnswersOver, StopsOver};
+ghost use Rattle.kmin_explain_command.specs.between.Ends.{ExplainsOver, StopsOver};
 ghost use Rattle.kmin_report.specs.Reports.{ErrorLine, last_lines};
 ghost use Rattle.kc_files.specs.TreeContents.{HasRisen};
 ghost use Rattle.kmin_report.specs.StandardError.{TakesLines};
@@ -58,8 +58,8 @@ pub fn explain<F: Files, O: Sink, E: Messages>(
     // On status 5 a file couldn't be opened, or a read of a file or a write of the output failed.
     ensures failed { result ≡ 5 → HasRisen (F.failures files.old) (F.failures files.new) ⊎ HasRisen (O.failures out.old) (O.failures out.new) }
 {
-    let answer = explained(alloc, job, files, err);
-    finish(answer, out, err)
+    let output = explained(alloc, job, files, err);
+    finish(output, out, err)
 }
 
 /// The output of the command, and its status. Reports the notices, and why there is no output.
@@ -69,15 +69,15 @@ fn explained<F: Files, E: Messages>(
     files: &mut F,
     err: &mut E,
 ) -> Result<JobOutput, RunError>
-    ensures status { IfOk result (λ answer. answer.status ≤ 1) }
-    ensures answer { IfOk result (λ answer. (t : TreeTexts) × (lines : List ErrorLine) × AreTextsOfJob (F.surroundings files.old) (explain_job_view job.now).settings t × Explains (F.surroundings files.old).content (explain_job_view job.now) t answer.text.items answer.status lines × TakesLines (E.taken err.old) (E.failures err.old) lines (E.taken err.new) (E.failures err.new)) }
+    ensures status { IfOk result (λ output. output.status ≤ 1) }
+    ensures output { IfOk result (λ output. (t : TreeTexts) × (lines : List ErrorLine) × AreTextsOfJob (F.surroundings files.old) (explain_job_view job.now).settings t × Explains (F.surroundings files.old).content (explain_job_view job.now) t output.text.items output.status lines × TakesLines (E.taken err.old) (E.failures err.old) lines (E.taken err.new) (E.failures err.new)) }
     ensures stopped { IfErr result (λ stop. (lines : List ErrorLine) × StopsExplaining (F.surroundings files.old) (F.failures files.old) (F.failures files.new) (explain_job_view job.now) (status_of stop) lines × TakesLines (E.taken err.old) (E.failures err.old) lines (E.taken err.new) (E.failures err.new)) }
     ensures failed { IfErr result (λ stop. status_of stop ≡ 5 → HasRisen (F.failures files.old) (F.failures files.new)) }
 {
     let tree = job_tree_with_lines(alloc, &job.settings, files, err)?;
-    let answer = explained_over(alloc, job, &tree, files, err);
+    let output = explained_over(alloc, job, &tree, files, err);
     drop(tree);
-    answer
+    output
 }
 
 /// The output over a tree with its lines, and its status. Reports the notices of the files, and why there is no output.
@@ -90,14 +90,14 @@ fn explained_over<F: Files, E: Messages>(
 ) -> Result<JobOutput, RunError>
     requires profile { profile_of tree.now.settled ≡ job.now.settings.profile }
     requires read { IsReadTree (tree_model_of tree.now.settled) tree.now.lines }
-    ensures status { IfOk result (λ answer. answer.status ≤ 1) }
-    ensures answer { IfOk result (λ answer. AnswersOver (F.surroundings files.old).content (explain_job_view job.now) tree.now answer.text.items answer.status (E.taken err.old) (E.failures err.old) (E.taken err.new) (E.failures err.new)) }
+    ensures status { IfOk result (λ output. output.status ≤ 1) }
+    ensures output { IfOk result (λ output. ExplainsOver (F.surroundings files.old).content (explain_job_view job.now) tree.now output.text.items output.status (E.taken err.old) (E.failures err.old) (E.taken err.new) (E.failures err.new)) }
     ensures stopped { IfErr result (λ stop. StopsOver (F.surroundings files.old).content (explain_job_view job.now) tree.now (status_of stop) (E.taken err.old) (E.failures err.old) (E.taken err.new) (E.failures err.new)) }
     ensures rising { F.failures files.old ≤ F.failures files.new }
     ensures failed { IfErr result (λ stop. status_of stop ≡ 5 → HasRisen (F.failures files.old) (F.failures files.new)) }
 {
     let found = read_lined(alloc, &tree.settled, &job.settings, &job.files, files, err)?;
-    let answer = explained_files(alloc, job, tree, &found, files.seed(), err);
+    let output = explained_files(alloc, job, tree, &found, files.seed(), err);
     drop(found);
-    answer
+    output
 }

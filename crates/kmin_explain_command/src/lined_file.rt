@@ -1,14 +1,14 @@
 //! A configuration file with its last lines.
 ghost use Rattle.std.specs.Prelude.{◌≡◌, ◌≢◌, ◌≤◌, ◌∷◌, [], List, ℕ, map, IfOk, IfErr};
+ghost use Rattle.kc_value.specs.FileContents.{FileContent, AreKnownBytes};
 ghost use Rattle.kc_rules.specs.between.SettledViews.{tree_of_settled};
 ghost use Rattle.kc_dotconfig_model.specs.between.Formats.{file_format};
 ghost use Rattle.kc_dotconfig.specs.Fragments.{FitsTree};
 ghost use Rattle.kc_dotconfig_model.specs.between.Notices.{notice_pair};
-ghost use Rattle.kc_files.specs.TreeContents.{FileContent, HasRisen};
+ghost use Rattle.kc_files.specs.TreeContents.{HasRisen};
 ghost use Rattle.kmin_outputs.specs.Stops.{StopsAmongFiles};
 ghost use Rattle.kmin_outputs.specs.Strictness.{AllowsNotices};
 ghost use Rattle.kmin_explain_command.specs.between.LinedFiles.{IsLinedFile};
-ghost use Rattle.kmin_report.specs.KnownBytes.{AreKnownBytes};
 ghost use Rattle.kmin_report.specs.Reports.{ErrorLine};
 ghost use Rattle.kmin_report.specs.StandardError.{TakesLines};
 ghost use Rattle.kmin_report.specs.between.RunErrors.{status_of};
@@ -72,8 +72,8 @@ fn read_accepted<F: Files>(
 {
     match files.reader_for(path) {
         Some(mut reader) => {
-            let room = files.size_of(&reader);
-            let read = read_source(alloc, settled, format, &mut reader, room);
+            let size = files.size_of(&reader);
+            let read = read_source(alloc, settled, format, &mut reader, size);
             files.close(reader);
             read
         }

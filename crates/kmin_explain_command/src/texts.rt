@@ -10,7 +10,7 @@ ghost use Rattle.kmin_explain.specs.between.Sources.{AreReadSources, AreSourcesO
 ghost use Rattle.kc_dotconfig_model.specs.MissedAssignments.{missed as missed_symbols};
 ghost use Rattle.kc_rules_model.specs.Reports.{unmet as unmet_symbols};
 ghost use Rattle.kmin_explain_command.specs.Explains.{IsExplained, explained_text, missed_text, symbols_in, unmet_text};
-ghost use Rattle.kmin_explain_command.specs.between.Texts.{AreOfSources, IsAnswerFor, IsAnswerOf, StopsAfterFiles, IsTextOf, paths_of_job, sources_of, status_by};
+ghost use Rattle.kmin_explain_command.specs.between.Texts.{AreOfSources, IsOutputFor, IsOutputOf, StopsAfterFiles, IsTextOf, paths_of_job, sources_of, status_by};
 ghost use Rattle.kmin_options.specs.Jobs.{explain_job_view, explain, missed, check};
 ghost use Rattle.kmin_report.specs.between.RunErrors.{status_of};
 
@@ -44,9 +44,9 @@ pub(crate) fn explained_files<E: Messages>(
 ) -> Result<JobOutput, RunError>
     requires system { found.now.read.config.system ≡ tree.now.settled }
     requires read { IsReadTree (tree_model_of tree.now.settled) tree.now.lines }
-    ensures status { IfOk result (λ answer. answer.status ≤ 1) }
-    ensures answer { IfOk result (λ answer. (read : List Group) (meanings : List (List LineMeaning)) → AreOfSources tree.now found.now read meanings → IsExplained (explain_job_view job.now) (sources_of job.now tree.now found.now read meanings) answer.text.items answer.status) }
-    ensures noticed { IfOk result (λ answer. AreNoticed job.now.settings.strict (paths_of_job job.now) found.now.read (E.taken err.old) (E.failures err.old) (E.taken err.new) (E.failures err.new)) }
+    ensures status { IfOk result (λ output. output.status ≤ 1) }
+    ensures output { IfOk result (λ output. (read : List Group) (meanings : List (List LineMeaning)) → AreOfSources tree.now found.now read meanings → IsExplained (explain_job_view job.now) (sources_of job.now tree.now found.now read meanings) output.text.items output.status) }
+    ensures noticed { IfOk result (λ output. AreNoticed job.now.settings.strict (paths_of_job job.now) found.now.read (E.taken err.old) (E.failures err.old) (E.taken err.new) (E.failures err.new)) }
     ensures stopped { IfErr result (λ stop. StopsAfterFiles job.now tree.now found.now (status_of stop) (E.taken err.old) (E.failures err.old) (E.taken err.new) (E.failures err.new)) }
 {
     notice_choices(alloc, &job.settings, &job.files, &found.read, err)?;
@@ -65,8 +65,8 @@ fn text_of(
 ) -> Result<JobOutput, AllocError>
     requires system { found.now.read.config.system ≡ tree.now.settled }
     requires read { IsReadTree (tree_model_of tree.now.settled) tree.now.lines }
-    ensures status { IfOk result (λ answer. answer.status ≤ 1) }
-    ensures answer { IfOk result (λ answer. (read : List Group) (meanings : List (List LineMeaning)) → AreOfSources tree.now found.now read meanings → IsAnswerOf (explain_job_view job.now) (sources_of job.now tree.now found.now read meanings) answer.text.items answer.status) }
+    ensures status { IfOk result (λ output. output.status ≤ 1) }
+    ensures output { IfOk result (λ output. (read : List Group) (meanings : List (List LineMeaning)) → AreOfSources tree.now found.now read meanings → IsOutputOf (explain_job_view job.now) (sources_of job.now tree.now found.now read meanings) output.text.items output.status) }
 {
     let index = LineIndex::new(alloc, tree.settled.tree(), &tree.lines)?;
     let by = Sources {
@@ -78,46 +78,46 @@ fn text_of(
         file_paths: &job.files,
         strings: job.settings.format.strings,
     };
-    answer_by(alloc, job, &by, seed)
+    output_by(alloc, job, &by, seed)
 }
 
 /// The output by what symbols are explained by, and its status.
-fn answer_by(
+fn output_by(
     alloc: Global,
     job: &ExplainJob<'_>,
     by: &Sources<'_>,
     seed: Seed,
 ) -> Result<JobOutput, AllocError>
     requires read { AreReadSources by.now }
-    ensures status { IfOk result (λ answer. answer.status ≤ 1) }
-    ensures answer { IfOk result (λ answer. (read : List Group) (meanings : List (List LineMeaning)) → AreSourcesOf by.now read meanings → IsAnswerOf (explain_job_view job.now) (sources_model by.now read meanings) answer.text.items answer.status) }
+    ensures status { IfOk result (λ output. output.status ≤ 1) }
+    ensures output { IfOk result (λ output. (read : List Group) (meanings : List (List LineMeaning)) → AreSourcesOf by.now read meanings → IsOutputOf (explain_job_view job.now) (sources_model by.now read meanings) output.text.items output.status) }
 {
     match job.question {
-        Question::Explain { flags, .. } => explained_answer(alloc, job, flags, by),
-        Question::Missed { form, exit_code } => missed_answer(
+        Question::Explain { flags, .. } => explained_output(alloc, job, flags, by),
+        Question::Missed { form, exit_code } => missed_output(
             alloc, job, form, exit_code, by, seed,
         ),
-        Question::Check { exit_code } => unmet_answer(alloc, job, exit_code, by),
+        Question::Check { exit_code } => unmet_output(alloc, job, exit_code, by),
     }
 }
 
 /// The output for the symbols that a job names, with these flags, and its status.
-fn explained_answer(
+fn explained_output(
     alloc: Global,
     job: &ExplainJob<'_>,
     flags: ExplainFlags,
     by: &Sources<'_>,
 ) -> Result<JobOutput, AllocError>
     requires read { AreReadSources by.now }
-    ensures status { IfOk result (λ answer. answer.status ≤ 1) }
-    ensures answer { (names : Option (List ℕ)) → IfOk result (λ answer. (read : List Group) (meanings : List (List LineMeaning)) → AreSourcesOf by.now read meanings → IsAnswerFor job.now.settings.output_form (explain flags names) (sources_model by.now read meanings) (symbols_in (explain_job_view job.now) (tree_in (config_of by.now))) answer.text.items answer.status) }
+    ensures status { IfOk result (λ output. output.status ≤ 1) }
+    ensures output { (names : Option (List ℕ)) → IfOk result (λ output. (read : List Group) (meanings : List (List LineMeaning)) → AreSourcesOf by.now read meanings → IsOutputFor job.now.settings.output_form (explain flags names) (sources_model by.now read meanings) (symbols_in (explain_job_view job.now) (tree_in (config_of by.now))) output.text.items output.status) }
 {
     let symbols = symbols_for(alloc, job, by.config.settled().tree())?;
-    named_answer(alloc, job.settings.output_form, flags, by, &symbols)
+    named_output(alloc, job.settings.output_form, flags, by, &symbols)
 }
 
 /// The output of `missed` in a form, and its status.
-fn missed_answer(
+fn missed_output(
     alloc: Global,
     job: &ExplainJob<'_>,
     form: MissedForm,
@@ -126,8 +126,8 @@ fn missed_answer(
     seed: Seed,
 ) -> Result<JobOutput, AllocError>
     requires read { AreReadSources by.now }
-    ensures status { IfOk result (λ answer. answer.status ≤ 1) }
-    ensures answer { (named : List ℕ) → IfOk result (λ answer. (read : List Group) (meanings : List (List LineMeaning)) → AreSourcesOf by.now read meanings → IsAnswerFor job.now.settings.output_form (missed form exit_code) (sources_model by.now read meanings) named answer.text.items answer.status) }
+    ensures status { IfOk result (λ output. output.status ≤ 1) }
+    ensures output { (named : List ℕ) → IfOk result (λ output. (read : List Group) (meanings : List (List LineMeaning)) → AreSourcesOf by.now read meanings → IsOutputFor job.now.settings.output_form (missed form exit_code) (sources_model by.now read meanings) named output.text.items output.status) }
 {
     let symbols = by.config.missed()?;
     let output_form = job.settings.output_form;
@@ -174,15 +174,15 @@ fn plain_missed_text(
 }
 
 /// The output of `check` with reasons, and its status.
-fn unmet_answer(
+fn unmet_output(
     alloc: Global,
     job: &ExplainJob<'_>,
     exit_code: bool,
     by: &Sources<'_>,
 ) -> Result<JobOutput, AllocError>
     requires read { AreReadSources by.now }
-    ensures status { IfOk result (λ answer. answer.status ≤ 1) }
-    ensures answer { (named : List ℕ) → IfOk result (λ answer. (read : List Group) (meanings : List (List LineMeaning)) → AreSourcesOf by.now read meanings → IsAnswerFor job.now.settings.output_form (check exit_code) (sources_model by.now read meanings) named answer.text.items answer.status) }
+    ensures status { IfOk result (λ output. output.status ≤ 1) }
+    ensures output { (named : List ℕ) → IfOk result (λ output. (read : List Group) (meanings : List (List LineMeaning)) → AreSourcesOf by.now read meanings → IsOutputFor job.now.settings.output_form (check exit_code) (sources_model by.now read meanings) named output.text.items output.status) }
 {
     let symbols = by.config.settled().unmet(alloc, by.config.values())?;
     let output_form = job.settings.output_form;
@@ -220,7 +220,7 @@ fn symbols_for(alloc: Global, job: &ExplainJob<'_>, tree: &Tree) -> Result<Vec<S
 }
 
 /// The output for symbols, and its status.
-fn named_answer(
+fn named_output(
     alloc: Global,
     form: OutputForm,
     flags: ExplainFlags,
@@ -229,9 +229,9 @@ fn named_answer(
 ) -> Result<JobOutput, AllocError>
     requires read { AreReadSources by.now }
     requires there { All (λ s. s < length (tree_in (config_of by.now)).symbols) symbols.now }
-    ensures text { IfOk result (λ answer. (read : List Group) (meanings : List (List LineMeaning)) → AreSourcesOf by.now read meanings → IsTextOf form flags (sources_model by.now read meanings) symbols.now answer.text.items) }
-    ensures status { IfOk result (λ answer. (read : List Group) (meanings : List (List LineMeaning)) → AreSourcesOf by.now read meanings → answer.status ≡ status_by flags (sources_model by.now read meanings) symbols.now) }
-    ensures small { IfOk result (λ answer. answer.status ≤ 1) }
+    ensures text { IfOk result (λ output. (read : List Group) (meanings : List (List LineMeaning)) → AreSourcesOf by.now read meanings → IsTextOf form flags (sources_model by.now read meanings) symbols.now output.text.items) }
+    ensures status { IfOk result (λ output. (read : List Group) (meanings : List (List LineMeaning)) → AreSourcesOf by.now read meanings → output.status ≡ status_by flags (sources_model by.now read meanings) symbols.now) }
+    ensures small { IfOk result (λ output. output.status ≤ 1) }
 {
     let text = named_text(alloc, form, flags, by, symbols)?;
     let status = status_for(alloc, flags, by, symbols)?;

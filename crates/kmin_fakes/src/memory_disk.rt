@@ -1,7 +1,8 @@
 //! A disk in memory, for tests: its history is known, and chosen calls fail.
 ghost use Rattle.std.specs.Prelude.{◌≡◌, [], Some, false, ◌≢◌, OnOk, OnErr, IfOk, IfSome, OnSome, option_map, string_bytes};
 ghost use Rattle.kc_value.specs.Streams.{one_failure_more};
-ghost use Rattle.kmin_disk.specs.Contents.{OpensAs, readable};
+ghost use Rattle.kc_value.specs.FileContents.{OpensAs};
+ghost use Rattle.kmin_disk.specs.Contents.{readable};
 ghost use Rattle.kmin_disk.specs.Disks.{History, newest};
 ghost use Rattle.kmin_fakes.specs.MemoryDisks.{memory_state, memory_draft, content_view, history_after, AppendsHolds, AppendsRename};
 

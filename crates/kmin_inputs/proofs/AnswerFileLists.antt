@@ -1,11 +1,11 @@
 -- Answer files, one after another: what they record, and where a run ends among them.
 use Rattle.std.proofs.Common.{append-nil}
 use Rattle.std.specs.Io.KnownBytes.{Consumes}
-use Rattle.kmin_inputs.proofs.Common.{◌≡◌, ℕ, ◌⊎◌, inl, inr, List, [], ◌∷◌, ◌++◌, Option, Some, None, Result, Ok, Err, OnOk, refl, sym, subst, AnswersKind, Malformed, TwoAnswers, NotUtf8, LineTooLong, TooManyLines, TooLarge, Read, OutOfMemory, AnswersFault, RecordedAnswers, complete, cut_by}
+use Rattle.kmin_inputs.proofs.Common.{◌≡◌, ℕ, ◌⊎◌, inl, inr, List, [], ◌∷◌, ◌++◌, Option, Some, None, Err, refl, sym, subst, AnswersKind, Malformed, TwoAnswers, NotUtf8, LineTooLong, TooManyLines, TooLarge, Read, OutOfMemory, AnswersFault, RecordedAnswers, complete, cut_by}
 use Rattle.kmin_inputs.proofs.Common.{AreAnswersRefused, ReadsToEnd, end_of_file, FileContent, OpensAs, SpelledBytes, TakesLines, ErrorLine, FilesRecord, answers_status, lines_append, rest_of, whole_content}
+use Rattle.kc_value.specs.FileContents.{AreKnownBytes}
 use Rattle.kc_macros_model.specs.AnswerFiles.{answers_read}
 use Rattle.kc_answers.specs.ReadAnswers.{AreRecorded}
-use Rattle.kmin_report.specs.KnownBytes.{AreKnownBytes}
 use Rattle.kmin_report.specs.Reports.{answers_line}
 use Rattle.kmin_inputs.specs.JobAnswers.{none, file}
 use Rattle.kmin_inputs.specs.AnswerStops.{StopsAtAnswers, StopsAmongAnswers, refused}

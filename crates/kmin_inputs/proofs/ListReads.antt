@@ -1,8 +1,9 @@
 -- Files that are read whole, by what is known of them.
-use Rattle.std.proofs.Common.{codes, option_map}
-use Rattle.kmin_inputs.proofs.Common.{◌≡◌, Bool, Result, Ok, Err, OnOk, ℕ, ◌+◌, ◌≤◌, inl, inr, true, false, List, [], ◌∷◌, ◌++◌, Option, Some, None, refl, sym, ap, ◌∙◌, subst, arith, bytes_eq, FileContent, OpensAs, SpelledBytes, TakesLines, ErrorLine, lines_append, inputs_named, list_content}
+use Rattle.std.proofs.Common.{codes}
+use Rattle.kmin_inputs.proofs.Common.{◌≡◌, Bool, Result, Ok, Err, OnOk, ℕ, ◌+◌, ◌≤◌, inl, inr, true, false, List, [], ◌∷◌, ◌++◌, Option, Some, refl, sym, ap, ◌∙◌, subst, arith, bytes_eq, FileContent, OpensAs, SpelledBytes, TakesLines, ErrorLine, lines_append, inputs_named, list_content}
 use Rattle.kmin_inputs.proofs.Common.{AreFilesRead, for_memory}
 use Rattle.std.proofs.lemmas.List.Sums.{sum_by-append}
+use Rattle.kc_value.proofs.KnownContents.{reader_opens}
 use Rattle.std.proofs.lemmas.Bool.{cases_Bool, false≢true}
 use Rattle.kmin_report.specs.Reports.{last_lines}
 use Rattle.kmin_lines.specs.WordFiles.{files_of}
@@ -12,15 +13,10 @@ use Rattle.kmin_inputs.specs.WordFiles.{none, file, StopsAtWords, unread}
 use Rattle.kmin_inputs.specs.WordFiles as stops
 use Rattle.kmin_inputs.specs.between.ReadFiles.{StopsAmongLists, at_file}
 
--- reading standard input agrees with what is known of it
-pub input_opens : (left : Option (List ℕ)) → OpensAs (option_map (λ (bytes : List ℕ). Some bytes) left) (Some left)
-input_opens None = tt
-input_opens (Some bytes) = refl
-
 -- a list of paths whose own path is `-` has the content of standard input
 pub opens_input : (content_of : List ℕ → FileContent) (left : Option (List ℕ)) (path : List ℕ) → bytes_eq path (codes "-") ≡ true
     → OpensAs (list_content content_of left path) (Some left)
-opens_input content_of left path e = rw e (input_opens left)
+opens_input content_of left path e = rw e (reader_opens left)
 
 -- a list of paths whose own path isn't `-` has the content of the file at that path
 pub opens_file : (content_of : List ℕ → FileContent) (left reader : Option (List ℕ)) (path : List ℕ) → bytes_eq path (codes "-") ≡ false

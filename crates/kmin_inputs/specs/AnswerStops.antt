@@ -1,13 +1,11 @@
 -- Answer files that end a job.
 use Rattle.std.specs.Prelude.{◌≡◌, ℕ, ◌<◌, List, [], ◌∷◌, ◌++◌, None, Err, length}
 use Rattle.kc_value.specs.declared.limits.TheConstants.{MAX_ANSWER_BYTES}
+use Rattle.kc_value.specs.FileContents.{FileContent, AreKnownBytes, OpensAs}
 use Rattle.kc_macros_model.specs.declared.fault.AnswersKind.{AnswersKind}
 use Rattle.kc_macros_model.specs.declared.fault.AnswersKind.TheVariants.{TooLarge, Read, OutOfMemory}
 use Rattle.kc_macros_model.specs.declared.fault.AnswersFault.{AnswersFault}
 use Rattle.kc_macros_model.specs.AnswerFiles.{RecordedAnswers, FileEnd, complete, cut_by, answers_read}
-use Rattle.kc_files.specs.TreeContents.{FileContent}
-use Rattle.kmin_report.specs.KnownBytes.{AreKnownBytes}
-use Rattle.kmin_disk.specs.Contents.{OpensAs}
 use Rattle.kmin_inputs.specs.JobAnswers.{FilesRecord}
 use Rattle.kmin_report.specs.Reports.{ErrorLine, answers_line}
 

@@ -1,15 +1,16 @@
 -- Files, folders and the environment, as far as they are known.
 use Rattle.std.specs.Prelude.{◌≡◌, ℕ, List, ◌∷◌, ◌++◌, Option, Some, None, take}
 use Rattle.kc_value.specs.declared.limits.TheConstants.{MAX_FILE_BYTES}
+use Rattle.kc_value.specs.FileContents.{FileContent, unknown, absent, known}
 use Rattle.kc_tokens.specs.declared.language.Language.{Language}
 use Rattle.kc_tree_model.specs.TreeFiles.{Files, file_at}
-use Rattle.kc_files.specs.TreeContents.{FileContent, FolderContent}
+use Rattle.kc_files.specs.TreeContents.{FolderContent}
 
 -- these bytes agree with what is known of a file: they are all its bytes, but no more than the first `MAX_FILE_BYTES`
 abbrev pub MatchContentStart : FileContent → List ℕ → Type 0
-MatchContentStart None bytes = Unit {0}
-MatchContentStart (Some None) bytes = ⊥
-MatchContentStart (Some (Some content)) bytes = bytes ≡ take MAX_FILE_BYTES content
+MatchContentStart unknown bytes = Unit {0}
+MatchContentStart absent bytes = ⊥
+MatchContentStart (known all) bytes = bytes ≡ take MAX_FILE_BYTES all
 
 -- the path, for the system, of a file of a tree: the root, a slash, and its path in the tree
 abbrev pub path_below : List ℕ → List ℕ → List ℕ
@@ -27,10 +28,9 @@ VariableContent = Option (Option (List ℕ))
 -- a value of a variable of the environment, `None` if it isn't set, agrees with what is known of the variable
 abbrev pub MatchVariable : VariableContent → Option (List ℕ) → Type 0
 MatchVariable None value = Unit {0}
-MatchVariable (Some known) value = value ≡ known
+MatchVariable (Some of_variable) value = value ≡ of_variable
 
--- all that is known of the surroundings of a job: files (`Some None` for one that can't be opened), regular files, the names in
--- folders, and the environment
+-- all that is known of the surroundings of a job: files, regular files, the names in folders, and the environment
 pub record Surroundings : Type 0 where
   pub content : List ℕ → FileContent
   pub regular : List ℕ → FileContent

@@ -5,12 +5,11 @@ use Rattle.kc_value.specs.declared.limits.TheConstants.{MAX_VARIABLE_BYTES}
 use Rattle.kc_tree_model.specs.Keywords.{keyword_in_table}
 use Rattle.kc_tree_model.specs.Limits.{is_in_list}
 use Rattle.kc_value.specs.Lines.{has_newline}
+use Rattle.kc_value.specs.FileContents.{FileContent, AreKnownBytes}
 use Rattle.kc_macros_model.specs.Programs.{Answer}
 use Rattle.kc_macros_model.specs.AnswerFiles.{RecordedAnswers, complete, answers_read}
-use Rattle.kc_files.specs.TreeContents.{FileContent}
 use Rattle.kmin_options.specs.Jobs.{Definition, Expansion}
 use Rattle.kmin_inputs.specs.FileContents.{VariableContent, MatchVariable}
-use Rattle.kmin_report.specs.KnownBytes.{AreKnownBytes}
 
 -- Answer files, whose bytes match what is known of them, are accepted, and their answers added to `earlier` give `recorded`.
 pub data FilesRecord (content_of : List ℕ → FileContent) : List (List ℕ) → (earlier recorded : RecordedAnswers) → Type 0 where

@@ -1,15 +1,14 @@
 -- Files that are read whole before all others: the list of `tidy --from`, and those of the words `@FILE`.
-use Rattle.std.specs.Prelude.{◌≡◌, ℕ, ◌<◌, ◌≤◌, List, [], ◌∷◌, ◌++◌, Option, Some, codes, length, bytes_eq, option_map, if◌then◌else◌}
+use Rattle.std.specs.Prelude.{◌≡◌, ℕ, ◌<◌, ◌≤◌, List, [], ◌∷◌, ◌++◌, Option, codes, length, bytes_eq, if◌then◌else◌}
 use Rattle.kc_value.specs.declared.limits.TheConstants.{MAX_LIST_BYTES}
+use Rattle.kc_value.specs.FileContents.{FileContent, AreKnownBytes, content_of_reader}
 use Rattle.kc_dotconfig_model.specs.declared.fault.LoadKind.TheVariants.{Read, TooLarge}
-use Rattle.kc_files.specs.TreeContents.{FileContent}
-use Rattle.kmin_report.specs.KnownBytes.{AreKnownBytes}
 use Rattle.kmin_report.specs.Reports.{ErrorLine, fault_line, refused_line}
 
 -- what is known of the list of `tidy --from`, or of the file of a word `@FILE`: its content is that of standard input if its path is
 -- `-`, or that of the file at its path
 abbrev pub list_content : (content_of : List ℕ → FileContent) → (left : Option (List ℕ)) → (path : List ℕ) → FileContent
-list_content content_of left path = if bytes_eq path (codes "-") then option_map (λ (bytes : List ℕ). Some bytes) left else content_of path
+list_content content_of left path = if bytes_eq path (codes "-") then content_of_reader left else content_of path
 
 -- these bytes agree with what is known of such a file, and are no more than `MAX_LIST_BYTES`
 pub record IsListRead (content : FileContent) (bytes : List ℕ) : Type 0 where

@@ -1,6 +1,6 @@
 -- The files of the words `@FILE` of a command line, and what the words represent.
 use Rattle.std.specs.Prelude.{◌≡◌, ℕ, ◌<◌, Bool, true, false, nat_lt, List, [], ◌∷◌, ◌++◌, Option}
-use Rattle.kc_files.specs.TreeContents.{FileContent}
+use Rattle.kc_value.specs.FileContents.{FileContent}
 use Rattle.kmin_lines.specs.WordLines.{are_utf8}
 use Rattle.kmin_lines.specs.WordFiles.{files_of, with_files}
 use Rattle.kmin_cli.specs.Inputs.{inputs_named, named_twice}

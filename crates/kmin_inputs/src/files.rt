@@ -1,10 +1,10 @@
 //! The files that a job names, the folders of its tree, and the environment.
-ghost use Rattle.std.specs.Prelude.{◌≡◌, ◌≢◌, ◌<◌, ◌≤◌, ℕ, Some, None, IfOk, IfErr, OnOk, OnErr, IfSome, IfNone, OnSome, option_map, string_bytes};
+ghost use Rattle.std.specs.Prelude.{◌≡◌, ◌≢◌, ◌<◌, ◌≤◌, ℕ, IfOk, IfErr, OnOk, OnErr, IfSome, IfNone, OnSome, option_map, string_bytes};
+ghost use Rattle.kc_value.specs.FileContents.{OpensAs, absent};
 ghost use Rattle.kc_files.specs.TextViews.{texts_of};
 ghost use Rattle.kc_files.specs.declared.files.FileStop.TheVariants.{Failed as ListFailed};
 ghost use Rattle.kc_files.specs.TreeContents.{ListsAs, HasRisen};
 ghost use Rattle.kmin_inputs.specs.FileContents.{Surroundings, MatchVariable};
-ghost use Rattle.kmin_disk.specs.Contents.{OpensAs};
 
 use kc_files::FileStop;
 use kc_value::{Failed, Seed, Source};
@@ -58,7 +58,7 @@ pub trait Files {
         ensures same { surroundings self.new ≡ surroundings self.old }
         ensures opens { IfOk result (λ reader. OpensAs ((surroundings self.old).regular path.now) (option_map Self.File.Source.left reader)) }
         ensures unread { IfOk result (λ reader. IfSome reader (λ file. Self.File.Source.failures file ≡ 0)) }
-        ensures there { OnErr result ((surroundings self.old).regular path.now ≢ Some None) }
+        ensures there { OnErr result ((surroundings self.old).regular path.now ≢ absent) }
         ensures rising { failures self.old ≤ failures self.new }
         ensures failed { OnErr result (HasRisen (failures self.old) (failures self.new)) }
         ensures unfailed { OnOk result (failures self.new ≡ failures self.old) };

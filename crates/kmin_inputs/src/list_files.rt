@@ -1,7 +1,7 @@
 //! Files that are read whole before all others: the list of `tidy --from`, and those of the words `@FILE`.
 ghost use Rattle.std.specs.Prelude.{◌≡◌, ◌≤◌, ◌⊎◌, [], List, ℕ, Some, false, bytes_eq, codes, IfOk, IfErr, OnOk};
-ghost use Rattle.kc_files.specs.TreeContents.{FileContent, HasRisen};
-ghost use Rattle.kmin_disk.specs.Contents.{OpensAs};
+ghost use Rattle.kc_value.specs.FileContents.{FileContent, OpensAs};
+ghost use Rattle.kc_files.specs.TreeContents.{HasRisen};
 ghost use Rattle.kmin_report.specs.Reports.{ErrorLine, fault_line};
 ghost use Rattle.kmin_report.specs.StandardError.{TakesLine, TakesLines};
 ghost use Rattle.kmin_report.specs.between.RunErrors.{status_of};
@@ -9,7 +9,7 @@ ghost use Rattle.kmin_inputs.specs.ListFiles.{IsListRead, StopsReadingList, list
 
 use crate::files::Files;
 use kc_dotconfig_model::LoadKind;
-use kc_value::{MAX_LIST_BYTES, ReadBytes, ReadEnd, Source, read_up_to};
+use kc_value::{MAX_BLOCK_BYTES, MAX_LIST_BYTES, ReadBytes, ReadEnd, Source, read_up_to};
 use kmin_report::{Message, Messages, RunError};
 use std::alloc::Global;
 
@@ -62,7 +62,8 @@ fn read_from<S: Source, E: Messages>(
     ensures unfailed { OnOk result (S.failures source.new ≡ S.failures source.old) }
     ensures failed { IfErr result (λ stop. status_of stop ≡ 5 → HasRisen (S.failures source.old) (S.failures source.new)) }
 {
-    let ReadBytes { bytes, end } = read_up_to(alloc, source, MAX_LIST_BYTES + 1, 0)?;
+    let block = &mut [0; MAX_BLOCK_BYTES];
+    let ReadBytes { bytes, end } = read_up_to(alloc, source, MAX_LIST_BYTES + 1, 0, block)?;
     match end {
         ReadEnd::AtEnd => Ok(bytes),
         ReadEnd::AtLimit => {

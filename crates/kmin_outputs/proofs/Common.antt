@@ -15,7 +15,6 @@ pub use Rattle.kc_dotconfig_model.specs.declared.choice_line.ChoiceLine.{ChoiceL
 pub use Rattle.kc_dotconfig_model.specs.declared.fault.LoadKind.{LoadKind}
 pub use Rattle.kc_dotconfig_model.specs.declared.fault.LoadKind.TheVariants.{LineTooLong, Malformed, NotUtf8, OutOfMemory, Read, TooLarge, TooManyLines}
 pub use Rattle.kc_expr.specs.Expr.{SymbolValue}
-pub use Rattle.kc_files.specs.TreeContents.{FileContent}
 pub use Rattle.kc_minimal_model.specs.Differences.{differences}
 pub use Rattle.kc_minimal_model.specs.SymbolLine.{spelled}
 pub use Rattle.kc_rules.specs.between.SettledViews.{tree_of_settled}
@@ -24,11 +23,12 @@ pub use Rattle.kc_rules_model.specs.declared.values.UnitValue.{UnitValue}
 pub use Rattle.kc_rules_model.specs.declared.values.UserValue.{UserValue}
 pub use Rattle.kc_solver.proofs.ErrorExits.{no_success, no_value}
 pub use Rattle.kc_tree_model.specs.Trees.{Tree}
+pub use Rattle.kc_value.specs.FileContents.{FileContent}
 pub use Rattle.kmin_inputs.proofs.FailureCounts.{rises_later}
 pub use Rattle.kmin_outputs.specs.Outputs.{FilesMean, difference_line}
 pub use Rattle.kmin_outputs.specs.Stops.{StopsAmongFiles}
 pub use Rattle.kmin_outputs.specs.Strictness.{AllowsNotices}
-pub use Rattle.kmin_outputs.specs.between.Comparisons.{StopsAnswering, StopsComparing, answering_output, at_left, at_right, at_the_choices, comparing_output}
+pub use Rattle.kmin_outputs.specs.between.Comparisons.{StopsProducingOutput, StopsComparing, producing_output, at_left, at_right, at_the_choices, comparing_output}
 pub use Rattle.kmin_outputs.specs.between.Lines.{line_between}
 pub use Rattle.kmin_outputs.specs.between.LoadResults.{AreLoaded, AreRead, IsLoaded, lists_of}
 pub use Rattle.kmin_outputs.specs.between.LoadStops.{StopsLoad, StopsNoticing, at_file, for_memory, load_lines, load_status, refused}

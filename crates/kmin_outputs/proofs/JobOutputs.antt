@@ -4,7 +4,7 @@ use Rattle.std.specs.declared.alloc.AllocError.{AllocError}
 use Rattle.std.specs.declared.alloc.Global.{Global}
 use Rattle.kmin_outputs.proofs.Common.{◌≡◌, ◌≢◌, ℕ, Bool, true, false, suc, ◌≤◌, ◌⊎◌, inl, inr, append-nil, List, [], ◌∷◌, ◌++◌, Option, Result, Ok, Err, IfOk, IfErr, refl, sym, ap, ◌∙◌, subst, map, arith, flat_map, Tree, tree_of_settled, FileFormat, empty_assignment, UnitValue, IsSolved, tree_in}
 use Rattle.kmin_outputs.proofs.Common.{differences, FileContent, UserValue, RunError, ErrorLine, notice_lines, choice_notice_lines, ChoiceLine, choice_lines_from, AllowsNotices, SpelledBytes, TakesLines, FilesMean, difference_line, StopsAmongFiles, AreLoaded, AreRead, lists_of, StopsNoticing}
-use Rattle.kmin_outputs.proofs.Common.{StopsAnswering, at_the_choices, answering_output, StopsComparing, at_left, at_right, comparing_output, ReadFiles, if_ok_map, status_of, lines_append}
+use Rattle.kmin_outputs.proofs.Common.{StopsProducingOutput, at_the_choices, producing_output, StopsComparing, at_left, at_right, comparing_output, ReadFiles, if_ok_map, status_of, lines_append}
 use Rattle.kc_tree_model.specs.TreeFiles.{Files}
 use Rattle.kc_rules_model.specs.Reports.{unmet}
 use Rattle.kc_rules_model.specs.declared.profile.Profile.{Profile}
@@ -25,7 +25,7 @@ use Rattle.kc_dotconfig_model.specs.OtherChoices.{placed_from, other_choices_of,
 use Rattle.kmin_outputs.specs.Strictness.{RefusesNotices}
 use Rattle.kmin_trees.specs.AcceptedTrees.{AreAccepted}
 use Rattle.kmin_outputs.proofs.Sequences.{mean_append, notices_append}
-use Rattle.kmin_outputs.specs.Outputs.{Resolve, Answer, of_files, of_comparison, IsTextOfVerb}
+use Rattle.kmin_outputs.specs.Outputs.{Resolve, HasOutput, of_files, of_comparison, IsTextOfVerb}
 use Rattle.kmin_outputs.specs.Statuses.{status_of_list, status_of_verb}
 use Rattle.kmin_outputs.specs.Stops.{Stops, StopsAtChoices, StopsBefore, among_files, at_choices, NoticesOnChoices}
 use Rattle.kmin_outputs.specs.Stops as stops
@@ -78,7 +78,7 @@ module _ (content_of : List ℕ → FileContent) (settings : Settings) (config :
       → TakesLines from failed_from (choice_notice_lines paths (other_choices (tree_of_settled settled) config.values l.loaded.meanings)) to failed_to
   noticed_are from to failed_from failed_to t = subst (λ ps. TakesLines from failed_from (choice_notice_lines paths ps) to failed_to) places_are t
 
-pub answers_files : (content_of : List ℕ → FileContent) (settings : Settings) (verb : Verb) (config : Configured) (settled : Settled)
+pub files_have_output : (content_of : List ℕ → FileContent) (settings : Settings) (verb : Verb) (config : Configured) (settled : Settled)
     (paths : List (List ℕ)) (lists : List (List ChoiceLine)) (text : List ℕ) (status : ℕ) (taken middle taken_after : SpelledBytes)
     (failed failed_middle failed_after : ℕ)
     → config.system ≡ settled → profile_of settled ≡ settings.profile → IsSolved config
@@ -89,9 +89,9 @@ pub answers_files : (content_of : List ℕ → FileContent) (settings : Settings
     → IsTextOfVerb settings (tree_in config) config.users config.values verb text
     → status ≡ status_of_verb (tree_in config) config.users config.values verb
     → (notices : List ErrorLine) × ((texts : Files) → AreAccepted texts settings.tree (tree_of_settled settled)
-    → Answer content_of settings texts (over verb paths) text status notices)
+    → HasOutput content_of settings texts (over verb paths) text status notices)
     × TakesLines taken failed notices taken_after failed_after
-answers_files content_of settings verb config settled paths lists text status taken middle taken_after failed failed_middle failed_after e p s l a k t n =
+files_have_output content_of settings verb config settled paths lists text status taken middle taken_after failed failed_middle failed_after e p s l a k t n =
     let loaded = l.loaded in
     let same : IsTextOfVerb settings (tree_of_settled settled) (files_assignment (tree_of_settled settled) loaded.meanings) config.values verb text =
     rw (← loaded.users_are, ← e) t in
@@ -110,12 +110,12 @@ pub canonical_text : (format : FileFormat) (profile : Profile) (tree : Tree) (us
     (r : Result (Vec ℕ Global) AllocError) (a : Result JobOutput AllocError)
     → verb ≡ Min
     → IfOk r (λ text. IsCanonicalText format profile tree values text.items)
-    → IfOk a (λ answer. r ≡ Ok answer.text)
-    → IfOk a (λ answer. (settings : Settings) → settings.format ≡ format → settings.profile ≡ profile
-    → IsTextOfVerb settings tree users values verb answer.text.items)
+    → IfOk a (λ output. r ≡ Ok output.text)
+    → IfOk a (λ output. (settings : Settings) → settings.format ≡ format → settings.profile ≡ profile
+    → IsTextOfVerb settings tree users values verb output.text.items)
 canonical_text format profile tree users values verb r (Err e) m h k = tt
-canonical_text format profile tree users values verb r (Ok answer) m h k =
-    let made : IsCanonicalText format profile tree values answer.text.items = rw k at h in λ settings p q. rw (m, p, q) made
+canonical_text format profile tree users values verb r (Ok output) m h k =
+    let made : IsCanonicalText format profile tree values output.text.items = rw k at h in λ settings p q. rw (m, p, q) made
 
 -- the exit status of a command that lists something is at most 1
 pub status_at_most_one : {A : Type 0} (says_so : Bool) (listed : List A) → status_of_list says_so listed ≤ 1
@@ -250,12 +250,12 @@ module _ (content_of : List ℕ → FileContent) (settings : Settings) (left rig
         all_noted,
       )
 
-      pub answers_comparison : (text : List ℕ) (status : ℕ)
+      pub comparison_has_output : (text : List ℕ) (status : ℕ)
           → text ≡ flat_map (difference_line settings.output_form settings.format.strings (tree_in left)) (differences (tree_in left) left.values right.values)
           → status ≡ status_of_list true (differences (tree_in left) left.values right.values)
-          → (notices : List ErrorLine) × ((texts : Files) → AreAccepted texts settings.tree tree → Answer content_of settings texts (compare a b) text status notices)
+          → (notices : List ErrorLine) × ((texts : Files) → AreAccepted texts settings.tree tree → HasOutput content_of settings texts (compare a b) text status notices)
           × TakesLines taken failed notices after failed_after
-      answers_comparison text status t s = (
+      comparison_has_output text status t s = (
         of_lines ++ (choice_notice_lines (a ∷ []) left_choices ++ choice_notice_lines (b ∷ []) right_choices),
         (λ texts accepted. of_comparison tree a b hl.loaded.meanings hr.loaded.meanings left.values right.values refl accepted
             left_resolved right_resolved (rw (← same_left) t) (rw (← same_left) s) left_allowed both_allowed refl),
@@ -308,33 +308,33 @@ module _ (content_of : List ℕ → FileContent) (settings : Settings) (verb : V
     (same : read.config.system ≡ settled) (p : profile_of settled ≡ settings.profile) (s : IsSolved read.config)
     (l : AreRead content_of settings.format settings.strict (tree_of_settled settled) paths (empty_assignment (tree_of_settled settled)) read.config.users
     [] (lists_of read.chosen.items) taken failed middle failed_middle) where
-  pub verb_answers : (r : Result JobOutput RunError)
-      → IfOk r (λ answer. (given : Settings) → given.format ≡ settings.format → given.profile ≡ profile_of read.config.system
-      → IsTextOfVerb given (tree_in read.config) read.config.users read.config.values verb answer.text.items)
-      → IfOk r (λ answer. answer.status ≡ status_of_verb (tree_in read.config) read.config.users read.config.values verb)
-      → IfOk r (λ answer. AreNoticed settings.strict paths read middle failed_middle after failed_after)
-      → IfOk r (λ answer. (notices : List ErrorLine) × ((texts : Files) → AreAccepted texts settings.tree (tree_of_settled settled)
-      → Answer content_of settings texts (over verb paths) answer.text.items answer.status notices) × TakesLines taken failed notices after failed_after)
-  verb_answers (Err stop) t n k = tt
-  verb_answers (Ok answer) t n k =
-      answers_files content_of settings verb read.config settled paths (lists_of read.chosen.items) answer.text.items answer.status taken middle after failed
+  pub verb_outputs : (r : Result JobOutput RunError)
+      → IfOk r (λ output. (given : Settings) → given.format ≡ settings.format → given.profile ≡ profile_of read.config.system
+      → IsTextOfVerb given (tree_in read.config) read.config.users read.config.values verb output.text.items)
+      → IfOk r (λ output. output.status ≡ status_of_verb (tree_in read.config) read.config.users read.config.values verb)
+      → IfOk r (λ output. AreNoticed settings.strict paths read middle failed_middle after failed_after)
+      → IfOk r (λ output. (notices : List ErrorLine) × ((texts : Files) → AreAccepted texts settings.tree (tree_of_settled settled)
+      → HasOutput content_of settings texts (over verb paths) output.text.items output.status notices) × TakesLines taken failed notices after failed_after)
+  verb_outputs (Err stop) t n k = tt
+  verb_outputs (Ok output) t n k =
+      files_have_output content_of settings verb read.config settled paths (lists_of read.chosen.items) output.text.items output.status taken middle after failed
       failed_middle failed_after same p s l k.allowed k.noticed (t settings refl (sym (ap profile_of same ∙ p))) n
 
-  answering_stops : (status : ℕ) → StopsAnswering settings.strict paths read status middle failed_middle after failed_after
+  producing_stops : (status : ℕ) → StopsProducingOutput settings.strict paths read status middle failed_middle after failed_after
       → (lines : List ErrorLine) × StopsOverTree content_of settings (tree_of_settled settled) (over verb paths) status lines × TakesLines taken failed lines after failed_after
-  answering_stops status (at_the_choices n) =
+  producing_stops status (at_the_choices n) =
       stopped_noticing content_of settings verb read.config settled paths (lists_of read.chosen.items) taken middle failed failed_middle same p s l status after
       failed_after n
-  answering_stops status (answering_output n e) =
+  producing_stops status (producing_output n e) =
       stopped_after content_of settings verb read.config settled paths (lists_of read.chosen.items) taken middle failed failed_middle same p s l status after
       failed_after e n.allowed n.noticed
 
   pub verb_stops : (r : Result JobOutput RunError)
-      → IfErr r (λ stop. StopsAnswering settings.strict paths read (status_of stop) middle failed_middle after failed_after)
+      → IfErr r (λ stop. StopsProducingOutput settings.strict paths read (status_of stop) middle failed_middle after failed_after)
       → IfErr r (λ stop. (lines : List ErrorLine) × StopsOverTree content_of settings (tree_of_settled settled) (over verb paths) (status_of stop) lines
       × TakesLines taken failed lines after failed_after)
-  verb_stops (Ok answer) h = tt
-  verb_stops (Err stop) h = answering_stops (status_of stop) h
+  verb_stops (Ok output) h = tt
+  verb_stops (Err stop) h = producing_stops (status_of stop) h
 
 -- the output of a comparison of two configurations of one file each, or its end, once the files are read
 module _ (content_of : List ℕ → FileContent) (settings : Settings) (before after : ReadFiles) (settled : Settled) (a b : List ℕ)
@@ -342,17 +342,17 @@ module _ (content_of : List ℕ → FileContent) (settings : Settings) (before a
     (same : (before.config.system ≡ settled) × (after.config.system ≡ settled)) (p : profile_of settled ≡ settings.profile)
     (s : IsSolved before.config × IsSolved after.config)
     (l : AreBothRead content_of settings.format settings.strict (tree_of_settled settled) a b before after taken failed middle failed_middle) where
-  pub comparison_answers : (r : Result JobOutput RunError)
-      → IfOk r (λ answer. answer.text.items ≡ flat_map (difference_line settings.output_form settings.format.strings (tree_in before.config)) (differences (tree_in before.config) before.config.values after.config.values))
-      → IfOk r (λ answer. answer.status ≡ status_of_list true (differences (tree_in before.config) before.config.values after.config.values))
-      → IfOk r (λ answer. AreBothNoticed settings.strict a b before after middle failed_middle taken_after failed_after)
-      → IfOk r (λ answer. (notices : List ErrorLine) × ((texts : Files) → AreAccepted texts settings.tree (tree_of_settled settled)
-      → Answer content_of settings texts (compare a b) answer.text.items answer.status notices) × TakesLines taken failed notices taken_after failed_after)
-  comparison_answers (Err stop) t n k = tt
-  comparison_answers (Ok answer) t n k =
-      answers_comparison content_of settings before.config after.config settled a b _ _ taken l.between middle failed l.failed_between failed_middle
+  pub comparison_outputs : (r : Result JobOutput RunError)
+      → IfOk r (λ output. output.text.items ≡ flat_map (difference_line settings.output_form settings.format.strings (tree_in before.config)) (differences (tree_in before.config) before.config.values after.config.values))
+      → IfOk r (λ output. output.status ≡ status_of_list true (differences (tree_in before.config) before.config.values after.config.values))
+      → IfOk r (λ output. AreBothNoticed settings.strict a b before after middle failed_middle taken_after failed_after)
+      → IfOk r (λ output. (notices : List ErrorLine) × ((texts : Files) → AreAccepted texts settings.tree (tree_of_settled settled)
+      → HasOutput content_of settings texts (compare a b) output.text.items output.status notices) × TakesLines taken failed notices taken_after failed_after)
+  comparison_outputs (Err stop) t n k = tt
+  comparison_outputs (Ok output) t n k =
+      comparison_has_output content_of settings before.config after.config settled a b _ _ taken l.between middle failed l.failed_between failed_middle
       same.0 same.1 p s.0 s.1 l.left_read l.right_read k.between k.failed_between k.left_noticed.allowed k.left_noticed.noticed taken_after failed_after
-      k.right_noticed.allowed k.right_noticed.noticed answer.text.items answer.status t n
+      k.right_noticed.allowed k.right_noticed.noticed output.text.items output.status t n
 
   comparing_stops : (status : ℕ) → StopsComparing settings.strict a b before after status middle failed_middle taken_after failed_after
       → (lines : List ErrorLine) × StopsOverTree content_of settings (tree_of_settled settled) (compare a b) status lines
@@ -372,33 +372,33 @@ module _ (content_of : List ℕ → FileContent) (settings : Settings) (before a
       → IfErr r (λ stop. StopsComparing settings.strict a b before after (status_of stop) middle failed_middle taken_after failed_after)
       → IfErr r (λ stop. (lines : List ErrorLine) × StopsOverTree content_of settings (tree_of_settled settled) (compare a b) (status_of stop) lines
       × TakesLines taken failed lines taken_after failed_after)
-  comparison_stops (Ok answer) h = tt
+  comparison_stops (Ok output) h = tt
   comparison_stops (Err stop) h = comparing_stops (status_of stop) h
 
 -- the status of a result that is that of a list, or of a verb, is at most 1
-pub list_status_small : {A : Type 0} (r : Result JobOutput RunError) (listed : List A) → IfOk r (λ answer. answer.status ≡ status_of_list true listed)
-    → IfOk r (λ answer. answer.status ≤ 1)
+pub list_status_small : {A : Type 0} (r : Result JobOutput RunError) (listed : List A) → IfOk r (λ output. output.status ≡ status_of_list true listed)
+    → IfOk r (λ output. output.status ≤ 1)
 list_status_small r listed h =
-    if_ok_map r (λ answer. answer.status ≡ status_of_list true listed) (λ answer. answer.status ≤ 1)
-    (λ answer e. subst (λ n. n ≤ 1) (sym e) (status_at_most_one true listed)) h
+    if_ok_map r (λ output. output.status ≡ status_of_list true listed) (λ output. output.status ≤ 1)
+    (λ output e. subst (λ n. n ≤ 1) (sym e) (status_at_most_one true listed)) h
 
 pub verb_status_small : (r : Result JobOutput RunError) (tree : Tree) (users : List (Option UserValue)) (values : List UnitValue) (verb : Verb)
-    → IfOk r (λ answer. answer.status ≡ status_of_verb tree users values verb) → IfOk r (λ answer. answer.status ≤ 1)
+    → IfOk r (λ output. output.status ≡ status_of_verb tree users values verb) → IfOk r (λ output. output.status ≤ 1)
 verb_status_small r tree users values verb h =
-    if_ok_map r (λ answer. answer.status ≡ status_of_verb tree users values verb) (λ answer. answer.status ≤ 1)
-    (λ answer e. subst (λ n. n ≤ 1) (sym e) (status_of_verb_at_most_one tree users values verb)) h
+    if_ok_map r (λ output. output.status ≡ status_of_verb tree users values verb) (λ output. output.status ≤ 1)
+    (λ output e. subst (λ n. n ≤ 1) (sym e) (status_of_verb_at_most_one tree users values verb)) h
 
 -- the output of a command, or its end, over the texts of its tree
 module _ (known : Surroundings) (settings : Settings) (task : Task) (tree : Tree) (t : TreeTexts)
     (are : AreTextsOfJob known settings t) (accepted : AreAccepted t.texts settings.tree tree)
     (taken middle taken_after : SpelledBytes) (failed failed_middle failed_after : ℕ) (before : TakesLines taken failed t.lines middle failed_middle) where
-  pub job_answers : (r : Result JobOutput RunError)
-      → IfOk r (λ answer. (notices : List ErrorLine) × ((texts : Files) → AreAccepted texts settings.tree tree
-      → Answer known.content settings texts task answer.text.items answer.status notices) × TakesLines middle failed_middle notices taken_after failed_after)
-      → IfOk r (λ answer. (t : TreeTexts) × (notices : List ErrorLine) × AreTextsOfJob known settings t × Answer known.content settings t.texts task
-      answer.text.items answer.status notices × TakesLines taken failed (t.lines ++ notices) taken_after failed_after)
-  job_answers (Err stop) h = tt
-  job_answers (Ok answer) h = (
+  pub job_outputs : (r : Result JobOutput RunError)
+      → IfOk r (λ output. (notices : List ErrorLine) × ((texts : Files) → AreAccepted texts settings.tree tree
+      → HasOutput known.content settings texts task output.text.items output.status notices) × TakesLines middle failed_middle notices taken_after failed_after)
+      → IfOk r (λ output. (t : TreeTexts) × (notices : List ErrorLine) × AreTextsOfJob known settings t × HasOutput known.content settings t.texts task
+      output.text.items output.status notices × TakesLines taken failed (t.lines ++ notices) taken_after failed_after)
+  job_outputs (Err stop) h = tt
+  job_outputs (Ok output) h = (
     t,
     h.0,
     are,
@@ -411,7 +411,7 @@ module _ (known : Surroundings) (settings : Settings) (task : Task) (tree : Tree
       × TakesLines middle failed_middle lines taken_after failed_after)
       → IfErr r (λ stop. (lines : List ErrorLine) × StopsBefore known counted counted_after settings task (status_of stop) lines × TakesLines taken failed lines taken_after
       failed_after)
-  job_stops counted counted_after (Ok answer) h = tt
+  job_stops counted counted_after (Ok output) h = tt
   job_stops counted counted_after (Err stop) h = (
     t.lines ++ h.0,
     either h.1,

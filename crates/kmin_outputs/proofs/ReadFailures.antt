@@ -1,6 +1,6 @@
 -- Runs that end with the status of a failure had one.
-use Rattle.kmin_outputs.proofs.Common.{◌≡◌, ℕ, Bool, List, Option, sym, ◌∙◌, arith, Tree, UnitValue, FileFormat, ChoiceLine, LoadKind, Malformed, NotUtf8, LineTooLong, TooManyLines, Read, OutOfMemory, TooLarge, ReportsFault, SpelledBytes, ReadFiles, StopsAnswering, StopsComparing, at_the_choices}
-use Rattle.kmin_outputs.proofs.Common.{answering_output, at_left, at_right, comparing_output, StopsLoad, StopsNoticing, load_status, refused, for_memory}
+use Rattle.kmin_outputs.proofs.Common.{◌≡◌, ℕ, Bool, List, Option, sym, ◌∙◌, arith, Tree, UnitValue, FileFormat, ChoiceLine, LoadKind, Malformed, NotUtf8, LineTooLong, TooManyLines, Read, OutOfMemory, TooLarge, ReportsFault, SpelledBytes, ReadFiles, StopsProducingOutput, StopsComparing, at_the_choices}
+use Rattle.kmin_outputs.proofs.Common.{producing_output, at_left, at_right, comparing_output, StopsLoad, StopsNoticing, load_status, refused, for_memory}
 use Rattle.kc_files.specs.TreeContents.{HasRisen}
 
 kind_rises : (format : FileFormat) (tree : Tree) (before after : Option (List ℕ)) (failed failed_after : ℕ) (kind : LoadKind) (number : ℕ)
@@ -29,11 +29,11 @@ noticing_unfailed tree values strict paths chosen status taken taken_after faile
 noticing_unfailed tree values strict paths chosen status taken taken_after failed failed_after (for_memory s t) e = omega arith
 
 -- nor does a verb over a configuration after its files were read
-pub answering_unfailed : (strict : Bool) (paths : List (List ℕ)) (read : ReadFiles) (status : ℕ) (taken taken_after : SpelledBytes)
-    (failed failed_after : ℕ) → StopsAnswering strict paths read status taken failed taken_after failed_after → status ≡ 5 → ⊥
-answering_unfailed strict paths read status taken taken_after failed failed_after (at_the_choices h) e =
+pub producing_unfailed : (strict : Bool) (paths : List (List ℕ)) (read : ReadFiles) (status : ℕ) (taken taken_after : SpelledBytes)
+    (failed failed_after : ℕ) → StopsProducingOutput strict paths read status taken failed taken_after failed_after → status ≡ 5 → ⊥
+producing_unfailed strict paths read status taken taken_after failed failed_after (at_the_choices h) e =
     noticing_unfailed _ _ _ _ _ status taken taken_after failed failed_after h e
-answering_unfailed strict paths read status taken taken_after failed failed_after (answering_output h s) e = omega arith
+producing_unfailed strict paths read status taken taken_after failed failed_after (producing_output h s) e = omega arith
 
 -- nor does a comparison after both files were read
 pub comparing_unfailed : (strict : Bool) (left right : List ℕ) (before after : ReadFiles) (status : ℕ) (taken taken_after : SpelledBytes)

@@ -9,7 +9,6 @@ use Rattle.kc_dotconfig_model.specs.ConfigFiles.{file_assignment, overlay, overl
 use Rattle.kc_dotconfig_model.specs.LoadFaults.{IsFirstFault, complete}
 use Rattle.kc_dotconfig.specs.Fragments.{users_of}
 use Rattle.kc_dotconfig.specs.ReadResults.{IsReadAs, IsFileRefused}
-use Rattle.kmin_disk.specs.Contents.{OpensAs}
 use Rattle.kmin_report.specs.Reports.{file_notices}
 use Rattle.kmin_report.specs.StandardError as taking
 use Rattle.kmin_outputs.specs.Outputs.{none, file}
@@ -17,8 +16,9 @@ use Rattle.kmin_outputs.specs.Stops as stops
 use Rattle.kmin_outputs.specs.Stops.{refused, unread, noticed}
 use Rattle.std.proofs.lemmas.List.{map-append}
 use Rattle.std.specs.Global.{Vec}
+use Rattle.kc_value.specs.FileContents.{OpensAs}
+use Rattle.kc_value.proofs.KnownContents.{rest_of, whole_content}
 use Rattle.kmin_outputs.specs.between.LoadStops.{StopsAtPath, fragment_notices}
-use Rattle.kmin_report.proofs.KnownContents.{rest_of, whole_content}
 use Rattle.kmin_report.proofs.Lists.{map_twice}
 
 pub notices_are : (tree : Tree) (path : List ℕ) (fragment : Fragment) (meanings : List LineMeaning) → map notice_pair fragment.notices.items ≡ notices_from 1 meanings

@@ -1,6 +1,7 @@
 -- The output of a command over configuration files.
 use Rattle.std.specs.Prelude.{◌≡◌, ℕ, Bool, true, List, [], ◌∷◌, ◌++◌, Option, length, codes}
 use Rattle.std.specs.List.{flat_map}
+use Rattle.kc_value.specs.FileContents.{FileContent, AreKnownBytes}
 use Rattle.kc_tree_model.specs.TreeFiles.{Files}
 use Rattle.kc_tree_model.specs.Trees.{Tree}
 use Rattle.kc_solver.specs.Solutions.{UniquelySolves}
@@ -19,14 +20,12 @@ use Rattle.kc_minimal_model.specs.FullFile.{full_file}
 use Rattle.kc_minimal_model.specs.Differences.{Difference, differences}
 use Rattle.kc_dotconfig_model.specs.declared.format.Strings.{Strings}
 use Rattle.kc_minimal_model.specs.SymbolLine.{spelled}
-use Rattle.kc_files.specs.TreeContents.{FileContent}
 use Rattle.kmin_options.specs.Jobs.{Settings, Task, over, compare}
 use Rattle.kmin_options.specs.declared.job.Verb.{Verb}
 use Rattle.kmin_options.specs.declared.job.Verb.TheVariants.{Min, Full, Missed, Check}
 use Rattle.kmin_records.specs.declared.output_form.OutputForm.{OutputForm}
 use Rattle.kmin_records.specs.declared.output_form.OutputForm.TheVariants.{Plain, Json}
 use Rattle.kmin_records.specs.Records.{compare_record}
-use Rattle.kmin_report.specs.KnownBytes.{AreKnownBytes}
 use Rattle.kmin_report.specs.Reports.{ErrorLine, name_at, notice_lines, choice_notice_lines}
 use Rattle.kmin_trees.specs.AcceptedTrees.{AreAccepted}
 use Rattle.kmin_outputs.specs.Strictness.{AllowsNotices}
@@ -71,14 +70,14 @@ IsTextOfVerb settings tree users values (Check exit_code) text = text ≡ flat_m
 -- A command has this output, this status and these lines of notices: a verb over one configuration of all its files, or the
 -- comparison of two configurations of one file each. The notices of the lines of all files come first, and then those on choices,
 -- which are known with the values.
-pub data Answer (content_of : List ℕ → FileContent) (settings : Settings) (texts : Files) (task : Task) (text : List ℕ) (status : ℕ) (notices : List ErrorLine) : Type 0 where
+pub data HasOutput (content_of : List ℕ → FileContent) (settings : Settings) (texts : Files) (task : Task) (text : List ℕ) (status : ℕ) (notices : List ErrorLine) : Type 0 where
   of_files : (tree : Tree) (verb : Verb) (paths : List (List ℕ)) (meanings : List (List LineMeaning)) (values : List UnitValue)
       → task ≡ over verb paths → AreAccepted texts settings.tree tree → Resolve content_of settings tree paths meanings values
       → IsTextOfVerb settings tree (files_assignment tree meanings) values verb text
       → status ≡ status_of_verb tree (files_assignment tree meanings) values verb
       → AllowsNotices settings.strict (other_choices tree values meanings)
       → notices ≡ notice_lines tree paths meanings ++ choice_notice_lines paths (other_choices tree values meanings)
-      → Answer content_of settings texts task text status notices
+      → HasOutput content_of settings texts task text status notices
   of_comparison : (tree : Tree) (left right : List ℕ) (left_meanings right_meanings : List (List LineMeaning)) (v w : List UnitValue)
       → task ≡ compare left right → AreAccepted texts settings.tree tree
       → Resolve content_of settings tree (left ∷ []) left_meanings v → Resolve content_of settings tree (right ∷ []) right_meanings w
@@ -87,4 +86,4 @@ pub data Answer (content_of : List ℕ → FileContent) (settings : Settings) (t
       → AllowsNotices settings.strict (other_choices tree v left_meanings) → AllowsNotices settings.strict (other_choices tree w right_meanings)
       → notices ≡ (notice_lines tree (left ∷ []) left_meanings ++ notice_lines tree (right ∷ []) right_meanings)
       ++ (choice_notice_lines (left ∷ []) (other_choices tree v left_meanings) ++ choice_notice_lines (right ∷ []) (other_choices tree w right_meanings))
-      → Answer content_of settings texts task text status notices
+      → HasOutput content_of settings texts task text status notices

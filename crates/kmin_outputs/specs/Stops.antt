@@ -1,6 +1,7 @@
 -- Commands that end without an output: the exit status, and the lines of standard error before those of `last_lines`. `counted` and
 -- `counted_after` are how many calls on files failed before and after.
 use Rattle.std.specs.Prelude.{◌≡◌, ℕ, Bool, List, [], ◌∷◌, ◌++◌, None}
+use Rattle.kc_value.specs.FileContents.{FileContent, AreKnownBytes, OpensAs}
 use Rattle.kc_tree_model.specs.Trees.{Tree}
 use Rattle.kc_dotconfig_model.specs.Formats.{FileFormat}
 use Rattle.kc_dotconfig_model.specs.declared.fault.LoadKind.{LoadKind}
@@ -8,11 +9,8 @@ use Rattle.kc_dotconfig_model.specs.declared.fault.LoadKind.TheVariants.{Read}
 use Rattle.kc_dotconfig_model.specs.ConfigLines.{LineMeaning}
 use Rattle.kc_dotconfig_model.specs.LoadFaults.{IsAccepted, IsFirstFault, complete, cut_short}
 use Rattle.kc_dotconfig_model.specs.ConfigFiles.{FileMeans, notices_from}
-use Rattle.kc_files.specs.TreeContents.{FileContent}
 use Rattle.kmin_options.specs.Jobs.{Settings, Task, over, compare, paths_of}
 use Rattle.kmin_inputs.specs.FileContents.{Surroundings}
-use Rattle.kmin_report.specs.KnownBytes.{AreKnownBytes}
-use Rattle.kmin_disk.specs.Contents.{OpensAs}
 use Rattle.kmin_expansions.specs.JobTexts.{TreeTexts, AreTextsOfJob}
 use Rattle.kc_rules_model.specs.declared.values.UnitValue.{UnitValue}
 use Rattle.kc_dotconfig_model.specs.OtherChoices.{other_choices}
@@ -20,7 +18,7 @@ use Rattle.kmin_report.specs.Reports.{ErrorLine, file_notices, notice_lines, cho
 use Rattle.kmin_outputs.specs.Strictness.{AllowsNotices, RefusesNotices}
 use Rattle.kmin_trees.specs.AcceptedTrees.{AreAccepted}
 use Rattle.kmin_trees.specs.Stops.{StopsAtTree}
-use Rattle.kmin_outputs.specs.Outputs.{FilesMean, Resolve, Answer}
+use Rattle.kmin_outputs.specs.Outputs.{FilesMean, Resolve, HasOutput}
 
 -- A configuration file ends a command, with this status and these lines of standard error: at its first fault, at a failed read
 -- before any fault, since it can't be opened, or since it is refused for its notices.
@@ -92,7 +90,7 @@ pub data StopsBefore (known : Surroundings) (counted counted_after : ℕ) (setti
 -- A command ends without its whole output, with this status and these lines of standard error: before it has an output, or at a
 -- failed write of the output.
 pub data Stops (known : Surroundings) (counted counted_after : ℕ) (settings : Settings) (task : Task) (status : ℕ) (lines : List ErrorLine) : Type 0 where
-  before_answer : StopsBefore known counted counted_after settings task status lines → Stops known counted counted_after settings task status lines
+  before_output : StopsBefore known counted counted_after settings task status lines → Stops known counted counted_after settings task status lines
   at_write : (t : TreeTexts) (text : List ℕ) (made : ℕ) (notices : List ErrorLine) → AreTextsOfJob known settings t
-      → Answer known.content settings t.texts task text made notices → status ≡ 5 → lines ≡ t.lines ++ notices ++ output_line ∷ []
+      → HasOutput known.content settings t.texts task text made notices → status ≡ 5 → lines ≡ t.lines ++ notices ++ output_line ∷ []
       → Stops known counted counted_after settings task status lines

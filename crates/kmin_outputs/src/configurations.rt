@@ -50,7 +50,7 @@ pub fn load<S: Source, E: Messages>(
     ensures notices { IfOk result (λ f. TakesLines (E.taken err.old) (E.failures err.old) (fragment_notices (tree_of_settled settled.now) path.now f) (E.taken err.new) (E.failures err.new)) }
     ensures stopped { IfErr result (λ stop. StopsLoad (file_format format.now) (tree_of_settled settled.now) path.now (S.left source.old) (S.left source.new) (S.failures source.old) (S.failures source.new) (status_of stop) (E.taken err.old) (E.failures err.old) (E.taken err.new) (E.failures err.new)) }
 {
-    match read_config(alloc, settled, format, source) {
+    match read_config(alloc, settled, format, source, &mut ()) {
         Ok(fragment) => {
             report_notices(path, &fragment.notices, settled.tree(), err);
             Ok(fragment)
@@ -200,13 +200,13 @@ fn overridden_by<'a, F: Files, E: Messages>(
 {
     let mut read = begun;
     for path in paths {
-        overlay_file(alloc, settled, &mut read, settings, path, files, err)?;
+        override_with_file(alloc, settled, &mut read, settings, path, files, err)?;
     }
     Ok(read)
 }
 
 /// Overrides a configuration with one file. Reports the notices of the file's lines, and why it is refused.
-fn overlay_file<F: Files, E: Messages>(
+fn override_with_file<F: Files, E: Messages>(
     alloc: Global,
     settled: &Settled,
     read: &mut ReadFiles<'_>,

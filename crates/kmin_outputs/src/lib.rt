@@ -11,4 +11,4 @@ pub use configurations::{
     ReadFiles, add_fragment, allowed, configured, configured_by, load, notice_choices,
     report_load_fault, unassigned,
 };
-pub use verb_texts::{JobOutput, answer_of, compared, list_status};
+pub use verb_texts::{JobOutput, compared, list_status, output_of_verb};

@@ -28,27 +28,27 @@ pub struct JobOutput {
 }
 
 /// The output of a verb for a configuration, and its status: 1 if a symbol is listed with `--exit-code`, else 0.
-pub fn answer_of(
+pub fn output_of_verb(
     alloc: Global,
     verb: Verb,
     config: &Config<'_>,
     format: &Format,
 ) -> Result<JobOutput, AllocError>
-    ensures text { IfOk result (λ answer. (settings : Settings) → settings.format ≡ formats.file_format format.now → settings.profile ≡ profile_of config.now.system → IsTextOfVerb settings (tree_in config.now) config.now.users config.now.values verb answer.text.items) }
-    ensures status { IfOk result (λ answer. answer.status ≡ status_of_verb (tree_in config.now) config.now.users config.now.values verb) }
+    ensures text { IfOk result (λ output. (settings : Settings) → settings.format ≡ formats.file_format format.now → settings.profile ≡ profile_of config.now.system → IsTextOfVerb settings (tree_in config.now) config.now.users config.now.values verb output.text.items) }
+    ensures status { IfOk result (λ output. output.status ≡ status_of_verb (tree_in config.now) config.now.users config.now.values verb) }
 {
     match verb {
-        Verb::Min => file_answer(minimal_text(alloc, config, format)),
-        Verb::Full => file_answer(full_text(alloc, config, format)),
-        Verb::Missed { exit_code } => missed_answer(alloc, exit_code, config),
-        Verb::Check { exit_code } => unmet_answer(alloc, exit_code, config),
+        Verb::Min => file_output(minimal_text(alloc, config, format)),
+        Verb::Full => file_output(full_text(alloc, config, format)),
+        Verb::Missed { exit_code } => missed_output(alloc, exit_code, config),
+        Verb::Check { exit_code } => unmet_output(alloc, exit_code, config),
     }
 }
 
 /// The output that is a configuration file, with status 0.
-fn file_answer(text: Result<Vec<u8>, AllocError>) -> Result<JobOutput, AllocError>
-    ensures text { IfOk result (λ answer. text ≡ Ok answer.text) }
-    ensures status { IfOk result (λ answer. answer.status ≡ 0) }
+fn file_output(text: Result<Vec<u8>, AllocError>) -> Result<JobOutput, AllocError>
+    ensures text { IfOk result (λ output. text ≡ Ok output.text) }
+    ensures status { IfOk result (λ output. output.status ≡ 0) }
 {
     Ok(JobOutput {
         text: text?,
@@ -57,13 +57,13 @@ fn file_answer(text: Result<Vec<u8>, AllocError>) -> Result<JobOutput, AllocErro
 }
 
 /// The output of `missed`: a line with the name of each symbol that hasn't the value that a file assigns.
-fn missed_answer(
+fn missed_output(
     alloc: Global,
     exit_code: bool,
     config: &Config<'_>,
 ) -> Result<JobOutput, AllocError>
-    ensures text { IfOk result (λ answer. answer.text.items ≡ flat_map (name_line [] (tree_in config.now)) (missed (tree_in config.now) config.now.users config.now.values)) }
-    ensures status { IfOk result (λ answer. answer.status ≡ status_of_list exit_code (missed (tree_in config.now) config.now.users config.now.values)) }
+    ensures text { IfOk result (λ output. output.text.items ≡ flat_map (name_line [] (tree_in config.now)) (missed (tree_in config.now) config.now.users config.now.values)) }
+    ensures status { IfOk result (λ output. output.status ≡ status_of_list exit_code (missed (tree_in config.now) config.now.users config.now.values)) }
 {
     let symbols = config.missed()?;
     let text = name_lines(alloc, "", config.settled().tree(), &symbols)?;
@@ -72,13 +72,13 @@ fn missed_answer(
 }
 
 /// The output of `check`: a line `unmet NAME` for each symbol that is selected against its dependencies.
-fn unmet_answer(
+fn unmet_output(
     alloc: Global,
     exit_code: bool,
     config: &Config<'_>,
 ) -> Result<JobOutput, AllocError>
-    ensures text { IfOk result (λ answer. answer.text.items ≡ flat_map (name_line (codes "unmet ") (tree_in config.now)) (unmet (tree_in config.now) config.now.values)) }
-    ensures status { IfOk result (λ answer. answer.status ≡ status_of_list exit_code (unmet (tree_in config.now) config.now.values)) }
+    ensures text { IfOk result (λ output. output.text.items ≡ flat_map (name_line (codes "unmet ") (tree_in config.now)) (unmet (tree_in config.now) config.now.values)) }
+    ensures status { IfOk result (λ output. output.status ≡ status_of_list exit_code (unmet (tree_in config.now) config.now.values)) }
 {
     let symbols = config.settled().unmet(alloc, config.values())?;
     let text = name_lines(alloc, "unmet ", config.settled().tree(), &symbols)?;
@@ -107,8 +107,8 @@ pub fn compared(
 ) -> Result<JobOutput, AllocError>
     requires tree { tree_in left.now ≡ tree_in right.now }
     requires profile { profile_of left.now.system ≡ profile_of right.now.system }
-    ensures text { IfOk result (λ answer. answer.text.items ≡ flat_map (difference_line form strings (tree_in left.now)) (differences (tree_in left.now) left.now.values right.now.values)) }
-    ensures status { IfOk result (λ answer. answer.status ≡ status_of_list true (differences (tree_in left.now) left.now.values right.now.values)) }
+    ensures text { IfOk result (λ output. output.text.items ≡ flat_map (difference_line form strings (tree_in left.now)) (differences (tree_in left.now) left.now.values right.now.values)) }
+    ensures status { IfOk result (λ output. output.status ≡ status_of_list true (differences (tree_in left.now) left.now.values right.now.values)) }
 {
     let found = compare(alloc, left, right)?;
     let text = difference_lines(

@@ -1,5 +1,4 @@
 pub mod WriterLemmas
-pub mod KnownContents
 pub mod Lists
 pub mod Results
 pub mod Statuses

@@ -1,5 +1,4 @@
 pub mod StandardError
-pub mod KnownBytes
 pub mod FileNames
 pub mod Reports
 pub mod PlainLines

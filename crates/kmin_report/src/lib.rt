@@ -14,7 +14,7 @@ pub use file_names::file_name;
 pub use message::{Message, write_plain_line};
 pub use messages::Messages;
 pub use notices::report_notices;
-pub use output::{exit_status, write_answer};
+pub use output::{exit_status, write_output};
 pub use plain_messages::PlainMessages;
 pub use run_error::RunError;
 pub use symbol_names::name_of;

@@ -13,7 +13,7 @@ use kc_output::{WriteFault, write_out};
 use kc_value::Sink;
 
 /// Writes the output of a command to `out`. Reports a failed write to `err`.
-pub fn write_answer<O: Sink, E: Messages>(
+pub fn write_output<O: Sink, E: Messages>(
     text: &[u8],
     out: &mut O,
     err: &mut E,

@@ -1,6 +1,7 @@
 -- The outputs for bundles.
 use Rattle.std.proofs.Common.{Result}
 use Rattle.std.proofs.lemmas.Bool.{false≢true}
+use Rattle.kc_value.specs.FileContents.{known}
 use Rattle.kc_tokens.specs.declared.language.Language.{Language}
 use Rattle.kc_tokens.specs.declared.language.Language.TheVariants.{Strict}
 use Rattle.kc_tree_model.specs.Blocks.{Group}
@@ -24,7 +25,7 @@ use Rattle.kmin_options.specs.declared.job.Verb.TheVariants.{Full}
 use Rattle.kmin_report.specs.Reports.{notice_lines, choice_notice_lines}
 use Rattle.kmin_outputs.specs.Outputs.{Resolve, of_files}
 use Rattle.kmin_outputs.specs.Stops.{StopsAmongFiles}
-use Rattle.kmin_run.specs.BundleOutputs.{AnswersBundle, StopsInBundle, StopsOnBundle, at_tree, in_configuration, bundle_files, bundle_settings}
+use Rattle.kmin_run.specs.BundleOutputs.{BundleHasOutput, StopsInBundle, StopsOnBundle, at_tree, in_configuration, bundle_files, bundle_settings}
 use Rattle.kmin_run.specs.BundleOutputs as bundles
 use Rattle.kmin_outputs.specs.between.LoadResults.{AreLoaded}
 use Rattle.kmin_outputs.specs.between.LoadStops.{StopsLoad, fragment_notices}
@@ -50,7 +51,7 @@ pub memory_stops : (text : List ℕ) (left : Option (List ℕ)) (format plain : 
 memory_stops text left format plain tree path after f g status taken taken_after failed failed_after p e h =
     let k : StopsLoad plain tree path (Some text) after f g status taken failed taken_after failed_after = rw (p, e) at h in
     stopped_path (bundle_content text) plain false tree status taken failed taken_after failed_after path
-    (stopped_at (Some (Some text)) plain tree path (Some text) after refl false f g status taken taken_after failed failed_after k)
+    (stopped_at (known text) plain tree path (Some text) after refl false f g status taken taken_after failed failed_after k)
 
 -- a bundle's configuration that was read and accepted is loaded as the one configuration file of the run
 pub memory_loaded : (text : List ℕ) (left : Option (List ℕ)) (format plain : FileFormat) (tree : Tree) (path : List ℕ) (after : Option (List ℕ))
@@ -62,10 +63,10 @@ pub memory_loaded : (text : List ℕ) (left : Option (List ℕ)) (format plain :
 memory_loaded text left format plain tree path after before users fragment taken taken_after failed failed_after p e h t u =
     let k : IsReadAs plain tree (Some text) after fragment = rw (p, e) at h in
     loaded_one (bundle_content text) plain false tree path before users fragment taken taken_after failed failed_after
-    (loaded_from (Some (Some text)) plain tree path (Some text) after refl taken taken_after failed failed_after fragment k t) (λ s. cc) u
+    (loaded_from (known text) plain tree path (Some text) after refl taken taken_after failed failed_after fragment k t) (λ s. cc) u
 
 -- the full file of the configuration of a bundle is that of the one solution of its assignment
-pub full_answers : (text : List ℕ) (format : FileFormat) (bytes : List ℕ) (config : Configured) (settled : Settled) (taken taken_after : SpelledBytes)
+pub full_output : (text : List ℕ) (format : FileFormat) (bytes : List ℕ) (config : Configured) (settled : Settled) (taken taken_after : SpelledBytes)
     (failed failed_after : ℕ)
     → config.system ≡ settled → format ≡ plain_format → IsSolved config
     → AreLoaded (bundle_content text) plain_format false (tree_of_settled settled) (codes "config" ∷ []) (empty_assignment (tree_of_settled settled))
@@ -75,7 +76,7 @@ pub full_answers : (text : List ℕ) (format : FileFormat) (bytes : List ℕ) (c
     (tree_of_settled settled) (codes "config" ∷ []) meanings values
     × (bytes ≡ full_file plain_format (tree_of_settled settled) values) × TakesLines taken failed (notice_lines (tree_of_settled settled) (codes "config" ∷ []) meanings) taken_after
     failed_after
-full_answers text format bytes config settled taken taken_after failed failed_after e p s l b = (
+full_output text format bytes config settled taken taken_after failed failed_after e p s l b = (
   l.meanings,
   config.values,
   resolved (bundle_content text) (record bundle_settings { profile = profile_of settled }) config settled (codes "config" ∷ []) taken taken_after failed
@@ -99,21 +100,21 @@ module _ (bundle tree configuration : List ℕ) (parts : IsBundle bundle tree co
 
   module _ (rules : Settled) (accepted : AreAccepted (bundle_files tree) (codes "Kconfig") (tree_of_settled rules)) (profile : profile_of rules ≡ Present)
       (taken middle taken_after : SpelledBytes) (failed failed_middle failed_after : ℕ) (before : TakesLines taken failed [] middle failed_middle) where
-    pub bundle_answers : (r : Result (Vec ℕ Global) RunError)
+    pub bundle_outputs : (r : Result (Vec ℕ Global) RunError)
         → IfOk r (λ text. (meanings : List (List LineMeaning)) × (values : List UnitValue) × Resolve (bundle_content configuration)
         (record bundle_settings { profile = profile_of rules }) (tree_of_settled rules) (codes "config" ∷ []) meanings values
         × (text.items ≡ full_file plain_format (tree_of_settled rules) values) × TakesLines middle failed_middle
         (notice_lines (tree_of_settled rules) (codes "config" ∷ []) meanings) taken_after failed_after)
-        → IfOk r (λ text. (notices : List ErrorLine) × AnswersBundle bundle text.items notices × TakesLines taken failed notices taken_after failed_after)
-    bundle_answers (Err stop) h = tt
-    bundle_answers (Ok text) h =
+        → IfOk r (λ text. (notices : List ErrorLine) × BundleHasOutput bundle text.items notices × TakesLines taken failed notices taken_after failed_after)
+    bundle_outputs (Err stop) h = tt
+    bundle_outputs (Ok text) h =
         let resolve : Resolve (bundle_content configuration) bundle_settings (tree_of_settled rules) (codes "config" ∷ []) h.0 h.1 = rw profile at h.2 in (
           notice_lines (tree_of_settled rules) (codes "config" ∷ []) h.0,
           record {
             tree = tree;
             configuration = configuration;
             parts = parts;
-            answers = of_files (tree_of_settled rules) Full (codes "config" ∷ []) h.0 h.1 refl accepted resolve h.3 refl (λ e. absurd (false≢true e))
+            has = of_files (tree_of_settled rules) Full (codes "config" ∷ []) h.0 h.1 refl accepted resolve h.3 refl (λ e. absurd (false≢true e))
                 (sym (ap (λ ps. notice_lines (tree_of_settled rules) (codes "config" ∷ []) h.0 ++ choice_notice_lines (codes "config" ∷ []) ps)
                 (strict_choices (tree_of_settled rules) h.1 h.0 (ap (λ (t : Tree). t.language) accepted.read.3 ∙ language_of_groups Strict accepted.read.0))
                 ∙ append-nil (notice_lines (tree_of_settled rules) (codes "config" ∷ []) h.0)));

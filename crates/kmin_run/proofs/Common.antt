@@ -25,7 +25,7 @@ pub use Rattle.kmin_inputs.specs.WordFiles.{Represent}
 pub use Rattle.kmin_options.specs.Jobs.{Questions, Settings, Task, questions_view, settings_view, task_view, tidy_job_view}
 pub use Rattle.kmin_outputs.proofs.ErrorExits.{value_is_no_error, with_error}
 pub use Rattle.kmin_outputs.proofs.JobOutputs.{lines_kept}
-pub use Rattle.kmin_outputs.specs.Outputs.{Answer}
+pub use Rattle.kmin_outputs.specs.Outputs.{HasOutput}
 pub use Rattle.kmin_report.proofs.Results.{if_err, if_err_map, memory_err}
 pub use Rattle.kmin_report.proofs.WriterLemmas.{lines_append, lines_one}
 pub use Rattle.kmin_report.specs.Reports.{ErrorLine, last_lines, output_line}

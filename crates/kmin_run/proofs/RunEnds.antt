@@ -2,13 +2,13 @@
 use Rattle.std.proofs.Common.{eqb-true, true≢false}
 use Rattle.std.proofs.lemmas.Bool.Decides.{eqb_tells}
 use Rattle.kmin_run.proofs.Common.{◌≡◌, ◌≢◌, ◌≤◌, ◌==◌, map, Bool, false, ◌⊎◌, ℕ, true, List, [], ◌∷◌, ◌++◌, Option, Ok, length, inl, inr, refl, subst, arith, None, ap, sym, ◌∙◌, length-append, Appends, ErrorLine, last_lines, SpelledBytes, TakesLine, TakesLines, none, lines_append, lines_one}
-use Rattle.kmin_run.proofs.Common.{malformed_line, Represent, RunError, Tree, Configuration, Failed, Memory, status_of, Settings, Questions, Task, AreReadAs, Surroundings, TreeTexts, AreTextsOfJob, AreAsked, StopsWanting, questions_text, Answer, Outputs, BundleEnds, Input}
+use Rattle.kmin_run.proofs.Common.{malformed_line, Represent, RunError, Tree, Configuration, Failed, Memory, status_of, Settings, Questions, Task, AreReadAs, Surroundings, TreeTexts, AreTextsOfJob, AreAsked, StopsWanting, questions_text, HasOutput, Outputs, BundleEnds, Input}
+use Rattle.kc_value.specs.FileContents.{FileContent}
 use Rattle.kmin_report.specs.StandardError.{one_more}
 use Rattle.kmin_texts.specs.KnownLines.{KnownLines}
 use Rattle.kmin_texts.specs.Spellings.{AskedForm, as_asked}
 use Rattle.kmin_run.specs.between.WordRuns.{FormedEnds}
 use Rattle.kmin_run.specs.between.WordRuns as formed
-use Rattle.kc_files.specs.TreeContents.{FileContent}
 use Rattle.kmin_lines.specs.WordLines.{are_utf8}
 use Rattle.kmin_lines.specs.WordFiles.{files_of}
 use Rattle.kmin_inputs.specs.ListFiles.{StopsReadingList, too_large, unread, for_memory}
@@ -21,7 +21,7 @@ use Rattle.kmin_cli.specs.declared.command_line.ParsedWords.{ParsedWords}
 use Rattle.kmin_expansions.specs.WantedQuestions.{AsksInPart}
 use Rattle.kmin_explain_command.specs.Explains.{Explains}
 use Rattle.kmin_explain_command.specs.Stops.{ExplainsInPart, StopsExplaining}
-use Rattle.kmin_run.specs.PartialOutputs.{AnswersInPart}
+use Rattle.kmin_run.specs.PartialOutputs.{WritesOutputInPart}
 use Rattle.kmin_outputs.specs.Statuses.{status_of_list}
 use Rattle.kmin_outputs.specs.Stops.{Stops}
 use Rattle.kmin_run.specs.Runs as runs
@@ -47,11 +47,11 @@ module _ (known : Surroundings) (counted counted_after : ℕ) (old new : Outputs
   -- a command over configuration files ends as `JobEnds` defines, by the clauses of `serve`
   pub job_ended : (settings : Settings) (task : Task)
       → ((status ≡ 0) ⊎ (status ≡ 1) → (t : TreeTexts) × (text : List ℕ) × (notices : List ErrorLine) × AreTextsOfJob known settings t
-      × Answer known.content settings t.texts task text status notices × Appends old.taken new.taken text
+      × HasOutput known.content settings t.texts task text status notices × Appends old.taken new.taken text
       × TakesLines taken failed (t.lines ++ notices) taken_after failed_after)
       → ((status ≢ 0) × (status ≢ 1) → (lines : List ErrorLine) × Stops known counted counted_after settings task status lines
       × TakesLines taken failed (lines ++ last_lines status) taken_after failed_after)
-      → (status ≡ 5 → (new.taken ≡ old.taken) ⊎ AnswersInPart known settings task old.taken new.taken)
+      → (status ≡ 5 → (new.taken ≡ old.taken) ⊎ WritesOutputInPart known settings task old.taken new.taken)
       → (lines : List ErrorLine) × JobEnds known counted counted_after settings task old new lines status × TakesLines taken failed lines taken_after failed_after
   job_ended settings task done stopped part = elim (zero_or_one status) [
     | inl well ↦

@@ -2,6 +2,7 @@
 use Rattle.std.specs.Prelude.{◌≡◌, ℕ, false, ◌<◌, List, [], ◌∷◌, ◌++◌, Option, Some, None, take, length, codes}
 use Rattle.std.specs.Io.KnownBytes.{Appends, Consumes}
 use Rattle.kc_value.specs.declared.limits.TheConstants.{MAX_BUNDLE_BYTES}
+use Rattle.kc_value.specs.FileContents.{FileContent, known}
 use Rattle.kc_tokens.specs.declared.language.Language.TheVariants.{Strict}
 use Rattle.kc_tree_model.specs.Trees.{Tree}
 use Rattle.kc_tree_model.specs.TreeFiles.{Files, strict_files}
@@ -9,13 +10,12 @@ use Rattle.kc_rules_model.specs.declared.profile.Profile.TheVariants.{Present}
 use Rattle.kc_dotconfig_model.specs.Formats.{plain_format}
 use Rattle.kc_dotconfig_model.specs.declared.fault.LoadKind.{LoadKind}
 use Rattle.kc_dotconfig_model.specs.declared.fault.LoadKind.TheVariants.{Read, TooLarge}
-use Rattle.kc_files.specs.TreeContents.{FileContent}
 use Rattle.kmin_records.specs.declared.output_form.OutputForm.TheVariants.{Plain}
 use Rattle.kmin_options.specs.Jobs.{Settings, Task, over}
 use Rattle.kmin_options.specs.declared.job.Verb.TheVariants.{Full}
 use Rattle.kmin_report.specs.Reports.{ErrorLine, fault_line, output_line}
 use Rattle.kmin_run.specs.Bundles.{IsBundle, ReadsToEnd}
-use Rattle.kmin_outputs.specs.Outputs.{Answer}
+use Rattle.kmin_outputs.specs.Outputs.{HasOutput}
 use Rattle.kmin_trees.specs.AcceptedTrees.{AreAccepted}
 use Rattle.kmin_trees.specs.Stops.{RefusesTexts}
 use Rattle.kmin_outputs.specs.Stops.{StopsAmongFiles}
@@ -44,7 +44,7 @@ bundle_files tree = strict_files ((codes "Kconfig", tree) ∷ [])
 
 -- what is known of the configuration file of a bundle: it has these bytes, whatever its path
 abbrev pub bundle_content : List ℕ → List ℕ → FileContent
-bundle_content configuration path = Some (Some configuration)
+bundle_content configuration path = known configuration
 
 -- the line of standard error for a fault of a bundle as a whole: `bundle:0: KIND`
 abbrev pub bundle_line : LoadKind → ErrorLine
@@ -59,11 +59,11 @@ abbrev pub unread_line : ErrorLine
 unread_line = bundle_line Read
 
 -- A run on this bundle has this output, the full file of its configuration over its tree, and these lines of notices.
-pub record AnswersBundle (bundle text : List ℕ) (notices : List ErrorLine) : Type 0 where
+pub record BundleHasOutput (bundle text : List ℕ) (notices : List ErrorLine) : Type 0 where
   pub tree : List ℕ
   pub configuration : List ℕ
   pub parts : IsBundle bundle tree configuration
-  pub answers : Answer (bundle_content configuration) bundle_settings (bundle_files tree) bundle_task text 0 notices
+  pub has : HasOutput (bundle_content configuration) bundle_settings (bundle_files tree) bundle_task text 0 notices
 
 -- A run on this bundle ends without an output, with this status and these lines of standard error before those of `last_lines`:
 -- its tree or its configuration is refused, or memory ran out.
@@ -85,7 +85,7 @@ pub data StopsOnBundle (left left_after : Option (List ℕ)) (status : ℕ) (lin
   in_bundle : (bundle : List ℕ) → ReadsToEnd left left_after bundle → StopsInBundle bundle status lines
       → StopsOnBundle left left_after status lines
   at_write : (bundle text : List ℕ) (notices : List ErrorLine) → ReadsToEnd left left_after bundle
-      → AnswersBundle bundle text notices → status ≡ 5 → lines ≡ notices ++ output_line ∷ []
+      → BundleHasOutput bundle text notices → status ≡ 5 → lines ≡ notices ++ output_line ∷ []
       → StopsOnBundle left left_after status lines
   for_memory : status ≡ 6 → lines ≡ [] → StopsOnBundle left left_after status lines
 
@@ -95,6 +95,6 @@ pub record WritesPart (left_before left_after taken_before taken_after : Option 
   pub whole : ReadsToEnd left_before left_after bundle
   pub text : List ℕ
   pub notices : List ErrorLine
-  pub answers : AnswersBundle bundle text notices
+  pub has : BundleHasOutput bundle text notices
   pub written : ℕ
   pub taken : Appends taken_before taken_after (take written text)

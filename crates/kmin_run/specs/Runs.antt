@@ -18,12 +18,12 @@ use Rattle.kmin_inputs.specs.FileContents.{Surroundings}
 use Rattle.kmin_expansions.specs.JobTexts.{TreeTexts, AreTextsOfJob}
 use Rattle.kmin_inputs.specs.WordFiles.{Represent, StopsAtWords, is_input_read_for}
 use Rattle.kmin_expansions.specs.WantedQuestions.{AreAsked, AsksInPart, StopsWanting, questions_text}
-use Rattle.kmin_outputs.specs.Outputs.{Answer}
+use Rattle.kmin_outputs.specs.Outputs.{HasOutput}
 use Rattle.kmin_explain_command.specs.Explains.{Explains}
 use Rattle.kmin_explain_command.specs.Stops.{ExplainsInPart, StopsExplaining}
-use Rattle.kmin_run.specs.BundleOutputs.{AnswersBundle, StopsOnBundle, WritesPart}
+use Rattle.kmin_run.specs.BundleOutputs.{BundleHasOutput, StopsOnBundle, WritesPart}
 use Rattle.kmin_run.specs.Bundles.{ReadsToEnd}
-use Rattle.kmin_run.specs.PartialOutputs.{AnswersInPart}
+use Rattle.kmin_run.specs.PartialOutputs.{WritesOutputInPart}
 use Rattle.kmin_run.specs.Saves.{SaveEnds}
 use Rattle.kmin_outputs.specs.Statuses.{status_of_list}
 use Rattle.kmin_outputs.specs.Stops.{Stops}
@@ -41,10 +41,10 @@ WritesAtMost part old new status = (new.taken ≡ old.taken) ⊎ ((status ≡ 5)
 -- disk is unchanged.
 pub data JobEnds (known : Surroundings) (counted counted_after : ℕ) (settings : Settings) (task : Task) (old new : Outputs) (lines : List ErrorLine) (status : ℕ) : Type 0 where
   done : (t : TreeTexts) (text : List ℕ) (notices : List ErrorLine) → AreTextsOfJob known settings t
-      → Answer known.content settings t.texts task text status notices → (status ≡ 0) ⊎ (status ≡ 1) → Appends old.taken new.taken text
+      → HasOutput known.content settings t.texts task text status notices → (status ≡ 0) ⊎ (status ≡ 1) → Appends old.taken new.taken text
       → new.failures ≡ old.failures → new.disk ≡ old.disk → lines ≡ t.lines ++ notices → JobEnds known counted counted_after settings task old new lines status
   stopped : (own : List ErrorLine) → Stops known counted counted_after settings task status own → IsOfFault status
-      → WritesAtMost (AnswersInPart known settings task old.taken new.taken) old new status → new.disk ≡ old.disk → lines ≡ own ++ last_lines status
+      → WritesAtMost (WritesOutputInPart known settings task old.taken new.taken) old new status → new.disk ≡ old.disk → lines ≡ own ++ last_lines status
       → JobEnds known counted counted_after settings task old new lines status
 
 -- The command `wants` ends: the open questions are written, and no write failed; or it ended without all of them. The disk is
@@ -142,7 +142,7 @@ HasFailed failed failed_after input input_after old new =
 -- the run ended without the whole file, on status 5 since a read or a write failed. The disk is unchanged.
 pub data BundleEnds (input input_after : Input) (old new : Outputs) (lines : List ErrorLine) (status : ℕ) : Type 0 where
   done : (bundle text : List ℕ) → status ≡ 0 → ReadsToEnd input.left input_after.left bundle → length bundle ≤ MAX_BUNDLE_BYTES
-      → AnswersBundle bundle text lines → Appends old.taken new.taken text → input_after.failures ≡ input.failures
+      → BundleHasOutput bundle text lines → Appends old.taken new.taken text → input_after.failures ≡ input.failures
       → new.failures ≡ old.failures → new.disk ≡ old.disk → BundleEnds input input_after old new lines status
   stopped : (own : List ErrorLine) → StopsOnBundle input.left input_after.left status own → IsOfFault status
       → WritesAtMost (WritesPart input.left input_after.left old.taken new.taken) old new status

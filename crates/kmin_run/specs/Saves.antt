@@ -14,7 +14,7 @@ use Rattle.kmin_report.specs.Reports.{ErrorLine, not_regular_line, write_line, l
 use Rattle.kmin_options.specs.Jobs.{Settings, Task}
 use Rattle.kmin_inputs.specs.FileContents.{Surroundings}
 use Rattle.kmin_expansions.specs.JobTexts.{TreeTexts, AreTextsOfJob}
-use Rattle.kmin_outputs.specs.Outputs.{Answer}
+use Rattle.kmin_outputs.specs.Outputs.{HasOutput}
 use Rattle.kmin_outputs.specs.Stops.{StopsBefore}
 
 -- the lines of standard error for an output file that wasn't replaced, or not for good; none where memory ran out
@@ -58,11 +58,11 @@ pub record IsUnsaved (old new : Disk) (path text : List ℕ) (fault : UpdateFaul
 -- ended without one and the disk is unchanged, or the file couldn't be updated.
 pub data SaveEnds (known : Surroundings) (counted counted_after : ℕ) (settings : Settings) (task : Task) (path : List ℕ) (old new : Disk) (lines : List ErrorLine) (status : ℕ) : Type 0 where
   saved : (t : TreeTexts) (text : List ℕ) (notices : List ErrorLine) → AreTextsOfJob known settings t
-      → Answer known.content settings t.texts task text status notices → IsSaved old new path text → lines ≡ t.lines ++ notices
+      → HasOutput known.content settings t.texts task text status notices → IsSaved old new path text → lines ≡ t.lines ++ notices
       → SaveEnds known counted counted_after settings task path old new lines status
-  before_answer : (own : List ErrorLine) → StopsBefore known counted counted_after settings task status own → new ≡ old → lines ≡ own ++ last_lines status
+  before_output : (own : List ErrorLine) → StopsBefore known counted counted_after settings task status own → new ≡ old → lines ≡ own ++ last_lines status
       → SaveEnds known counted counted_after settings task path old new lines status
-  at_file : (t : TreeTexts) (text : List ℕ) (answer_status : ℕ) (notices : List ErrorLine) (fault : UpdateFault) → AreTextsOfJob known settings t
-      → Answer known.content settings t.texts task text answer_status notices → IsUnsaved old new path text fault → status ≡ update_status fault
+  at_file : (t : TreeTexts) (text : List ℕ) (output_status : ℕ) (notices : List ErrorLine) (fault : UpdateFault) → AreTextsOfJob known settings t
+      → HasOutput known.content settings t.texts task text output_status notices → IsUnsaved old new path text fault → status ≡ update_status fault
       → lines ≡ ((t.lines ++ notices) ++ update_lines path fault) ++ last_lines status
       → SaveEnds known counted counted_after settings task path old new lines status

@@ -4,8 +4,8 @@ use Rattle.std.specs.Prelude.{◌≡◌, ℕ, Bool, true, false, List, [], ◌�
 use Rattle.std.specs.List.{list_all}
 use Rattle.std.specs.Str.{is_utf8}
 use Rattle.std.specs.Io.KnownBytes.{Appends}
+use Rattle.kc_value.specs.FileContents.{FileContent}
 use Rattle.kc_tree_model.specs.Trees.{Tree}
-use Rattle.kc_files.specs.TreeContents.{FileContent}
 use Rattle.kmin_lines.specs.Lists.{paths_in, is_one_line}
 use Rattle.kmin_tidy.specs.declared.options.TidyOptions.{TidyOptions}
 use Rattle.kmin_tidy.specs.Options.{TidySettings as RunSettings}

@@ -8,7 +8,7 @@ ghost use Rattle.kmin_report.specs.between.RunErrors.{status_of};
 ghost use Rattle.kmin_report.specs.Reports.{ErrorLine};
 
 use kc_dotconfig::LoadKind;
-use kc_value::{MAX_BUNDLE_BYTES, ReadBytes, ReadEnd, Source, read_up_to};
+use kc_value::{MAX_BLOCK_BYTES, MAX_BUNDLE_BYTES, ReadBytes, ReadEnd, Source, read_up_to};
 use kmin_lines::first_piece;
 use kmin_report::{Message, Messages, RunError};
 use std::alloc::Global;
@@ -29,7 +29,8 @@ pub(crate) fn read_whole<S: Source, E: Messages>(
     ensures failures { result ≡ Err RunError.Failed → HasRisen (S.failures source.old) (S.failures source.new) }
     ensures stopped { IfErr result (λ stop. (lines : List ErrorLine) × StopsOnBundle (S.left source.old) (S.left source.new) (status_of stop) lines × TakesLines (E.taken err.old) (E.failures err.old) lines (E.taken err.new) (E.failures err.new)) }
 {
-    let ReadBytes { bytes, end } = read_up_to(alloc, source, MAX_BUNDLE_BYTES + 1, 0)?;
+    let block = &mut [0; MAX_BLOCK_BYTES];
+    let ReadBytes { bytes, end } = read_up_to(alloc, source, MAX_BUNDLE_BYTES + 1, 0, block)?;
     match end {
         ReadEnd::AtEnd => Ok(bytes),
         ReadEnd::AtLimit => {

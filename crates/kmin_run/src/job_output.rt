@@ -9,16 +9,16 @@ ghost use Rattle.kc_dotconfig_model.specs.between.Formats.{file_format};
 ghost use Rattle.kc_config.specs.ConfigStates.{IsSolved, tree_in};
 ghost use Rattle.kc_minimal_model.specs.Differences.{differences};
 ghost use Rattle.kmin_options.specs.Jobs.{Settings as GivenSettings, settings_view, task_view, over, compare};
-ghost use Rattle.kmin_outputs.specs.Outputs.{Answer, IsTextOfVerb, difference_line};
+ghost use Rattle.kmin_outputs.specs.Outputs.{HasOutput, IsTextOfVerb, difference_line};
 ghost use Rattle.kmin_outputs.specs.Statuses.{status_of_list, status_of_verb};
 ghost use Rattle.kmin_trees.specs.AcceptedTrees.{AreAccepted};
 ghost use Rattle.kmin_expansions.specs.JobTexts.{TreeTexts, AreTextsOfJob};
-ghost use Rattle.kmin_run.specs.PartialOutputs.{AnswersInPart};
+ghost use Rattle.kmin_run.specs.PartialOutputs.{WritesOutputInPart};
 ghost use Rattle.kmin_report.specs.Reports.{ErrorLine, last_lines};
 ghost use Rattle.kmin_report.specs.StandardError.{TakesLines};
 ghost use Rattle.kc_files.specs.TreeContents.{HasRisen};
 ghost use Rattle.kmin_outputs.specs.Stops.{Stops, StopsAmongFiles, StopsBefore};
-ghost use Rattle.kmin_outputs.specs.between.Comparisons.{AreBothNoticed, AreBothRead, AreNoticed, StopsAnswering, StopsComparing};
+ghost use Rattle.kmin_outputs.specs.between.Comparisons.{AreBothNoticed, AreBothRead, AreNoticed, StopsProducingOutput, StopsComparing};
 ghost use Rattle.kmin_outputs.specs.between.LoadStops.{StopsOverTree};
 ghost use Rattle.kmin_report.specs.between.RunErrors.{status_of};
 
@@ -27,7 +27,8 @@ use kc_value::Sink;
 use kmin_inputs::Files;
 use kmin_options::{Job, Settings, Task, Verb};
 use kmin_outputs::{
-    JobOutput, ReadFiles, answer_of, compared, configured, configured_by, finish, notice_choices,
+    JobOutput, ReadFiles, compared, configured, configured_by, finish, notice_choices,
+    output_of_verb,
 };
 use kmin_report::{Messages, RunError};
 use kmin_trees::job_tree;
@@ -55,7 +56,7 @@ pub fn serve<F: Files, O: Sink, E: Messages>(
 
     // The tree and the files are accepted, exactly the output is written, no write failed, and the notices of the
     // tree's expansion and of the files are reported.
-    ensures done { (result ≡ 0) ⊎ (result ≡ 1) → (t : TreeTexts) × (text : List ℕ) × (notices : List ErrorLine) × AreTextsOfJob (F.surroundings files.old) (settings_view job.now.settings) t × Answer (F.surroundings files.old).content (settings_view job.now.settings) t.texts (task_view job.now.task) text result notices × Appends (O.taken out.old) (O.taken out.new) text × TakesLines (E.taken err.old) (E.failures err.old) (t.lines ++ notices) (E.taken err.new) (E.failures err.new) }
+    ensures done { (result ≡ 0) ⊎ (result ≡ 1) → (t : TreeTexts) × (text : List ℕ) × (notices : List ErrorLine) × AreTextsOfJob (F.surroundings files.old) (settings_view job.now.settings) t × HasOutput (F.surroundings files.old).content (settings_view job.now.settings) t.texts (task_view job.now.task) text result notices × Appends (O.taken out.old) (O.taken out.new) text × TakesLines (E.taken err.old) (E.failures err.old) (t.lines ++ notices) (E.taken err.new) (E.failures err.new) }
     ensures unfailed { (result ≡ 0) ⊎ (result ≡ 1) → O.failures out.new ≡ O.failures out.old }
 
     // On every other status the fault that ended the run is reported, after the notices of the tree's expansion and of
@@ -63,15 +64,15 @@ pub fn serve<F: Files, O: Sink, E: Messages>(
     ensures stopped { (result ≢ 0) × (result ≢ 1) → (lines : List ErrorLine) × Stops (F.surroundings files.old) (F.failures files.old) (F.failures files.new) (settings_view job.now.settings) (task_view job.now.task) result lines × TakesLines (E.taken err.old) (E.failures err.old) (lines ++ last_lines result) (E.taken err.new) (E.failures err.new) }
 
     // On status 5 the writer took the first bytes of the output, or nothing.
-    ensures part { result ≡ 5 → (O.taken out.new ≡ O.taken out.old) ⊎ AnswersInPart (F.surroundings files.old) (settings_view job.now.settings) (task_view job.now.task) (O.taken out.old) (O.taken out.new) }
+    ensures part { result ≡ 5 → (O.taken out.new ≡ O.taken out.old) ⊎ WritesOutputInPart (F.surroundings files.old) (settings_view job.now.settings) (task_view job.now.task) (O.taken out.old) (O.taken out.new) }
 
     ensures unwritten { result ≢ 0 → result ≢ 1 → result ≢ 5 → O.taken out.new ≡ O.taken out.old }
 
     // On status 5 a file couldn't be opened, or a read of a file or a write of the output failed.
     ensures failed { result ≡ 5 → HasRisen (F.failures files.old) (F.failures files.new) ⊎ HasRisen (O.failures out.old) (O.failures out.new) }
 {
-    let answer = output_of_job(alloc, job, files, err);
-    finish(answer, out, err)
+    let output = output_of_job(alloc, job, files, err);
+    finish(output, out, err)
 }
 
 /// The complete output of a command, and its status. Reports the notices, and why there is no output.
@@ -81,19 +82,19 @@ pub(crate) fn output_of_job<F: Files, E: Messages>(
     files: &mut F,
     err: &mut E,
 ) -> Result<JobOutput, RunError>
-    ensures status { IfOk result (λ answer. answer.status ≤ 1) }
-    ensures answer { IfOk result (λ answer. (t : TreeTexts) × (notices : List ErrorLine) × AreTextsOfJob (F.surroundings files.old) (settings_view job.now.settings) t × Answer (F.surroundings files.old).content (settings_view job.now.settings) t.texts (task_view job.now.task) answer.text.items answer.status notices × TakesLines (E.taken err.old) (E.failures err.old) (t.lines ++ notices) (E.taken err.new) (E.failures err.new)) }
+    ensures status { IfOk result (λ output. output.status ≤ 1) }
+    ensures output { IfOk result (λ output. (t : TreeTexts) × (notices : List ErrorLine) × AreTextsOfJob (F.surroundings files.old) (settings_view job.now.settings) t × HasOutput (F.surroundings files.old).content (settings_view job.now.settings) t.texts (task_view job.now.task) output.text.items output.status notices × TakesLines (E.taken err.old) (E.failures err.old) (t.lines ++ notices) (E.taken err.new) (E.failures err.new)) }
     ensures stopped { IfErr result (λ stop. (lines : List ErrorLine) × StopsBefore (F.surroundings files.old) (F.failures files.old) (F.failures files.new) (settings_view job.now.settings) (task_view job.now.task) (status_of stop) lines × TakesLines (E.taken err.old) (E.failures err.old) lines (E.taken err.new) (E.failures err.new)) }
     ensures failed { IfErr result (λ stop. status_of stop ≡ 5 → HasRisen (F.failures files.old) (F.failures files.new)) }
 {
     let settled = job_tree(alloc, &job.settings, files, err)?;
-    let answer = answer_over(alloc, &job.settings, &job.task, &settled, files, err);
+    let output = output_over(alloc, &job.settings, &job.task, &settled, files, err);
     drop(settled);
-    answer
+    output
 }
 
 /// The output of a command over its settled tree, and its status. Reports the notices, and why there is no output.
-fn answer_over<F: Files, E: Messages>(
+fn output_over<F: Files, E: Messages>(
     alloc: Global,
     settings: &Settings<'_>,
     task: &Task<'_>,
@@ -102,25 +103,25 @@ fn answer_over<F: Files, E: Messages>(
     err: &mut E,
 ) -> Result<JobOutput, RunError>
     requires profile { profile_of settled.now ≡ settings.now.profile }
-    ensures status { IfOk result (λ answer. answer.status ≤ 1) }
-    ensures answer { IfOk result (λ answer. (notices : List ErrorLine) × ((texts : trees.Files) → AreAccepted texts settings.now.tree.now (tree_of_settled settled.now) → Answer (F.surroundings files.old).content (settings_view settings.now) texts (task_view task.now) answer.text.items answer.status notices) × TakesLines (E.taken err.old) (E.failures err.old) notices (E.taken err.new) (E.failures err.new)) }
+    ensures status { IfOk result (λ output. output.status ≤ 1) }
+    ensures output { IfOk result (λ output. (notices : List ErrorLine) × ((texts : trees.Files) → AreAccepted texts settings.now.tree.now (tree_of_settled settled.now) → HasOutput (F.surroundings files.old).content (settings_view settings.now) texts (task_view task.now) output.text.items output.status notices) × TakesLines (E.taken err.old) (E.failures err.old) notices (E.taken err.new) (E.failures err.new)) }
     ensures stopped { IfErr result (λ stop. (lines : List ErrorLine) × StopsOverTree (F.surroundings files.old).content (settings_view settings.now) (tree_of_settled settled.now) (task_view task.now) (status_of stop) lines × TakesLines (E.taken err.old) (E.failures err.old) lines (E.taken err.new) (E.failures err.new)) }
     ensures failed { IfErr result (λ stop. status_of stop ≡ 5 → HasRisen (F.failures files.old) (F.failures files.new)) }
     ensures rising { F.failures files.old ≤ F.failures files.new }
 {
     match task {
         Task::Over { verb, files: paths } => {
-            answer_files(alloc, settings, *verb, paths, settled, files, err)
+            output_of_files(alloc, settings, *verb, paths, settled, files, err)
         }
         Task::Compare { left, right } => {
-            answer_comparison(alloc, settings, left, right, settled, files, err)
+            output_of_comparison(alloc, settings, left, right, settled, files, err)
         }
     }
 }
 
 /// The output of a verb over the configuration of all files, and its status. Reports the notices, and why there is no
 /// output.
-fn answer_files<F: Files, E: Messages>(
+fn output_of_files<F: Files, E: Messages>(
     alloc: Global,
     settings: &Settings<'_>,
     verb: Verb,
@@ -130,21 +131,21 @@ fn answer_files<F: Files, E: Messages>(
     err: &mut E,
 ) -> Result<JobOutput, RunError>
     requires profile { profile_of settled.now ≡ settings.now.profile }
-    ensures status { IfOk result (λ answer. answer.status ≤ 1) }
-    ensures answer { IfOk result (λ answer. (notices : List ErrorLine) × ((texts : trees.Files) → AreAccepted texts settings.now.tree.now (tree_of_settled settled.now) → Answer (F.surroundings files.old).content (settings_view settings.now) texts (over verb (map (λ (path : Bor (List ℕ)). path.now) paths.now)) answer.text.items answer.status notices) × TakesLines (E.taken err.old) (E.failures err.old) notices (E.taken err.new) (E.failures err.new)) }
+    ensures status { IfOk result (λ output. output.status ≤ 1) }
+    ensures output { IfOk result (λ output. (notices : List ErrorLine) × ((texts : trees.Files) → AreAccepted texts settings.now.tree.now (tree_of_settled settled.now) → HasOutput (F.surroundings files.old).content (settings_view settings.now) texts (over verb (map (λ (path : Bor (List ℕ)). path.now) paths.now)) output.text.items output.status notices) × TakesLines (E.taken err.old) (E.failures err.old) notices (E.taken err.new) (E.failures err.new)) }
     ensures stopped { IfErr result (λ stop. (lines : List ErrorLine) × StopsOverTree (F.surroundings files.old).content (settings_view settings.now) (tree_of_settled settled.now) (over verb (map (λ (path : Bor (List ℕ)). path.now) paths.now)) (status_of stop) lines × TakesLines (E.taken err.old) (E.failures err.old) lines (E.taken err.new) (E.failures err.new)) }
     ensures failed { IfErr result (λ stop. status_of stop ≡ 5 → HasRisen (F.failures files.old) (F.failures files.new)) }
     ensures rising { F.failures files.old ≤ F.failures files.new }
 {
     let read = configured(alloc, settled, settings, paths, files, err)?;
-    let answer = noticed_answer(alloc, settings, verb, paths, &read, err);
+    let output = noticed_output(alloc, settings, verb, paths, &read, err);
     drop(read);
-    answer
+    output
 }
 
 /// The output of a verb over a configuration of files at these paths, and its status, once the notices on its choices are
 /// reported. Reports why there is no output.
-fn noticed_answer<E: Messages>(
+fn noticed_output<E: Messages>(
     alloc: Global,
     settings: &Settings<'_>,
     verb: Verb,
@@ -152,18 +153,18 @@ fn noticed_answer<E: Messages>(
     read: &ReadFiles<'_>,
     err: &mut E,
 ) -> Result<JobOutput, RunError>
-    ensures text { IfOk result (λ answer. (given : GivenSettings) → given.format ≡ file_format settings.now.format → given.profile ≡ profile_of read.now.config.system → IsTextOfVerb given (tree_in read.now.config) read.now.config.users read.now.config.values verb answer.text.items) }
-    ensures status { IfOk result (λ answer. answer.status ≡ status_of_verb (tree_in read.now.config) read.now.config.users read.now.config.values verb) }
-    ensures noticed { IfOk result (λ answer. AreNoticed settings.now.strict (map (λ (path : Bor (List ℕ)). path.now) paths.now) read.now (E.taken err.old) (E.failures err.old) (E.taken err.new) (E.failures err.new)) }
-    ensures stopped { IfErr result (λ stop. StopsAnswering settings.now.strict (map (λ (path : Bor (List ℕ)). path.now) paths.now) read.now (status_of stop) (E.taken err.old) (E.failures err.old) (E.taken err.new) (E.failures err.new)) }
+    ensures text { IfOk result (λ output. (given : GivenSettings) → given.format ≡ file_format settings.now.format → given.profile ≡ profile_of read.now.config.system → IsTextOfVerb given (tree_in read.now.config) read.now.config.users read.now.config.values verb output.text.items) }
+    ensures status { IfOk result (λ output. output.status ≡ status_of_verb (tree_in read.now.config) read.now.config.users read.now.config.values verb) }
+    ensures noticed { IfOk result (λ output. AreNoticed settings.now.strict (map (λ (path : Bor (List ℕ)). path.now) paths.now) read.now (E.taken err.old) (E.failures err.old) (E.taken err.new) (E.failures err.new)) }
+    ensures stopped { IfErr result (λ stop. StopsProducingOutput settings.now.strict (map (λ (path : Bor (List ℕ)). path.now) paths.now) read.now (status_of stop) (E.taken err.old) (E.failures err.old) (E.taken err.new) (E.failures err.new)) }
 {
     notice_choices(alloc, settings, paths, read, err)?;
-    Ok(answer_of(alloc, verb, &read.config, &settings.format)?)
+    Ok(output_of_verb(alloc, verb, &read.config, &settings.format)?)
 }
 
 /// The output of a comparison of two configurations of one file each, and its status. Reports the notices, and why
 /// there is no output.
-fn answer_comparison<F: Files, E: Messages>(
+fn output_of_comparison<F: Files, E: Messages>(
     alloc: Global,
     settings: &Settings<'_>,
     left: &str,
@@ -173,17 +174,17 @@ fn answer_comparison<F: Files, E: Messages>(
     err: &mut E,
 ) -> Result<JobOutput, RunError>
     requires profile { profile_of settled.now ≡ settings.now.profile }
-    ensures status { IfOk result (λ answer. answer.status ≤ 1) }
-    ensures answer { IfOk result (λ answer. (notices : List ErrorLine) × ((texts : trees.Files) → AreAccepted texts settings.now.tree.now (tree_of_settled settled.now) → Answer (F.surroundings files.old).content (settings_view settings.now) texts (compare left.now right.now) answer.text.items answer.status notices) × TakesLines (E.taken err.old) (E.failures err.old) notices (E.taken err.new) (E.failures err.new)) }
+    ensures status { IfOk result (λ output. output.status ≤ 1) }
+    ensures output { IfOk result (λ output. (notices : List ErrorLine) × ((texts : trees.Files) → AreAccepted texts settings.now.tree.now (tree_of_settled settled.now) → HasOutput (F.surroundings files.old).content (settings_view settings.now) texts (compare left.now right.now) output.text.items output.status notices) × TakesLines (E.taken err.old) (E.failures err.old) notices (E.taken err.new) (E.failures err.new)) }
     ensures stopped { IfErr result (λ stop. (lines : List ErrorLine) × StopsOverTree (F.surroundings files.old).content (settings_view settings.now) (tree_of_settled settled.now) (compare left.now right.now) (status_of stop) lines × TakesLines (E.taken err.old) (E.failures err.old) lines (E.taken err.new) (E.failures err.new)) }
     ensures failed { IfErr result (λ stop. status_of stop ≡ 5 → HasRisen (F.failures files.old) (F.failures files.new)) }
     ensures rising { F.failures files.old ≤ F.failures files.new }
 {
     let (before, after) = read_both(alloc, settled, settings, left, right, files, err)?;
-    let answer = noticed_comparison(alloc, settings, left, right, &before, &after, err);
+    let output = noticed_comparison(alloc, settings, left, right, &before, &after, err);
     drop(after);
     drop(before);
-    answer
+    output
 }
 
 /// The configurations of two files, each by itself. Reports the notices of the files' lines, and why one is refused.
@@ -226,9 +227,9 @@ fn noticed_comparison<E: Messages>(
     err: &mut E,
 ) -> Result<JobOutput, RunError>
     requires { before.now.config.system ≡ after.now.config.system }
-    ensures text { IfOk result (λ answer. answer.text.items ≡ flat_map (difference_line settings.now.output_form settings.now.format.strings (tree_in before.now.config)) (differences (tree_in before.now.config) before.now.config.values after.now.config.values)) }
-    ensures status { IfOk result (λ answer. answer.status ≡ status_of_list true (differences (tree_in before.now.config) before.now.config.values after.now.config.values)) }
-    ensures noticed { IfOk result (λ answer. AreBothNoticed settings.now.strict left.now right.now before.now after.now (E.taken err.old) (E.failures err.old) (E.taken err.new) (E.failures err.new)) }
+    ensures text { IfOk result (λ output. output.text.items ≡ flat_map (difference_line settings.now.output_form settings.now.format.strings (tree_in before.now.config)) (differences (tree_in before.now.config) before.now.config.values after.now.config.values)) }
+    ensures status { IfOk result (λ output. output.status ≡ status_of_list true (differences (tree_in before.now.config) before.now.config.values after.now.config.values)) }
+    ensures noticed { IfOk result (λ output. AreBothNoticed settings.now.strict left.now right.now before.now after.now (E.taken err.old) (E.failures err.old) (E.taken err.new) (E.failures err.new)) }
     ensures stopped { IfErr result (λ stop. StopsComparing settings.now.strict left.now right.now before.now after.now (status_of stop) (E.taken err.old) (E.failures err.old) (E.taken err.new) (E.failures err.new)) }
 {
     notice_choices(alloc, settings, &[left], before, err)?;

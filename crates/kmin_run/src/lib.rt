@@ -3,7 +3,7 @@
 
 mod asked_forms;
 mod bundle;
-mod bundle_answer;
+mod bundle_output;
 mod job_output;
 mod output_file;
 mod program;

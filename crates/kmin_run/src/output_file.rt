@@ -42,8 +42,8 @@ pub fn save<F: Files, D: WriteDisk, E: Messages>(
         ⊎ ((text : List ℕ) × (fault : TheFault) × IsUnsaved (D.disk disk.old) (D.disk disk.new) output_job.now.output.now text fault) }
 {
     match output_of_job(alloc, &output_job.job, files, err) {
-        Ok(answer) => match save_text(alloc, output_job.output, &answer.text, disk, err) {
-            Ok(()) => answer.status,
+        Ok(output) => match save_text(alloc, output_job.output, &output.text, disk, err) {
+            Ok(()) => output.status,
             Err(stop) => exit_status(stop, err),
         },
         Err(stop) => exit_status(stop, err),

@@ -12,7 +12,7 @@ ghost use Rattle.kmin_texts.specs.Spellings.{AskedForm, as_asked};
 ghost use Rattle.kmin_run.specs.between.WordRuns.{AreWordsRead};
 
 use crate::asked_forms::set_form_for;
-use crate::bundle_answer::run_bundle;
+use crate::bundle_output::run_bundle;
 use crate::job_output::serve;
 use crate::output_file::save;
 use crate::tidy_command::{refuse_list, tidy};
@@ -23,7 +23,7 @@ use kmin_disk::WriteDisk;
 use kmin_explain_command::explain;
 use kmin_inputs::{Files, WordFiles, read_word_files};
 use kmin_lines::{WordFault, with_files};
-use kmin_report::{Message, Messages, RunError, exit_status, write_answer};
+use kmin_report::{Message, Messages, RunError, exit_status, write_output};
 use kmin_texts::FormMessages;
 use std::alloc::Global;
 
@@ -72,13 +72,13 @@ pub fn run<F: Files, D: WriteDisk, I: Source, O: Sink, E: FormMessages>(
         ⊎ (AskForTidying (F.surroundings files.old) (I.left input.old) (map (λ (word : Bor (List ℕ)). word.now) words.now) ⊎ AskForChanges (F.surroundings files.old) (I.left input.old) (map (λ (word : Bor (List ℕ)). word.now) words.now)) }
 {
     if words.is_empty() {
-        return answer_bundle(alloc, files.seed(), input, out, err);
+        return serve_bundle(alloc, files.seed(), input, out, err);
     }
     run_words(alloc, words, files, disk, input, out, err)
 }
 
 /// Reads a bundle, writes its full file, and returns the exit status.
-fn answer_bundle<I: Source, O: Sink, E: Messages>(
+fn serve_bundle<I: Source, O: Sink, E: Messages>(
     alloc: Global,
     seed: Seed,
     input: &mut I,
@@ -267,7 +267,7 @@ fn write_help<O: Sink, E: Messages>(text: &str, out: &mut O, err: &mut E) -> u8
         (outputs_of disk (O.taken out.old) (O.failures out.old))
         (outputs_of disk (O.taken out.new) (O.failures out.new)) lines result × TakesLines (E.taken err.old) (E.failures err.old) lines (E.taken err.new) (E.failures err.new) }
 {
-    match write_answer(text.as_bytes(), out, err) {
+    match write_output(text.as_bytes(), out, err) {
         Ok(()) => 0,
         Err(_) => RunError::Failed.status(),
     }

@@ -18,7 +18,7 @@ use kmin_inputs::{Files, read_list};
 use kmin_lines::{ListFault, listed_paths};
 use kmin_options::{PathList, Settings, TidyFlags, TidyJob};
 use kmin_report::{Message, Messages, RunError, exit_status};
-use kmin_tidy::{TidyOptions, tidy_files};
+use kmin_tidy::{Tidier, TidyOptions, tidy_files};
 use kmin_trees::job_tree;
 use std::alloc::{AllocError, Global};
 
@@ -119,9 +119,12 @@ fn tidy_paths<F: Files, D: WriteDisk, O: Sink, E: Messages>(
 {
     match job_tree(alloc, &tidy_job.settings, files, err) {
         Ok(settled) => {
-            let options = options_of(&tidy_job.settings, tidy_job.flags);
-            let format = &tidy_job.settings.format;
-            let status = tidy_files(alloc, &settled, format, options, paths, disk, out, err);
+            let by = &Tidier {
+                alloc,
+                format: &tidy_job.settings.format,
+                options: options_of(&tidy_job.settings, tidy_job.flags),
+            };
+            let status = tidy_files(by, &settled, paths, disk, out, err);
             drop(settled);
             status
         }

@@ -52,20 +52,20 @@ pub fn list_questions<F: Files, O: Sink, E: Messages>(
     // On status 5 an answer file couldn't be opened, or a read of one or a write of the output failed.
     ensures failed { result ≡ 5 → HasRisen (F.failures files.old) (F.failures files.new) ⊎ HasRisen (O.failures out.old) (O.failures out.new) }
 {
-    let answer = answer_questions(alloc, questions, files, err);
-    finish(answer, out, err)
+    let output = output_of_questions(alloc, questions, files, err);
+    finish(output, out, err)
 }
 
 /// The complete list of questions, and its status. Reports why there is none.
-fn answer_questions<F: Files, E: Messages>(
+fn output_of_questions<F: Files, E: Messages>(
     alloc: Global,
     questions: &Questions<'_>,
     files: &mut F,
     err: &mut E,
 ) -> Result<JobOutput, RunError>
-    ensures status { IfOk result (λ answer. answer.status ≤ 1) }
-    ensures answer { IfOk result (λ answer. (asked : List (List ℕ)) × AreAsked (F.surroundings files.old) (F.failures files.old) (F.failures files.new) (questions_view questions.now) (Ok asked) × (answer.text.items ≡ questions_text asked) × (answer.status ≡ status_of_list true asked)) }
-    ensures unreported { IfOk result (λ answer. TakesLines (E.taken err.old) (E.failures err.old) [] (E.taken err.new) (E.failures err.new)) }
+    ensures status { IfOk result (λ output. output.status ≤ 1) }
+    ensures output { IfOk result (λ output. (asked : List (List ℕ)) × AreAsked (F.surroundings files.old) (F.failures files.old) (F.failures files.new) (questions_view questions.now) (Ok asked) × (output.text.items ≡ questions_text asked) × (output.status ≡ status_of_list true asked)) }
+    ensures unreported { IfOk result (λ output. TakesLines (E.taken err.old) (E.failures err.old) [] (E.taken err.new) (E.failures err.new)) }
     ensures stopped { IfErr result (λ stop. (lines : List ErrorLine) × StopsWanting (F.surroundings files.old) (F.failures files.old) (F.failures files.new) (questions_view questions.now) (status_of stop) lines × TakesLines (E.taken err.old) (E.failures err.old) lines (E.taken err.new) (E.failures err.new)) }
     ensures failed { IfErr result (λ stop. status_of stop ≡ 5 → HasRisen (F.failures files.old) (F.failures files.new)) }
 {
@@ -84,8 +84,8 @@ fn answer_questions<F: Files, E: Messages>(
 
 /// A line for each question, and the exit status: 1 if there are any, else 0.
 fn lines_of(alloc: Global, asked: &[Vec<u8>]) -> Result<JobOutput, AllocError>
-    ensures text { IfOk result (λ answer. answer.text.items ≡ questions_text (items_of asked.now)) }
-    ensures status { IfOk result (λ answer. answer.status ≡ status_of_list true (items_of asked.now)) }
+    ensures text { IfOk result (λ output. output.text.items ≡ questions_text (items_of asked.now)) }
+    ensures status { IfOk result (λ output. output.status ≡ status_of_list true (items_of asked.now)) }
 {
     let text = question_lines(alloc, asked)?;
     let status = if asked.is_empty() { 0 } else { 1 };

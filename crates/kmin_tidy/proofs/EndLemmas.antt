@@ -40,7 +40,7 @@ module _ (s : TidySettings) (a : Disk) where
       inr (sym stays.same_content ∙ is, ap newest left)
   new_place before (content ∷ rest) after (inr m) left free =
       let is : Some content ≡ Some nothing = free (λ e. let z : Some content ≡ None = e in (cc)) in
-      absurd (newest_written m.least before (ap newest (sym m.replaced) ∙ is))
+      absurd (newest_written m.minimal_bytes before (ap newest (sym m.replaced) ∙ is))
 
   left_became : (between b : Disk) (path new_path place : List ℕ) → LeavesNewFile between b path new_path
       → IsKept s (a.state.history place) (between.state.history place) → IsKeptOrLeft s (a.state.history place) (b.state.history place)
@@ -104,7 +104,7 @@ module _ (s : TidySettings) (a : Disk) where
       let P : List ℕ → Type 0 = λ p. IsTidy s (newest (a.state.history (a.state.place p))) in
       let here : IsTidy s (content_at between.state path) =
       subst (λ (d : DiskState). IsTidy s (content_at d path)) (sym same) (all_next P front path back (tidy_parts paths front (path ∷ back) e tidy)) in
-      tidy_same s between.state path asked.bytes asked.least asked.notices here asked.differs
+      tidy_same s between.state path asked.bytes asked.minimal_bytes asked.notices here asked.differs
 
   tidies_front : (b : Disk) (paths front back : List (List ℕ)) (text : List ℕ) (reports : List ErrorLine) (status : ℕ) → paths ≡ front ++ back
       → Tidies s a b front text reports status → AreTidy s a.state paths → (b.state ≡ a.state) × (text ≡ [])

@@ -42,11 +42,11 @@ use Rattle.kmin_tidy.specs.declared.file_step.FileEnd.{FileEnd}
 use Rattle.kmin_tidy.proofs.RefusalLemmas.{refused_by, lines_of_problem, lines_of_notices}
 
 -- bytes for which the test `==` gives `false` differ
-pub differ : (least bytes : List ℕ) (test : Bool) → test ≡ bytes_eq least bytes → test ≡ false → least ≢ bytes
-differ least bytes test e f = λ same. let h : bytes_eq least bytes ≡ true = (bytes_eq-Decides least bytes).1 same in cc
+pub differ : (minimal_bytes bytes : List ℕ) (test : Bool) → test ≡ bytes_eq minimal_bytes bytes → test ≡ false → minimal_bytes ≢ bytes
+differ minimal_bytes bytes test e f = λ same. let h : bytes_eq minimal_bytes bytes ≡ true = (bytes_eq-Decides minimal_bytes bytes).1 same in cc
 
-pub agree : (least bytes : List ℕ) (test : Bool) → test ≡ bytes_eq least bytes → test ≡ true → least ≡ bytes
-agree least bytes test e t = (bytes_eq-Decides least bytes).0 (sym e ∙ t)
+pub agree : (minimal_bytes bytes : List ℕ) (test : Bool) → test ≡ bytes_eq minimal_bytes bytes → test ≡ true → minimal_bytes ≡ bytes
+agree minimal_bytes bytes test e t = (bytes_eq-Decides minimal_bytes bytes).0 (sym e ∙ t)
 
 -- a content that may be of another kind than `NotRegular` isn't known to be `special`
 pub kind_not_special : (content : Option Content) (kind : FileKind) → IsOfKind content kind → kind ≢ KindNotRegular → content ≢ Some special
@@ -87,30 +87,30 @@ module _ (s : TidySettings) (a : Disk) (path : List ℕ) (report : FileReport) w
       noticed bytes (map notice_pair noted) read has some asked refl refl (lines_by noted n p) o
 
   -- the step of an accepted file that isn't refused, from the result of comparing it with its minimal file and replacing it
-  pub rewritten_step : (b : Disk) (bytes least line : List ℕ) (noted : List Notice) (end : FileEnd)
-      → Minimises s a.state path bytes least (map notice_pair noted) → IsRewritten s.options.output_form s.options.write a b path bytes least line end
+  pub rewritten_step : (b : Disk) (bytes minimal_bytes line : List ℕ) (noted : List Notice) (end : FileEnd)
+      → Minimises s a.state path bytes minimal_bytes (map notice_pair noted) → IsRewritten s.options.output_form s.options.write a b path bytes minimal_bytes line end
       → report.notices.items ≡ noted → report.problem ≡ end.problem → report.outcome ≡ end.outcome
       → Step s a b path line (report_lines s.tree path report) report.outcome
-  rewritten_step b bytes least line noted end m (results.same e k l q o) n p r =
+  rewritten_step b bytes minimal_bytes line noted end m (results.same e k l q o) n p r =
       minimal bytes (map notice_pair noted) (subst (λ x. Minimises s a.state path bytes x (map notice_pair noted)) e m) k l
       (lines_by noted n (p ∙ q)) (r ∙ o)
-  rewritten_step b bytes least line noted end m (results.shown ne w k l q o) n p r =
-      shown bytes least (map notice_pair noted) (record { minimises = m; differs = ne }) w k l (lines_by noted n (p ∙ q)) (r ∙ o)
-  rewritten_step b bytes least line noted end m (results.replaced ne w t f l q o) n p r =
-      replaced bytes least (map notice_pair noted) (record { minimises = m; differs = ne }) w t f l (lines_by noted n (p ∙ q)) (r ∙ o)
-  rewritten_step b bytes least line noted end m (results.unwritten ne w u l q o) n p r =
-      unwritten bytes least (map notice_pair noted) (record { minimises = m; differs = ne }) w u l
+  rewritten_step b bytes minimal_bytes line noted end m (results.shown ne w k l q o) n p r =
+      shown bytes minimal_bytes (map notice_pair noted) (record { minimises = m; differs = ne }) w k l (lines_by noted n (p ∙ q)) (r ∙ o)
+  rewritten_step b bytes minimal_bytes line noted end m (results.replaced ne w t f l q o) n p r =
+      replaced bytes minimal_bytes (map notice_pair noted) (record { minimises = m; differs = ne }) w t f l (lines_by noted n (p ∙ q)) (r ∙ o)
+  rewritten_step b bytes minimal_bytes line noted end m (results.unwritten ne w u l q o) n p r =
+      unwritten bytes minimal_bytes (map notice_pair noted) (record { minimises = m; differs = ne }) w u l
       (lines_with noted Write n (p ∙ q)) (r ∙ o)
-  rewritten_step b bytes least line noted end m (results.unsynced ne w u l q o) n p r =
-      unsynced bytes least (map notice_pair noted) (record { minimises = m; differs = ne }) w u l
+  rewritten_step b bytes minimal_bytes line noted end m (results.unsynced ne w u l q o) n p r =
+      unsynced bytes minimal_bytes (map notice_pair noted) (record { minimises = m; differs = ne }) w u l
       (lines_with noted Write n (p ∙ q)) (r ∙ o)
 
 -- a run that ends at the comparison of a file with its minimal file, or at its replacement, ends at that file
-pub stops_rewrite : (s : TidySettings) (a b : Disk) (path bytes least : List ℕ) (notices : Notices) (stop : TidyStop) → Minimises s a.state path bytes least notices
-    → StopsRewrite s.options.write a b path bytes least stop → StopsFile s a b path stop
-stops_rewrite s a b path bytes least notices stop m (inl h) = inl (h.0, inl h.1)
-stops_rewrite s a b path bytes least notices stop m (inr h) =
-    inr (record { asked = h.0; bytes = bytes; least = least; notices = notices; differs = record { minimises = m; differs = h.1 } }, h.2)
+pub stops_rewrite : (s : TidySettings) (a b : Disk) (path bytes minimal_bytes : List ℕ) (notices : Notices) (stop : TidyStop) → Minimises s a.state path bytes minimal_bytes notices
+    → StopsRewrite s.options.write a b path bytes minimal_bytes stop → StopsFile s a b path stop
+stops_rewrite s a b path bytes minimal_bytes notices stop m (inl h) = inl (h.0, inl h.1)
+stops_rewrite s a b path bytes minimal_bytes notices stop m (inr h) =
+    inr (record { asked = h.0; bytes = bytes; minimal_bytes = minimal_bytes; notices = notices; differs = record { minimises = m; differs = h.1 } }, h.2)
 
 -- the notices on choices in a file, from the lines of members of its fragment
 pub choices_noted : (tree : Tree) (values : List UnitValue) (meanings : List LineMeaning) (chosen : List ChoiceLine) → chosen ≡ choice_lines_from 1 meanings
@@ -166,35 +166,35 @@ module _ (settled now : Settled) (format : Format) (options : TidyOptions) (byte
       of_choices values file_loads empty (all_noted ∙ ap (λ ns. ns ++ choice_notices (tree_of_settled settled) values f.meanings) empty)
 
 -- after a fault of replacing a file that lets the run go on, the file counts as not replaced, or not for good
-pub written_by : (a b : Disk) (path least : List ℕ) (fault : ReplaceFault) (end : FileEnd) → FaultLeaves a.state b.state path least fault
+pub written_by : (a b : Disk) (path minimal_bytes : List ℕ) (fault : ReplaceFault) (end : FileEnd) → FaultLeaves a.state b.state path minimal_bytes fault
     → b.failures ≡ failures_of_fault a.failures fault → (fault ≡ NotRegular → IsOfKind (content_at a.state path) KindNotRegular)
-    → (fault ≡ NamesTaken → HasTakenName a.state path) → IsFailedBy fault end → IsWritten a b path least end
-written_by a b path least NotRegular end l f k t h = results.not_in_place (not_regular l (k refl) f) h.0 h.1 h.2
-written_by a b path least Unchanged end l f k t h = results.not_in_place (call_failed l f) h.0 h.1 h.2
-written_by a b path least NamesTaken end l f k t h = results.not_in_place (names_taken l (t refl) f) h.0 h.1 h.2
-written_by a b path least (Left new_path) end l f k t h = absurd h
-written_by a b path least FolderNotSynced end l f k t h = results.not_synced (record { replaced = l; failures = f }) h.0 h.1 h.2
-written_by a b path least OutOfMemory end l f k t h = absurd h
+    → (fault ≡ NamesTaken → HasTakenName a.state path) → IsFailedBy fault end → IsWritten a b path minimal_bytes end
+written_by a b path minimal_bytes NotRegular end l f k t h = results.not_in_place (not_regular l (k refl) f) h.0 h.1 h.2
+written_by a b path minimal_bytes Unchanged end l f k t h = results.not_in_place (call_failed l f) h.0 h.1 h.2
+written_by a b path minimal_bytes NamesTaken end l f k t h = results.not_in_place (names_taken l (t refl) f) h.0 h.1 h.2
+written_by a b path minimal_bytes (Left new_path) end l f k t h = absurd h
+written_by a b path minimal_bytes FolderNotSynced end l f k t h = results.not_synced (record { replaced = l; failures = f }) h.0 h.1 h.2
+written_by a b path minimal_bytes OutOfMemory end l f k t h = absurd h
 
-pub stopped_by : (a b : Disk) (path least : List ℕ) (fault : ReplaceFault) (stop : TidyStop) → FaultLeaves a.state b.state path least fault
+pub stopped_by : (a b : Disk) (path minimal_bytes : List ℕ) (fault : ReplaceFault) (stop : TidyStop) → FaultLeaves a.state b.state path minimal_bytes fault
     → b.failures ≡ failures_of_fault a.failures fault → IsStoppedBy fault stop → StopsWrite a b path stop
-stopped_by a b path least NotRegular stop l f h = absurd h
-stopped_by a b path least Unchanged stop l f h = absurd h
-stopped_by a b path least NamesTaken stop l f h = absurd h
-stopped_by a b path least (Left new_path) stop l f h =
+stopped_by a b path minimal_bytes NotRegular stop l f h = absurd h
+stopped_by a b path minimal_bytes Unchanged stop l f h = absurd h
+stopped_by a b path minimal_bytes NamesTaken stop l f h = absurd h
+stopped_by a b path minimal_bytes (Left new_path) stop l f h =
     subst (StopsWrite a b path) (sym h) (record { leaves = l.0; named = l.1; failures = f })
-stopped_by a b path least FolderNotSynced stop l f h = absurd h
-stopped_by a b path least OutOfMemory stop l f h = subst (StopsWrite a b path) (sym h) l
+stopped_by a b path minimal_bytes FolderNotSynced stop l f h = absurd h
+stopped_by a b path minimal_bytes OutOfMemory stop l f h = subst (StopsWrite a b path) (sym h) l
 
 -- the result of an attempt to replace a file by a minimal file of other bytes is one that `IsRewritten` allows
-pub rewritten_by : (form : OutputForm) (a b : Disk) (path bytes least : List ℕ) (end : FileEnd) → least ≢ bytes → IsWritten a b path least end
-    → IsRewritten form true a b path bytes least (cond end.is_replaced (file_line form path bytes least) []) end
-rewritten_by form a b path bytes least end ne (results.in_place r f p o k) =
-    results.replaced ne refl r f (ap (λ b. cond b (file_line form path bytes least) []) k) p o
-rewritten_by form a b path bytes least end ne (results.not_in_place u p o k) =
-    results.unwritten ne refl u (ap (λ b. cond b (file_line form path bytes least) []) k) p o
-rewritten_by form a b path bytes least end ne (results.not_synced u p o k) =
-    results.unsynced ne refl u (ap (λ b. cond b (file_line form path bytes least) []) k) p o
+pub rewritten_by : (form : OutputForm) (a b : Disk) (path bytes minimal_bytes : List ℕ) (end : FileEnd) → minimal_bytes ≢ bytes → IsWritten a b path minimal_bytes end
+    → IsRewritten form true a b path bytes minimal_bytes (cond end.is_replaced (file_line form path bytes minimal_bytes) []) end
+rewritten_by form a b path bytes minimal_bytes end ne (results.in_place r f p o k) =
+    results.replaced ne refl r f (ap (λ b. cond b (file_line form path bytes minimal_bytes) []) k) p o
+rewritten_by form a b path bytes minimal_bytes end ne (results.not_in_place u p o k) =
+    results.unwritten ne refl u (ap (λ b. cond b (file_line form path bytes minimal_bytes) []) k) p o
+rewritten_by form a b path bytes minimal_bytes end ne (results.not_synced u p o k) =
+    results.unsynced ne refl u (ap (λ b. cond b (file_line form path bytes minimal_bytes) []) k) p o
 
 -- a text whose last line is taken back unless `is_kept` is the text before, with that line if `is_kept`
 pub listed_by : (before line after : List ℕ) (start : ℕ) (is_kept : Bool) → start ≡ length before

@@ -1,5 +1,5 @@
 -- Files that are refused, and what is reported of them.
-use Rattle.kmin_tidy.proofs.Common.{◌≡◌, ◌≢◌, ℕ, List, [], ◌∷◌, ◌++◌, Some, None, map, refl, sym, ap, ◌∙◌, append-nil, ◌⊎◌, inl, inr, Tree, notice_pair, LoadKind, Read, OutOfMemory, readable, Disk, FailsOnce, MayFailOnce, content_at, TidySettings, MayBeRead, fault_line, notice_lines, IsRefused}
+use Rattle.kmin_tidy.proofs.Common.{◌≡◌, ◌≢◌, ℕ, List, [], ◌∷◌, ◌++◌, Some, None, map, refl, sym, ap, ◌∙◌, append-nil, ◌⊎◌, inl, inr, Tree, notice_pair, LoadKind, Read, OutOfMemory, readable, Disk, FailsOnce, MayFailOnce, content_at, TidySettings, MayBeRead, fault_line, notice_lines, IsNotAccepted}
 use Rattle.kmin_tidy.proofs.Common.{IsFaulty, refused, unread, unopened, for_memory, problem_lines, report_lines, FileOutcome, Refused, Failed, Problem, FileReport}
 use Rattle.kmin_tidy.specs.Refusals as refusals
 use Rattle.kmin_tidy.specs.checker.ReportLines.{problem_line}
@@ -12,7 +12,7 @@ module _ (s : TidySettings) (a b : Disk) (path : List ℕ) (kind : LoadKind) (nu
     (once : MayFailOnce a b) where
   -- a file that can't be read or isn't accepted is refused, with the line of its fault on standard error
   pub refused_by : MayBeRead s a.state path → IsFaulty s.format s.tree (readable (content_at a.state path)) kind number → IsOutcomeOf kind outcome
-      → IsRefused s a b path outcome (fault_line path number kind)
+      → IsNotAccepted s a b path outcome (fault_line path number kind)
   refused_by may (refused bytes known other first) (inl is) = absurd (other is.0)
   refused_by may (refused bytes known other first) (inr is) = refusals.faulty bytes kind number (record { may = may; bytes_are = known }) first once is.2 refl
   refused_by may (unread front rest known first read) (inl is) = refusals.unread front rest number (record { may = may; bytes_are = known }) first

@@ -15,9 +15,9 @@ use Rattle.kmin_tidy.specs.Runs.{Tidies}
 pub record IsToBeReplaced (s : TidySettings) (disk : Disk) (path : List ℕ) : Type 0 where
   pub asked : s.options.write ≡ true
   pub bytes : List ℕ
-  pub least : List ℕ
+  pub minimal_bytes : List ℕ
   pub notices : Notices
-  pub differs : IsNotMinimal s disk.state path bytes least notices
+  pub differs : IsNotMinimal s disk.state path bytes minimal_bytes notices
 
 -- Replacing the file at `path` failed, and so did removing its new file, which is left at `new_path` in the same folder.
 pub record LeavesNewFile (old new : Disk) (path new_path : List ℕ) : Type 0 where

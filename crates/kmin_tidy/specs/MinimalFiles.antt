@@ -1,5 +1,6 @@
 -- Files of a disk, and their minimal files.
 use Rattle.std.specs.Prelude.{◌≡◌, ◌≢◌, ℕ, true, List, [], ◌∷◌, ◌++◌, Option, Some, map}
+use Rattle.kc_value.specs.FileContents.{AreKnownBytes}
 use Rattle.kc_tree_model.specs.Trees.{Tree}
 use Rattle.kc_rules_model.specs.declared.values.UnitValue.{UnitValue}
 use Rattle.kc_dotconfig_model.specs.ConfigLines.{LineMeaning}
@@ -11,7 +12,6 @@ use Rattle.kc_minimal_model.specs.CanonicalText.{IsCanonicalText}
 use Rattle.kc_minimal_model.specs.FileValues.{Loads}
 use Rattle.kmin_disk.specs.Contents.{Content, special, readable}
 use Rattle.kmin_disk.specs.Disks.{DiskState, content_at}
-use Rattle.kmin_report.specs.KnownBytes.{AreKnownBytes}
 use Rattle.kmin_tidy.specs.Options.{TidySettings, Notices, AreAllowed}
 
 -- these bytes may be read from a file of this content, as far as it is known
@@ -39,12 +39,12 @@ pub data HasNotices (s : TidySettings) (bytes : List ℕ) (notices : Notices) : 
   of_choices : (values : List UnitValue) (loads : Loads s.format s.profile s.tree bytes values) → notices_from 1 loads.reads.meanings ≡ []
       → notices ≡ choice_notices s.tree values loads.reads.meanings → HasNotices s bytes notices
 
--- These bytes are an accepted configuration file, which has these notices, of its lines and then on choices, and `least` is the
+-- These bytes are an accepted configuration file, which has these notices, of its lines and then on choices, and `minimal_bytes` is the
 -- minimal file of the values that it gives.
-pub record HasMinimalFile (s : TidySettings) (bytes least : List ℕ) (notices : Notices) : Type 0 where
+pub record HasMinimalFile (s : TidySettings) (bytes minimal_bytes : List ℕ) (notices : Notices) : Type 0 where
   pub values : List UnitValue
   pub loads : Loads s.format s.profile s.tree bytes values
-  pub canonical : IsCanonicalText s.format s.profile s.tree values least
+  pub canonical : IsCanonicalText s.format s.profile s.tree values minimal_bytes
   pub notices_are : notices ≡ notices_from 1 loads.reads.meanings ++ choice_notices s.tree values loads.reads.meanings
 
 -- these bytes are the minimal file of some values of the symbols
@@ -52,12 +52,12 @@ abbrev pub IsMinimalFile : TidySettings → (bytes : List ℕ) → Type 0
 IsMinimalFile s bytes = (values : List UnitValue) × IsCanonicalText s.format s.profile s.tree values bytes
 
 -- The file at a path is accepted with these notices, and not refused for them, and has this minimal file.
-pub record Minimises (s : TidySettings) (disk : DiskState) (path bytes least : List ℕ) (notices : Notices) : Type 0 where
+pub record Minimises (s : TidySettings) (disk : DiskState) (path bytes minimal_bytes : List ℕ) (notices : Notices) : Type 0 where
   pub read : IsReadAt s disk path bytes
-  pub minimal : HasMinimalFile s bytes least notices
+  pub minimal : HasMinimalFile s bytes minimal_bytes notices
   pub allowed : AreAllowed s.options notices
 
 -- The file at a path is accepted with these notices, and not refused for them, and its bytes aren't those of its minimal file.
-pub record IsNotMinimal (s : TidySettings) (disk : DiskState) (path bytes least : List ℕ) (notices : Notices) : Type 0 where
-  pub minimises : Minimises s disk path bytes least notices
-  pub differs : least ≢ bytes
+pub record IsNotMinimal (s : TidySettings) (disk : DiskState) (path bytes minimal_bytes : List ℕ) (notices : Notices) : Type 0 where
+  pub minimises : Minimises s disk path bytes minimal_bytes notices
+  pub differs : minimal_bytes ≢ bytes

@@ -10,12 +10,12 @@ use Rattle.kmin_tidy.specs.MinimalFiles.{IsReadAs, HasMinimalFile, IsMinimalFile
 -- A name in a folder held a file that was accepted but not minimal, and this file was replaced by its minimal file.
 pub record IsMinimised (s : TidySettings) (old new : History) : Type 0 where
   pub bytes : List ℕ
-  pub least : List ℕ
+  pub minimal_bytes : List ℕ
   pub notices : Notices
   pub read : IsReadAs (newest old) bytes
-  pub minimal : HasMinimalFile s bytes least notices
-  pub differs : least ≢ bytes
-  pub replaced : new ≡ with_newest (file least) old
+  pub minimal : HasMinimalFile s bytes minimal_bytes notices
+  pub differs : minimal_bytes ≢ bytes
+  pub replaced : new ≡ with_newest (file minimal_bytes) old
 
 -- A name in a folder holds what it held before, or its file was replaced by its minimal file.
 abbrev pub IsKept : TidySettings → (old new : History) → Type 0
@@ -32,7 +32,7 @@ IsKeptOrLeft s old new = IsKept s old new ⊎ IsLeft old new
 
 -- a file of these bytes isn't accepted as a configuration file, or is refused for its notices
 abbrev pub IsRefusedFile : TidySettings → (bytes : List ℕ) → Type 0
-IsRefusedFile s bytes = (least : List ℕ) (notices : Notices) → HasMinimalFile s bytes least notices
+IsRefusedFile s bytes = (minimal_bytes : List ℕ) (notices : Notices) → HasMinimalFile s bytes minimal_bytes notices
     → (refuses_notices s.options ≡ true) × (notices ≢ [])
 
 -- what is at a path is known: no file, a minimal file, or a file that is refused

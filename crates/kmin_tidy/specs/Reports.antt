@@ -16,21 +16,21 @@ counted out_count in_count = if (out_count == 0) && (in_count == 0)
     then codes "order"
     else (decimal out_count ++ (codes " out, " ++ (decimal in_count ++ codes " in")))
 
--- how a file of these bytes differs from its minimal file `least`, as text: `line ends` where they have the same lines in the same
+-- how a file of these bytes differs from its minimal file `minimal_bytes`, as text: `line ends` where they have the same lines in the same
 -- order, and so differ in nothing but carriage returns at the ends of lines and the newline after the last one
-abbrev pub difference : (bytes least : List ℕ) → List ℕ
-difference bytes least = if have_same_lines bytes least
+abbrev pub difference : (bytes minimal_bytes : List ℕ) → List ℕ
+difference bytes minimal_bytes = if have_same_lines bytes minimal_bytes
     then codes "line ends"
-    else counted (count_lines_not_in bytes least) (count_lines_not_in least bytes)
+    else counted (count_lines_not_in bytes minimal_bytes) (count_lines_not_in minimal_bytes bytes)
 
 -- the line of standard output for a file that isn't its own minimal file: `FILE: K out, L in`, `FILE: line ends` or `FILE: order`
-abbrev pub difference_line : (path bytes least : List ℕ) → List ℕ
-difference_line path bytes least = path ++ (codes ": " ++ (difference bytes least ++ codes "\n"))
+abbrev pub difference_line : (path bytes minimal_bytes : List ℕ) → List ℕ
+difference_line path bytes minimal_bytes = path ++ (codes ": " ++ (difference bytes minimal_bytes ++ codes "\n"))
 
 -- the line of standard output, in a form, for a file that isn't its own minimal file
-abbrev pub file_line : OutputForm → (path bytes least : List ℕ) → List ℕ
-file_line Plain path bytes least = difference_line path bytes least
-file_line Json path bytes least = tidy_record path bytes least
+abbrev pub file_line : OutputForm → (path bytes minimal_bytes : List ℕ) → List ℕ
+file_line Plain path bytes minimal_bytes = difference_line path bytes minimal_bytes
+file_line Json path bytes minimal_bytes = tidy_record path bytes minimal_bytes
 
 -- the lines of standard error for the notices of a configuration file over a tree, in order
 abbrev pub notice_lines : Tree → (path : List ℕ) → Notices → List ErrorLine

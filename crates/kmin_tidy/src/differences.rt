@@ -8,39 +8,39 @@ use kc_value::Seed;
 use kmin_lines::{LineCounts, count_lines, have_same_lines};
 use std::alloc::{AllocError, Global};
 
-/// Appends to `text` the line of standard output for a file of these bytes, which aren't those of its minimal file `least`.
+/// Appends to `text` the line of standard output for a file of these bytes, which aren't those of its minimal file `minimal_bytes`.
 pub(crate) fn push_difference_line(
     alloc: Global,
     seed: Seed,
     path: &str,
     bytes: &[u8],
-    least: &[u8],
+    minimal_bytes: &[u8],
     text: &mut Vec<u8>,
 ) -> Result<(), AllocError>
-    ensures { OnOk result (text.new.items ≡ text.old.items ++ difference_line path.now bytes.now least.now) }
+    ensures { OnOk result (text.new.items ≡ text.old.items ++ difference_line path.now bytes.now minimal_bytes.now) }
 {
     text.extend_from_slice(path.as_bytes())?;
     text.extend_from_slice(b": ")?;
-    push_difference(alloc, seed, bytes, least, text)?;
+    push_difference(alloc, seed, bytes, minimal_bytes, text)?;
     text.extend_from_slice(b"\n")?;
     Ok(())
 }
 
-/// Appends how a file of these bytes differs from its minimal file `least`: `line ends`, or how its lines do.
+/// Appends how a file of these bytes differs from its minimal file `minimal_bytes`: `line ends`, or how its lines do.
 fn push_difference(
     alloc: Global,
     seed: Seed,
     bytes: &[u8],
-    least: &[u8],
+    minimal_bytes: &[u8],
     text: &mut Vec<u8>,
 ) -> Result<(), AllocError>
-    ensures { OnOk result (text.new.items ≡ text.old.items ++ difference bytes.now least.now) }
+    ensures { OnOk result (text.new.items ≡ text.old.items ++ difference bytes.now minimal_bytes.now) }
 {
-    if have_same_lines(bytes, least) {
+    if have_same_lines(bytes, minimal_bytes) {
         text.extend_from_slice(b"line ends")?;
         return Ok(());
     }
-    let counts = count_lines(alloc, seed, bytes, least)?;
+    let counts = count_lines(alloc, seed, bytes, minimal_bytes)?;
     push_counts(counts, text)
 }
 

@@ -20,39 +20,37 @@ ghost use Rattle.kmin_tidy.specs.checker.FileReports.{IsRefusedAs, IsFailedBy, I
 
 use crate::accepted_file::{AcceptedFile, read_file};
 use crate::file_lines::push_file_line;
-use crate::options::TidyOptions;
+use crate::options::{Tidier, TidyOptions};
 use crate::outcome::FileOutcome;
 use crate::report::{FileReport, Problem};
 use crate::stop::TidyStop;
 use kc_config::Config;
-use kc_dotconfig::{ChoiceLine, Format, Fragment, LoadFault, LoadKind, Notice, NoticeKind};
+use kc_dotconfig::{ChoiceLine, Fragment, LoadFault, LoadKind, Notice, NoticeKind};
 use kc_minimal::{add_lines, minimal_text, other_choices};
 use kmin_disk::{FileKind, ReadDisk, ReplaceFault, WriteDisk, replace};
 use std::alloc::{AllocError, Global};
 
-/// Tidies one file and returns its report. If it isn't minimal, it is replaced if `options.write` is set, and its line of standard
+/// Tidies one file and returns its report. If it isn't minimal, it is replaced if `by.options.write` is set, and its line of standard
 /// output is appended to `text` unless that fails. The files before it have no influence.
 pub(crate) fn tidy_file<D: WriteDisk>(
-    alloc: Global,
+    by: &Tidier<'_>,
     config: &mut Config<'_>,
-    format: &Format,
-    options: TidyOptions,
     path: &str,
     disk: &mut D,
     text: &mut Vec<u8>,
 ) -> Result<FileReport, TidyStop>
     ensures settled { config.new.system ≡ config.old.system }
     ensures step { IfOk result (λ report. (line : List ℕ) × (text.new.items ≡ text.old.items ++ line)
-        × Step (settings_of config.old.system format.now options) (D.disk disk.old)
+        × Step (settings_of config.old.system by.now.format.now by.now.options) (D.disk disk.old)
         (D.disk disk.new) path.now line (report_lines (tree_of_settled config.old.system) path.now report) report.outcome) }
-    ensures stopped { IfErr result (StopsFile (settings_of config.old.system format.now options) (D.disk disk.old) (D.disk disk.new) path.now) }
+    ensures stopped { IfErr result (StopsFile (settings_of config.old.system by.now.format.now by.now.options) (D.disk disk.old) (D.disk disk.new) path.now) }
 {
-    if is_refused_unread(options, path, disk) {
-        return Ok(report_of_problem(alloc, Problem::NotRegular, FileOutcome::Failed));
+    if is_refused_unread(by.options, path, disk) {
+        return Ok(report_of_problem(by.alloc, Problem::NotRegular, FileOutcome::Failed));
     }
-    match read_file(alloc, config.settled(), format, path, disk) {
-        Ok(file) => tidy_accepted(alloc, config, format, options, path, file, disk, text),
-        Err(fault) => report_fault(alloc, fault),
+    match read_file(by.alloc, config.settled(), by.format, path, disk) {
+        Ok(file) => tidy_accepted(by, config, path, file, disk, text),
+        Err(fault) => report_fault(by.alloc, fault),
     }
 }
 
@@ -106,33 +104,31 @@ fn report_fault(alloc: Global, fault: LoadFault) -> Result<FileReport, TidyStop>
 
 /// Tidies a file that was read and accepted.
 fn tidy_accepted<D: WriteDisk>(
-    alloc: Global,
+    by: &Tidier<'_>,
     config: &mut Config<'_>,
-    format: &Format,
-    options: TidyOptions,
     path: &str,
     file: AcceptedFile,
     disk: &mut D,
     text: &mut Vec<u8>,
 ) -> Result<FileReport, TidyStop>
-    requires may { MayBeRead (settings_of config.old.system format.now options) (D.disk disk.old).state path.now }
-    requires accepted { IsAcceptedAs (file_format format.now) (tree_in config.old) (readable (content_at (D.disk disk.old).state path.now)) file }
+    requires may { MayBeRead (settings_of config.old.system by.now.format.now by.now.options) (D.disk disk.old).state path.now }
+    requires accepted { IsAcceptedAs (file_format by.now.format.now) (tree_in config.old) (readable (content_at (D.disk disk.old).state path.now)) file }
     ensures settled { config.new.system ≡ config.old.system }
     ensures step { IfOk result (λ report. (line : List ℕ) × (text.new.items ≡ text.old.items ++ line)
-        × Step (settings_of config.old.system format.now options) (D.disk disk.old)
+        × Step (settings_of config.old.system by.now.format.now by.now.options) (D.disk disk.old)
         (D.disk disk.new) path.now line (report_lines (tree_of_settled config.old.system) path.now report) report.outcome) }
-    ensures stopped { IfErr result (StopsFile (settings_of config.old.system format.now options) (D.disk disk.old) (D.disk disk.new) path.now) }
+    ensures stopped { IfErr result (StopsFile (settings_of config.old.system by.now.format.now by.now.options) (D.disk disk.old) (D.disk disk.new) path.now) }
 {
     let AcceptedFile { bytes, fragment } = file;
-    if is_refused_for(options, &fragment.notices) {
+    if is_refused_for(by.options, &fragment.notices) {
         let Fragment { notices, .. } = fragment;
         return Ok(report_of_notices(notices));
     }
-    let notices = solve(alloc, config, fragment)?;
-    if is_refused_for(options, &notices) {
+    let notices = solve(by.alloc, config, fragment)?;
+    if is_refused_for(by.options, &notices) {
         return Ok(report_of_notices(notices));
     }
-    let end = tidy_allowed(alloc, config, format, options, path, &bytes, disk, text)?;
+    let end = tidy_allowed(by, config, path, &bytes, disk, text)?;
     Ok(report_of_end(notices, end))
 }
 
@@ -190,24 +186,22 @@ fn push_choices(noted: Vec<Notice>, places: &[(usize, u32)]) -> Result<Vec<Notic
 
 /// Compares a file of these bytes, which isn't refused, with the minimal file of the values that it gives, and tidies it.
 fn tidy_allowed<D: WriteDisk>(
-    alloc: Global,
+    by: &Tidier<'_>,
     config: &Config<'_>,
-    format: &Format,
-    options: TidyOptions,
     path: &str,
     bytes: &[u8],
     disk: &mut D,
     text: &mut Vec<u8>,
 ) -> Result<FileEnd, TidyStop>
-    ensures rewritten { IfOk result (λ end. (line : List ℕ) × (text.new.items ≡ text.old.items ++ line) × (least : List ℕ)
-        × IsCanonicalText (file_format format.now) (profile_of config.now.system) (tree_in config.now) config.now.values least
-        × IsRewritten options.output_form options.write (D.disk disk.old) (D.disk disk.new) path.now bytes.now least line end) }
-    ensures stopped { IfErr result (λ stop. ((stop ≡ TidyStop.Memory) × (D.disk disk.new ≡ D.disk disk.old)) ⊎ ((least : List ℕ)
-        × IsCanonicalText (file_format format.now) (profile_of config.now.system) (tree_in config.now) config.now.values least
-        × StopsRewrite options.write (D.disk disk.old) (D.disk disk.new) path.now bytes.now least stop)) }
+    ensures rewritten { IfOk result (λ end. (line : List ℕ) × (text.new.items ≡ text.old.items ++ line) × (minimal_bytes : List ℕ)
+        × IsCanonicalText (file_format by.now.format.now) (profile_of config.now.system) (tree_in config.now) config.now.values minimal_bytes
+        × IsRewritten by.now.options.output_form by.now.options.write (D.disk disk.old) (D.disk disk.new) path.now bytes.now minimal_bytes line end) }
+    ensures stopped { IfErr result (λ stop. ((stop ≡ TidyStop.Memory) × (D.disk disk.new ≡ D.disk disk.old)) ⊎ ((minimal_bytes : List ℕ)
+        × IsCanonicalText (file_format by.now.format.now) (profile_of config.now.system) (tree_in config.now) config.now.values minimal_bytes
+        × StopsRewrite by.now.options.write (D.disk disk.old) (D.disk disk.new) path.now bytes.now minimal_bytes stop)) }
 {
-    let least = minimal_text(alloc, config, format)?;
-    rewrite(alloc, options, path, bytes, &least, disk, text)
+    let minimal_bytes = minimal_text(by.alloc, config, by.format)?;
+    rewrite(by, path, bytes, &minimal_bytes, disk, text)
 }
 
 /// Whether a file with these notices is refused for them.
@@ -261,22 +255,21 @@ fn report_of_end(notices: Vec<Notice>, end: FileEnd) -> FileReport
     }
 }
 
-/// Compares a file with its minimal file. Where they differ, replaces the file if `options.write` is set, and appends the file's line
+/// Compares a file with its minimal file. Where they differ, replaces the file if `by.options.write` is set, and appends the file's line
 /// to `text` unless that fails.
 fn rewrite<D: WriteDisk>(
-    alloc: Global,
-    options: TidyOptions,
+    by: &Tidier<'_>,
     path: &str,
     bytes: &[u8],
-    least: &[u8],
+    minimal_bytes: &[u8],
     disk: &mut D,
     text: &mut Vec<u8>,
 ) -> Result<FileEnd, TidyStop>
     ensures rewritten { IfOk result (λ end. (line : List ℕ) × (text.new.items ≡ text.old.items ++ line)
-        × IsRewritten options.output_form options.write (D.disk disk.old) (D.disk disk.new) path.now bytes.now least.now line end) }
-    ensures stopped { IfErr result (StopsRewrite options.write (D.disk disk.old) (D.disk disk.new) path.now bytes.now least.now) }
+        × IsRewritten by.now.options.output_form by.now.options.write (D.disk disk.old) (D.disk disk.new) path.now bytes.now minimal_bytes.now line end) }
+    ensures stopped { IfErr result (StopsRewrite by.now.options.write (D.disk disk.old) (D.disk disk.new) path.now bytes.now minimal_bytes.now) }
 {
-    if least == bytes {
+    if minimal_bytes == bytes {
         return Ok(FileEnd {
             problem: None,
             outcome: FileOutcome::Minimal,
@@ -285,16 +278,16 @@ fn rewrite<D: WriteDisk>(
     }
     let start = text.len();
     push_file_line(
-        alloc,
+        by.alloc,
         disk.seed(),
-        options.output_form,
+        by.options.output_form,
         path,
         bytes,
-        least,
+        minimal_bytes,
         text,
     )?;
-    if options.write {
-        write_listed(alloc, path, least, disk, text, start)
+    if by.options.write {
+        write_listed(by.alloc, path, minimal_bytes, disk, text, start)
     } else {
         Ok(FileEnd {
             problem: None,
@@ -308,16 +301,16 @@ fn rewrite<D: WriteDisk>(
 fn write_listed<D: WriteDisk>(
     alloc: Global,
     path: &str,
-    least: &[u8],
+    minimal_bytes: &[u8],
     disk: &mut D,
     text: &mut Vec<u8>,
     start: usize,
 ) -> Result<FileEnd, TidyStop>
-    ensures written { IfOk result (IsWritten (D.disk disk.old) (D.disk disk.new) path.now least.now) }
+    ensures written { IfOk result (IsWritten (D.disk disk.old) (D.disk disk.new) path.now minimal_bytes.now) }
     ensures listed { IfOk result (λ end. text.new.items ≡ (if end.is_replaced then text.old.items else take start text.old.items)) }
     ensures stopped { IfErr result (StopsWrite (D.disk disk.old) (D.disk disk.new) path.now) }
 {
-    let end = write_file(alloc, path, least, disk)?;
+    let end = write_file(alloc, path, minimal_bytes, disk)?;
     if !end.is_replaced {
         text.truncate(start);
     }
@@ -328,13 +321,13 @@ fn write_listed<D: WriteDisk>(
 fn write_file<D: WriteDisk>(
     alloc: Global,
     path: &str,
-    least: &[u8],
+    minimal_bytes: &[u8],
     disk: &mut D,
 ) -> Result<FileEnd, TidyStop>
-    ensures written { IfOk result (IsWritten (D.disk disk.old) (D.disk disk.new) path.now least.now) }
+    ensures written { IfOk result (IsWritten (D.disk disk.old) (D.disk disk.new) path.now minimal_bytes.now) }
     ensures stopped { IfErr result (StopsWrite (D.disk disk.old) (D.disk disk.new) path.now) }
 {
-    match replace(alloc, disk, path, least) {
+    match replace(alloc, disk, path, minimal_bytes) {
         Ok(()) => Ok(FileEnd {
             problem: None,
             outcome: FileOutcome::Minimal,

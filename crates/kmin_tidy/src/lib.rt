@@ -8,7 +8,6 @@ mod file_step;
 mod laws;
 mod options;
 mod outcome;
-mod part_reader;
 mod report;
 mod run;
 mod stop;
@@ -16,6 +15,6 @@ mod whole_run;
 
 pub use accepted_file::{AcceptedFile, read_source};
 pub use laws::files_with_the_same_values_get_the_same_bytes;
-pub use options::TidyOptions;
+pub use options::{Tidier, TidyOptions};
 pub use outcome::FileOutcome;
 pub use run::tidy_files;

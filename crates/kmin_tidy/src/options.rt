@@ -1,7 +1,9 @@
 //! The options of a run.
 ghost use Rattle.std.specs.Prelude.{◌≡◌};
 
+use kc_dotconfig::Format;
 use kmin_records::OutputForm;
+use std::alloc::Global;
 
 /// The options of [`tidy_files`](crate::tidy_files).
 #[derive(Clone, Copy, Debug, PartialEq, Eq)]
@@ -14,6 +16,14 @@ pub struct TidyOptions {
     pub strict: bool,
     /// The form of the lines of standard output.
     pub output_form: OutputForm,
+}
+
+/// What files are tidied by: how their lines are read and written, and the options.
+#[derive(Clone, Copy)]
+pub struct Tidier<'a> {
+    pub alloc: Global,
+    pub format: &'a Format,
+    pub options: TidyOptions,
 }
 
 impl TidyOptions {

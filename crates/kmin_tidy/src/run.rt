@@ -10,16 +10,14 @@ ghost use Rattle.kmin_report.specs.Reports.{ErrorLine};
 ghost use Rattle.kmin_tidy.specs.checker.ReportLines.{stop_line};
 ghost use Rattle.kmin_tidy.specs.checker.Endings.{status_of_stop, IsWrittenOut};
 
-use crate::options::TidyOptions;
+use crate::options::Tidier;
 use crate::report::report_stop;
 use crate::stop::TidyStop;
 use crate::whole_run::{RunResult, tidy_all};
-use kc_dotconfig::Format;
 use kc_rules::Settled;
 use kc_value::Sink;
 use kmin_disk::WriteDisk;
-use kmin_report::{Messages, write_answer};
-use std::alloc::Global;
+use kmin_report::{Messages, write_output};
 
 /// Compares configuration files, each by itself, with their minimal files over the tree `settled`. Returns the exit status.
 ///
@@ -37,50 +35,46 @@ use std::alloc::Global;
 /// can't be written. Else the first file that is refused or fails decides it: 4 where the file is refused for its bytes, 5
 /// where it can't be read or replaced. Else it is 1 where a file isn't minimal and isn't replaced, and 0 otherwise.
 pub fn tidy_files<D: WriteDisk, O: Sink, E: Messages>(
-    alloc: Global,
+    by: &Tidier<'_>,
     settled: &Settled,
-    format: &Format,
-    options: TidyOptions,
     paths: &[&str],
     disk: &mut D,
     out: &mut O,
     err: &mut E,
 ) -> u8
-    ensures ends { (reports : List ErrorLine) × Ends (settings_of settled.now format.now options) (D.disk disk.old)
+    ensures ends { (reports : List ErrorLine) × Ends (settings_of settled.now by.now.format.now by.now.options) (D.disk disk.old)
         (D.disk disk.new) (paths_of paths.now) (O.taken out.old) (O.taken out.new) (O.failures out.old)
         (O.failures out.new) reports result × TakesLines (E.taken err.old) (E.failures err.old) reports (E.taken err.new) (E.failures err.new) }
 
     // However the run ends, each place is as before, or its file was replaced by its minimal file, or a new file is
     // left there.
-    ensures became { (place : List ℕ) → IsKeptOrLeft (settings_of settled.now format.now options) ((D.disk disk.old).state.history place)
+    ensures became { (place : List ℕ) → IsKeptOrLeft (settings_of settled.now by.now.format.now by.now.options) ((D.disk disk.old).state.history place)
         ((D.disk disk.new).state.history place) }
 
-    ensures unasked { options.write ≡ false → (D.disk disk.new).state ≡ (D.disk disk.old).state }
+    ensures unasked { by.now.options.write ≡ false → (D.disk disk.new).state ≡ (D.disk disk.old).state }
 
     // A run over files that are minimal or refused, as after a first run, replaces nothing and writes no line.
-    ensures again { AreTidy (settings_of settled.now format.now options) (D.disk disk.old).state (paths_of paths.now) → (D.disk disk.new).state ≡ (D.disk disk.old).state }
-    ensures silent { AreTidy (settings_of settled.now format.now options) (D.disk disk.old).state (paths_of paths.now)
+    ensures again { AreTidy (settings_of settled.now by.now.format.now by.now.options) (D.disk disk.old).state (paths_of paths.now) → (D.disk disk.new).state ≡ (D.disk disk.old).state }
+    ensures silent { AreTidy (settings_of settled.now by.now.format.now by.now.options) (D.disk disk.old).state (paths_of paths.now)
         → Appends (O.taken out.old) (O.taken out.new) [] }
 {
-    run_to_end(alloc, settled, format, options, paths, disk, out, err)
+    run_to_end(by, settled, paths, disk, out, err)
 }
 
 /// Tidies the files as `tidy_files` does; the contract states only how the run ends.
 fn run_to_end<D: WriteDisk, O: Sink, E: Messages>(
-    alloc: Global,
+    by: &Tidier<'_>,
     settled: &Settled,
-    format: &Format,
-    options: TidyOptions,
     paths: &[&str],
     disk: &mut D,
     out: &mut O,
     err: &mut E,
 ) -> u8
-    ensures { (reports : List ErrorLine) × Ends (settings_of settled.now format.now options) (D.disk disk.old)
+    ensures { (reports : List ErrorLine) × Ends (settings_of settled.now by.now.format.now by.now.options) (D.disk disk.old)
         (D.disk disk.new) (paths_of paths.now) (O.taken out.old) (O.taken out.new) (O.failures out.old)
         (O.failures out.new) reports result × TakesLines (E.taken err.old) (E.failures err.old) reports (E.taken err.new) (E.failures err.new) }
 {
-    match tidy_all(alloc, settled, format, options, paths, disk, err) {
+    match tidy_all(by, settled, paths, disk, err) {
         Ok(tidied) => write_text(&tidied, out, err),
         Err(stop) => end_early(&stop, err),
     }
@@ -91,7 +85,7 @@ fn write_text<O: Sink, E: Messages>(tidied: &RunResult, out: &mut O, err: &mut E
     ensures { (reports : List ErrorLine) × IsWrittenOut tidied.now (O.taken out.old) (O.taken out.new) (O.failures out.old)
         (O.failures out.new) reports result × TakesLines (E.taken err.old) (E.failures err.old) reports (E.taken err.new) (E.failures err.new) }
 {
-    match write_answer(&tidied.text, out, err) {
+    match write_output(&tidied.text, out, err) {
         Ok(()) => tidied.status,
         Err(_) => 5,
     }

@@ -7,15 +7,13 @@ ghost use Rattle.kmin_report.specs.Reports.{ErrorLine};
 ghost use Rattle.kmin_tidy.specs.checker.FileResults.{StopsRun};
 
 use crate::file_step::tidy_file;
-use crate::options::TidyOptions;
+use crate::options::Tidier;
 use crate::report::report_file;
 use crate::stop::TidyStop;
 use kc_config::Config;
-use kc_dotconfig::Format;
 use kc_rules::Settled;
 use kmin_disk::WriteDisk;
 use kmin_report::Messages;
-use std::alloc::Global;
 
 /// The text for standard output of a run over all its files, and its exit status.
 #[derive(Drop)]
@@ -26,48 +24,44 @@ pub(crate) struct RunResult {
 
 /// Tidies the files at `paths` one after another. The report of each is written to `err` before the next file is read.
 pub(crate) fn tidy_all<D: WriteDisk, E: Messages>(
-    alloc: Global,
+    by: &Tidier<'_>,
     settled: &Settled,
-    format: &Format,
-    options: TidyOptions,
     paths: &[&str],
     disk: &mut D,
     err: &mut E,
 ) -> Result<RunResult, TidyStop>
-    ensures run { IfOk result (λ tidied. (reports : List ErrorLine) × Tidies (settings_of settled.now format.now options)
+    ensures run { IfOk result (λ tidied. (reports : List ErrorLine) × Tidies (settings_of settled.now by.now.format.now by.now.options)
         (D.disk disk.old) (D.disk disk.new)
         (paths_of paths.now) tidied.text.items reports tidied.status × TakesLines (E.taken err.old) (E.failures err.old) reports (E.taken err.new)
         (E.failures err.new)) }
-    ensures stopped { IfErr result (λ stop. (reports : List ErrorLine) × StopsRun (settings_of settled.now format.now options)
+    ensures stopped { IfErr result (λ stop. (reports : List ErrorLine) × StopsRun (settings_of settled.now by.now.format.now by.now.options)
         (D.disk disk.old) (D.disk disk.new) (paths_of paths.now) reports stop
         × TakesLines (E.taken err.old) (E.failures err.old) reports (E.taken err.new) (E.failures err.new)) }
 {
-    let mut config = Config::new(alloc, settled)?;
-    tidy_each(alloc, &mut config, format, options, paths, disk, err)
+    let mut config = Config::new(by.alloc, settled)?;
+    tidy_each(by, &mut config, paths, disk, err)
 }
 
 /// Tidies files one after another by one configuration, which takes the values of each file in turn.
 fn tidy_each<D: WriteDisk, E: Messages>(
-    alloc: Global,
+    by: &Tidier<'_>,
     config: &mut Config<'_>,
-    format: &Format,
-    options: TidyOptions,
     paths: &[&str],
     disk: &mut D,
     err: &mut E,
 ) -> Result<RunResult, TidyStop>
-    ensures run { IfOk result (λ tidied. (reports : List ErrorLine) × Tidies (settings_of config.old.system format.now options)
+    ensures run { IfOk result (λ tidied. (reports : List ErrorLine) × Tidies (settings_of config.old.system by.now.format.now by.now.options)
         (D.disk disk.old) (D.disk disk.new)
         (paths_of paths.now) tidied.text.items reports tidied.status × TakesLines (E.taken err.old) (E.failures err.old) reports (E.taken err.new)
         (E.failures err.new)) }
-    ensures stopped { IfErr result (λ stop. (reports : List ErrorLine) × StopsRun (settings_of config.old.system format.now options)
+    ensures stopped { IfErr result (λ stop. (reports : List ErrorLine) × StopsRun (settings_of config.old.system by.now.format.now by.now.options)
         (D.disk disk.old) (D.disk disk.new) (paths_of paths.now) reports stop
         × TakesLines (E.taken err.old) (E.failures err.old) reports (E.taken err.new) (E.failures err.new)) }
 {
-    let mut text = Vec::new(alloc);
+    let mut text = Vec::new(by.alloc);
     let mut status = 0;
     for path in paths {
-        let report = tidy_file(alloc, config, format, options, path, disk, &mut text)?;
+        let report = tidy_file(by, config, path, disk, &mut text)?;
         report_file(path, &report, config.settled().tree(), err);
         status = report.outcome.status_after(status);
     }

@@ -5,7 +5,6 @@ pub use Rattle.std.proofs.lemmas.List.{take_all}
 pub use Rattle.std.specs.List.{All}
 pub use Rattle.std.specs.Map.{lookup}
 pub use Rattle.std.specs.Prelude.{IfOk, bytes_eq, if◌then◌else◌, option_map, string_bytes, unwrap_or, ◌≢◌}
-pub use Rattle.kc_files.specs.TreeContents.{FileContent}
 pub use Rattle.kc_macros_model.specs.AnswerFiles.{RecordedAnswers}
 pub use Rattle.kc_parser.specs.between.MemoryFaults.{no_memory}
 pub use Rattle.kc_solver.proofs.ErrorExits.{no_value}
@@ -14,7 +13,7 @@ pub use Rattle.kc_tree.specs.TreeModel.{TreeModel}
 pub use Rattle.kc_tree_model.specs.TreeFiles.{Files, file_at, with_file, with_path}
 pub use Rattle.kc_tree_model.specs.declared.fault.TreeFault.{TreeFault}
 pub use Rattle.kc_tree_model.specs.declared.fault.TreeKind.TheVariants.{OutOfMemory}
-pub use Rattle.kmin_disk.specs.Contents.{OpensAs}
+pub use Rattle.kc_value.specs.FileContents.{FileContent, OpensAs}
 pub use Rattle.kmin_expansions.specs.JobTexts.{AreTextsOfJob, TreeTexts}
 pub use Rattle.kmin_expansions.specs.between.ExpansionStops.{StopsExpanding}
 pub use Rattle.kmin_inputs.proofs.FailureCounts.{rises_later}

@@ -1,5 +1,6 @@
 -- The tree of accepted texts is that of the known bytes.
 use Rattle.std.proofs.Common.{◌≢◌}
+use Rattle.kc_value.specs.FileContents.{unknown, absent, known}
 use Rattle.kc_tree_model.specs.TreeFiles.{index_of_file}
 use Rattle.kc_tree_model.specs.Limits.{FileSource}
 use Rattle.kc_tree_model.specs.TreeReading.{Outcome}
@@ -13,19 +14,19 @@ use Rattle.kmin_trees.proofs.Common.{◌≡◌, ℕ, List, Option, Some, None, r
 use Rattle.kmin_trees.specs.KnownTrees.{known_bytes, BytesHaveOneTree, KnownFilesDetermineTheTree}
 
 -- texts that match what is known are among the known bytes
-matched : (content : FileContent) (text : List ℕ) → content ≢ None → MatchContentStart content text → known_bytes content ≡ Some text
-matched None text known m = absurd (known refl)
-matched (Some None) text known m = absurd m
-matched (Some (Some bytes)) text known m = ap Some (sym m)
+matched : (content : FileContent) (text : List ℕ) → content ≢ unknown → MatchContentStart content text → known_bytes content ≡ Some text
+matched unknown text n m = absurd (n refl)
+matched absent text n m = absurd m
+matched (known bytes) text n m = ap Some (sym m)
 
 no_fault_lacks_no_file : (o : Outcome) → o.fault ≡ None → LacksNoFile o
 no_fault_lacks_no_file o e = λ fault h. (let z : Some fault ≡ None = sym h ∙ e in cc)
 
 pub known_tree : KnownFilesDetermineTheTree
-known_tree content_of root first texts tree known below accepted =
+known_tree content_of root first texts tree all_known below accepted =
     let bytes : List ℕ → Option (List ℕ) = λ path. known_bytes (content_of (path_below root path)) in
     let source : FileSource = record { language = texts.language; bytes = bytes; number = index_of_file texts; root = first } in
-    let among : AreAmong (file_at texts) bytes = λ path text e. matched (content_of (path_below root path)) text (known path) (below.content path text e) in
+    let among : AreAmong (file_at texts) bytes = λ path text e. matched (content_of (path_below root path)) text (all_known path) (below.content path text e) in
     let read = accepted.read in
     let own = whole_read (origin_of texts first) read.0 read.1 in
     let same = more_files texts.language (file_at texts) bytes (index_of_file texts) first among

@@ -1,6 +1,7 @@
 -- Files that count as missing while the files of a tree come in.
 use Rattle.kmin_trees.proofs.Common.{◌≡◌, ℕ, suc, ◌+◌, ◌<◌, ◌≤◌, Bool, true, false, ◌⊎◌, inl, inr, List, [], ◌∷◌, length, get_or, take, Option, Some, None, Ok, Err, Result, refl, sym, ap, ◌∙◌, arith, ◌≢◌, bytes_eq, option_map, IfOk, if◌then◌else◌, All, lookup, no_memory, Files, file_at, with_path}
 use Rattle.kmin_trees.proofs.Common.{with_file, TreeFault, OutOfMemory, TreeModel, FileContent, OpensAs, path_below, MayBeMissing, LacksOnlyMissing, MissesOnlyMissing, rises_later}
+use Rattle.kc_value.specs.FileContents.{unknown, absent, known}
 use Rattle.std.specs.Prelude.{◌++◌, nat_lt, filter_map, is_some, not, IfErr, IfNone}
 use Rattle.std.proofs.lemmas.Bool.Decides.{nat_tests}
 use Rattle.std.proofs.lemmas.List.Elements.{All-more, All-weaker, All-same, filter_passes}
@@ -20,21 +21,21 @@ use Rattle.kmin_inputs.proofs.FailureCounts.{rises_earlier, closed_rises}
 
 -- a file that can't be opened isn't known to be there
 pub unopened : (content : FileContent) (a b : ℕ) → OpensAs content None → MayBeMissing content a b
-unopened None a b h = tt
-unopened (Some None) a b h = tt
-unopened (Some (Some bytes)) a b h = cc
+unopened unknown a b h = tt
+unopened absent a b h = tt
+unopened (known bytes) a b h = cc
 
 -- a file of which a read failed may count as missing
 pub unread : (content : FileContent) (a b : ℕ) → HasRisen a b → MayBeMissing content a b
-unread None a b h = tt
-unread (Some None) a b h = tt
-unread (Some (Some bytes)) a b h = h
+unread unknown a b h = tt
+unread absent a b h = tt
+unread (known bytes) a b h = h
 
 -- a file that may count as missing may do so where the count rose before or after, too
 pub missing_over : (content : FileContent) (a b c d : ℕ) → a ≤ b → b ≤ c → c ≤ d → MayBeMissing content b c → MayBeMissing content a d
-missing_over None a b c d l m n h = tt
-missing_over (Some None) a b c d l m n h = tt
-missing_over (Some (Some bytes)) a b c d l m n h = rises_earlier a c d n (rises_later a b c l m h)
+missing_over unknown a b c d l m n h = tt
+missing_over absent a b c d l m n h = tt
+missing_over (known bytes) a b c d l m n h = rises_earlier a c d n (rises_later a b c l m h)
 
 -- texts of which each missing file may count as missing
 pub lacks_over : (content_of : List ℕ → FileContent) (root first : List ℕ) (texts : Files) (a b c d : ℕ) → a ≤ b → b ≤ c → c ≤ d

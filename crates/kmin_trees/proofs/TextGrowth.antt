@@ -9,6 +9,7 @@ use Rattle.std.specs.declared.alloc.Global.{Global}
 use Rattle.std.specs.declared.alloc.AllocError.{AllocError}
 use Rattle.kmin_trees.proofs.Common.{◌≡◌, ◌≤◌, ℕ, Bool, true, false, List, [], ◌∷◌, ◌++◌, Option, Some, None, Result, Ok, Err, length, take, ◌⊎◌, inl, inr, refl, sym, ap, ◌∙◌, take_all, bytes_eq, IfOk, if◌then◌else◌, lookup, Language, Files, file_at, with_path, with_file, FileContent}
 use Rattle.kmin_trees.proofs.Common.{MatchContentStart, AreTextsBelow, path_below, OpensAs}
+use Rattle.kc_value.specs.FileContents.{unknown, absent, known}
 use Rattle.kc_value.specs.declared.limits.TheConstants.{MAX_FILE_BYTES}
 
 -- bytes that were read up to the end, or up to the limit, begin a file
@@ -23,9 +24,9 @@ front_of b (Some ys) bytes h l (inr e) =
 front_matches : (content : FileContent) (before after : Option (List ℕ)) (bytes : List ℕ) → OpensAs content (Some before)
     → Consumes before after bytes → length bytes ≤ MAX_FILE_BYTES → (length bytes ≡ MAX_FILE_BYTES) ⊎ IsAtEnd after
     → MatchContentStart content bytes
-front_matches None before after bytes o h l e = tt
-front_matches (Some None) before after bytes o h l e = let f : Some before ≡ None = o in cc
-front_matches (Some (Some b)) before after bytes o h l e =
+front_matches unknown before after bytes o h l e = tt
+front_matches absent before after bytes o h l e = let f : Some before ≡ None = o in cc
+front_matches (known b) before after bytes o h l e =
     let s : before ≡ Some b = cc in
     let k : Consumes (Some b) after bytes = rw s at h in
     front_of b after bytes k l e

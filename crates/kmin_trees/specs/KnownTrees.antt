@@ -1,6 +1,7 @@
 -- The tree that known files determine.
 use Rattle.std.specs.Prelude.{◌≡◌, ◌≢◌, ℕ, List, [], Option, Some, None, take}
 use Rattle.kc_value.specs.declared.limits.TheConstants.{MAX_FILE_BYTES}
+use Rattle.kc_value.specs.FileContents.{FileContent, unknown, absent, known}
 use Rattle.kc_tokens.specs.declared.language.Language.{Language}
 use Rattle.kc_tree_model.specs.TreeFiles.{Files, index_of_file}
 use Rattle.kc_tree_model.specs.Trees.{Tree}
@@ -8,16 +9,15 @@ use Rattle.kc_tree_model.specs.Blocks.{Group}
 use Rattle.kc_tree_model.specs.ReadingRelation.{IsWholeReading}
 use Rattle.kc_tree_model.specs.Contents.{tree_of_groups}
 use Rattle.kc_tree_model.specs.TreeFaults.{tree_faults}
-use Rattle.kc_files.specs.TreeContents.{FileContent}
 use Rattle.kmin_inputs.specs.FileContents.{AreTextsBelow, path_below}
 use Rattle.kmin_trees.specs.AcceptedTrees.{AreAccepted}
 
 -- the known bytes of a file, but no more than the first `MAX_FILE_BYTES`; `None` if they aren't known, or the file can't be
 -- opened
 abbrev pub known_bytes : FileContent → Option (List ℕ)
-known_bytes None = None
-known_bytes (Some None) = None
-known_bytes (Some (Some content)) = Some (take MAX_FILE_BYTES content)
+known_bytes unknown = None
+known_bytes absent = None
+known_bytes (known bytes) = Some (take MAX_FILE_BYTES bytes)
 
 -- this is the tree in this language whose first file is at the path `first`, where a file at a path has these bytes and this
 -- number: the files are read without a fault, and the checks on the whole tree find none
@@ -29,7 +29,7 @@ IsTreeOfBytes language bytes number first tree = (groups : List Group) × IsWhol
 -- numbers that the texts give to the files.
 abbrev pub KnownFilesDetermineTheTree : Type 0
 KnownFilesDetermineTheTree = (content_of : List ℕ → FileContent) (root first : List ℕ) (texts : Files) (tree : Tree)
-    → ((path : List ℕ) → content_of (path_below root path) ≢ None) → AreTextsBelow content_of root texts.language texts → AreAccepted texts first tree
+    → ((path : List ℕ) → content_of (path_below root path) ≢ unknown) → AreTextsBelow content_of root texts.language texts → AreAccepted texts first tree
     → IsTreeOfBytes texts.language (λ path. known_bytes (content_of (path_below root path))) (index_of_file texts) first tree
 
 -- bytes have at most one tree in a language, for given numbers of files

@@ -1,10 +1,8 @@
 //! The files of a tree that is read without the expansion of macros.
-ghost use Rattle.std.specs.Prelude.{◌≡◌, ◌≢◌, ◌<◌, ◌≤◌, ◌^◌, ◌⊎◌, None, true, false, length, map, string_bytes, IfOk, IfErr, IfSome, IfNone, OnOk};
+ghost use Rattle.std.specs.Prelude.{◌≡◌, ◌≢◌, ◌<◌, ◌≤◌, ◌^◌, None, true, false, length, map, string_bytes, IfOk, IfErr, IfSome, IfNone, OnOk};
 ghost use Rattle.std.specs.List.{All};
-ghost use Rattle.std.specs.Io.KnownBytes.{Consumes, IsAtEnd};
 ghost use Rattle.kc_tree_model.specs.TreeFiles.{file_at};
 ghost use Rattle.kc_tree_model.specs.declared.fault.TreeKind.TheVariants.{MissingFile};
-ghost use Rattle.kc_files.specs.TreeContents.{HasRisen};
 ghost use Rattle.kmin_inputs.specs.FileContents.{AreTextsBelow, MatchContentStart, path_below};
 ghost use Rattle.kmin_trees.specs.MissingFiles.{MayBeMissing, LacksOnlyMissing};
 ghost use Rattle.kmin_trees.specs.between.InsertedFiles.{AreInserted};
@@ -13,9 +11,10 @@ ghost use Rattle.kmin_trees.specs.between.Readings.{IsReadWith};
 use crate::prefetch::absent_paths_of_file;
 use crate::read_trees::{KeptLines, ReadTree};
 use kc_builder::wanted;
+use kc_files::read_front;
 use kc_tokens::Language;
 use kc_tree::{Texts, TreeFault, TreeKind};
-use kc_value::{MAX_FILE_BYTES, MAX_FILES, ReadBytes, ReadEnd, Source, read_up_to};
+use kc_value::{MAX_BLOCK_BYTES, MAX_FILE_BYTES, MAX_FILES};
 use kmin_inputs::Files;
 use std::alloc::{AllocError, Global};
 
@@ -26,7 +25,7 @@ pub(crate) struct GatheredFiles<L> {
     pub(crate) read: Result<ReadTree<L>, TreeFault>,
 }
 
-/// The room that is left for the files of a tree: their number and their bytes.
+/// What is left for the files of a tree: their number and their bytes.
 #[derive(Drop)]
 struct Budget {
     files: u32,
@@ -34,7 +33,7 @@ struct Budget {
 }
 
 impl Budget {
-    /// Room for a whole tree.
+    /// The budget of a whole tree.
     fn whole() -> Budget {
         Budget {
             files: MAX_FILES as u32,
@@ -42,13 +41,13 @@ impl Budget {
         }
     }
 
-    /// Takes the room of one file of this number of bytes.
+    /// Takes one file of this number of bytes from it.
     fn take(&mut self, bytes: usize) {
         self.files = self.files.saturating_sub(1);
         self.bytes = self.bytes.saturating_sub(bytes);
     }
 
-    /// Whether no room is left.
+    /// Whether nothing is left.
     fn is_used(&self) -> bool {
         self.files == 0 || self.bytes == 0
     }
@@ -92,9 +91,9 @@ fn open_first<F: Files>(
     ensures below { AreTextsBelow (F.surroundings files.old).content root.now texts.old.language texts.new }
     ensures rising { F.failures files.old ≤ F.failures files.new }
 {
-    let mut room = Budget::whole();
-    insert_one(alloc, root, first, &mut room, files, texts)?;
-    open_ahead(alloc, root, &mut room, files, texts)
+    let mut budget = Budget::whole();
+    insert_one(alloc, root, first, &mut budget, files, texts)?;
+    open_ahead(alloc, root, &mut budget, files, texts)
 }
 
 /// Adds the files that a tree wants beside those of `texts`, until a reading misses none, and returns the result of
@@ -128,12 +127,12 @@ fn lacks_file<T>(read: &Result<T, TreeFault>) -> bool
     }
 }
 
-/// Inserts the files that the lines of the texts seem to source, as long as there is room. A file that no reading
+/// Inserts the files that the lines of the texts seem to source, within the budget. A file that no reading
 /// sources has no influence on the tree.
 fn open_ahead<F: Files>(
     alloc: Global,
     root: &str,
-    room: &mut Budget,
+    budget: &mut Budget,
     files: &mut F,
     texts: &mut Texts,
 ) -> Result<(), AllocError>
@@ -143,13 +142,13 @@ fn open_ahead<F: Files>(
     ensures rising { F.failures files.old ≤ F.failures files.new }
 {
     for number in 0..MAX_FILES as u32 {
-        if room.is_used() {
+        if budget.is_used() {
             return Ok(());
         }
         let Some(paths) = absent_paths_of_file(alloc, texts, number)? else {
             return Ok(());
         };
-        insert_all(alloc, root, &paths, room, files, texts)?;
+        insert_all(alloc, root, &paths, budget, files, texts)?;
     }
     Ok(())
 }
@@ -172,7 +171,7 @@ fn open_wanted<F: Files>(
     Ok(())
 }
 
-/// Inserts the files that a reading wants and that can be opened and read, as long as there is room, and returns whether any was
+/// Inserts the files that a reading wants and that can be opened and read, within the budget, and returns whether any was
 /// inserted.
 fn open_round<F: Files>(
     alloc: Global,
@@ -199,12 +198,12 @@ fn open_round<F: Files>(
     }
 }
 
-/// Inserts the files of these paths that the texts lack and that can be opened and read, until there is no room for more.
+/// Inserts the files of these paths that the texts lack and that can be opened and read, until the budget is used.
 fn insert_all<F: Files>(
     alloc: Global,
     root: &str,
     paths: &[String],
-    room: &mut Budget,
+    budget: &mut Budget,
     files: &mut F,
     texts: &mut Texts,
 ) -> Result<(), AllocError>
@@ -215,8 +214,8 @@ fn insert_all<F: Files>(
     ensures rising { F.failures files.old ≤ F.failures files.new }
 {
     'paths: for path in paths {
-        let inserted = insert_one(alloc, root, path.as_str(), room, files, texts)?;
-        if inserted && room.is_used() {
+        let inserted = insert_one(alloc, root, path.as_str(), budget, files, texts)?;
+        if inserted && budget.is_used() {
             return Ok(());
         }
     }
@@ -228,7 +227,7 @@ fn insert_one<F: Files>(
     alloc: Global,
     root: &str,
     path: &str,
-    room: &mut Budget,
+    budget: &mut Budget,
     files: &mut F,
     texts: &mut Texts,
 ) -> Result<bool, AllocError>
@@ -244,10 +243,10 @@ fn insert_one<F: Files>(
         return Ok(false);
     }
     let Some(bytes) = read_below(alloc, root, path, files)? else {
-        room.take(0);
+        budget.take(0);
         return Ok(false);
     };
-    room.take(bytes.len());
+    budget.take(bytes.len());
     texts.insert(path, &bytes)?;
     Ok(true)
 }
@@ -269,28 +268,11 @@ fn read_below<F: Files>(
     place.push_str(path)?;
     match files.reader_if_there(&place) {
         Some(mut reader) => {
-            let room = files.size_of(&reader).min(MAX_FILE_BYTES);
-            let found = read_front(alloc, &mut reader, room);
+            let capacity = files.size_of(&reader).min(MAX_FILE_BYTES);
+            let found = read_front(alloc, &mut reader, capacity, &mut [0; MAX_BLOCK_BYTES]);
             files.close(reader);
             found
         }
         None => Ok(None),
-    }
-}
-
-/// The bytes that a reader has left, up to `MAX_FILE_BYTES`; `None` if a read fails. The vector begins with room for
-/// `room` bytes.
-fn read_front<S: Source>(
-    alloc: Global,
-    source: &mut S,
-    room: usize,
-) -> Result<Option<Vec<u8>>, AllocError>
-    ensures bytes { IfOk result (λ found. IfSome found (λ bytes. Consumes (S.left source.old) (S.left source.new) bytes.items × (length bytes.items ≤ MAX_FILE_BYTES) × ((length bytes.items ≡ MAX_FILE_BYTES) ⊎ IsAtEnd (S.left source.new)))) }
-    ensures failed { IfOk result (λ found. IfNone found (HasRisen (S.failures source.old) (S.failures source.new))) }
-{
-    let ReadBytes { bytes, end } = read_up_to(alloc, source, MAX_FILE_BYTES, room)?;
-    match end {
-        ReadEnd::AtEnd | ReadEnd::AtLimit => Ok(Some(bytes)),
-        ReadEnd::AtFailure => Ok(None),
     }
 }

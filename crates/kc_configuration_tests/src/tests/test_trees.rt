@@ -147,7 +147,7 @@ fn fragment_of(alloc: Global, settled: &Settled, file: &str) -> Result<Fragment,
     ensures { IfOk result (λ fragment. FitsTree (tree_of_settled settled.now) fragment.assigns.items) }
 {
     let mut source = FromRead::new(file.as_bytes());
-    match read_config(alloc, settled, &Format::plain(), &mut source) {
+    match read_config(alloc, settled, &Format::plain(), &mut source, &mut ()) {
         Ok(fragment) => Ok(fragment),
         Err(_) => Err(AllocError),
     }

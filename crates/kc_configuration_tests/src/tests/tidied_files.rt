@@ -5,7 +5,7 @@ use kc_rules::Profile;
 use kmin_fakes::{Bounded, MemoryDisk, twice};
 use kmin_records::OutputForm;
 use kmin_report::PlainMessages;
-use kmin_tidy::{TidyOptions, tidy_files};
+use kmin_tidy::{Tidier, TidyOptions, tidy_files};
 use std::test::Fail;
 
 const TREE: &str = "config A
@@ -83,17 +83,12 @@ fn tidied(
     let tree = twice!(settled(rt.alloc(), TREE.as_bytes(), Profile::Present));
     let mut out = twice!(Bounded::new(rt.alloc(), room, true));
     let mut err = PlainMessages::new(twice!(Bounded::new(rt.alloc(), 256, true)));
-    let format = Format::plain();
-    let status = tidy_files(
-        rt.alloc(),
-        &tree,
-        &format,
+    let by = Tidier {
+        alloc: rt.alloc(),
+        format: &Format::plain(),
         options,
-        paths,
-        disk,
-        &mut out,
-        &mut err,
-    );
+    };
+    let status = tidy_files(&by, &tree, paths, disk, &mut out, &mut err);
     drop(tree);
     Ok(Ended { status, out, err })
 }

@@ -1,9 +1,10 @@
 -- The files and folders of a tree that were read so far.
 use Rattle.std.specs.Prelude.{◌≡◌, ℕ, ◌<◌, ◌≤◌, Bool, true, false, List, length, Option, Some, None}
+use Rattle.kc_value.specs.FileContents.{FileContent, unknown, absent, known}
 use Rattle.kc_tree_model.specs.Keywords.{keyword_in_table}
 use Rattle.kc_value.specs.declared.limits.TheConstants.{MAX_TREE_BYTES, MAX_LISTED_NAMES}
 use Rattle.kc_macros_model.specs.Worlds.{World}
-use Rattle.kc_files.specs.TreeContents.{FileContent, FolderContent, TreeContents, HasRisen}
+use Rattle.kc_files.specs.TreeContents.{FolderContent, TreeContents, HasRisen}
 
 -- the result of reading a file: it is missing, is there and can't be read, has these bytes, or has more bytes than may be read
 pub data FileRead : Type 0 where
@@ -44,38 +45,33 @@ AreNames too_many all = (more : List (List ℕ)) × (all ≡ Some more) × (MAX_
 AreNames unlisted all = all ≡ None
 
 -- a world has all files and folders that were read, as they were read
-pub record Agrees (w : World) (known : KnownFiles) : Type 0 where
-  pub files : (path : List ℕ) (read : FileRead) → keyword_in_table known.files path ≡ Some read → AreBytes read (w.bytes path)
-  pub there : (path : List ℕ) (read : FileRead) → keyword_in_table known.files path ≡ Some read → IsUnreadable read (w.unreadable path)
-  pub folders : (folder : List ℕ) (read : FolderRead) → keyword_in_table known.folders folder ≡ Some read → AreNames read (w.names folder)
+pub record Agrees (w : World) (store : KnownFiles) : Type 0 where
+  pub files : (path : List ℕ) (read : FileRead) → keyword_in_table store.files path ≡ Some read → AreBytes read (w.bytes path)
+  pub there : (path : List ℕ) (read : FileRead) → keyword_in_table store.files path ≡ Some read → IsUnreadable read (w.unreadable path)
+  pub folders : (folder : List ℕ) (read : FolderRead) → keyword_in_table store.folders folder ≡ Some read → AreNames read (w.names folder)
 
 -- the result of reading a file agrees with its known content, where the count of failures went from one number to another; a known
 -- file may also be unreadable if the count rose, but not missing
 abbrev pub MatchFile : FileContent → (failed failed_after : ℕ) → FileRead → Type 0
-MatchFile None failed failed_after read = Unit {0}
-MatchFile (Some None) failed failed_after read = read ≡ missing
-MatchFile (Some (Some known)) failed failed_after missing = ⊥
-MatchFile (Some (Some known)) failed failed_after unreadable = HasRisen failed failed_after
-MatchFile (Some (Some known)) failed failed_after (whole bytes) = bytes ≡ known
-MatchFile (Some (Some known)) failed failed_after too_long = MAX_TREE_BYTES < length known
-
--- the known content of the file that a reader reads, from the bytes that the reader is known to have left
-abbrev pub content_of_reader : Option (List ℕ) → FileContent
-content_of_reader None = None
-content_of_reader (Some bytes) = Some (Some bytes)
+MatchFile unknown failed failed_after read = Unit {0}
+MatchFile absent failed failed_after read = read ≡ missing
+MatchFile (known all) failed failed_after missing = ⊥
+MatchFile (known all) failed failed_after unreadable = HasRisen failed failed_after
+MatchFile (known all) failed failed_after (whole bytes) = bytes ≡ all
+MatchFile (known all) failed failed_after too_long = MAX_TREE_BYTES < length all
 
 -- the result of listing a folder agrees with its known content, where the count of failures went from one number to another; a
 -- known folder may also fail to be listed if the count rose
 abbrev pub MatchFolder : FolderContent → (failed failed_after : ℕ) → FolderRead → Type 0
 MatchFolder None failed failed_after read = Unit {0}
-MatchFolder (Some known) failed failed_after (names read) = read ≡ known
-MatchFolder (Some known) failed failed_after too_many = MAX_LISTED_NAMES < length known
-MatchFolder (Some known) failed failed_after unlisted = HasRisen failed failed_after
+MatchFolder (Some all) failed failed_after (names read) = read ≡ all
+MatchFolder (Some all) failed failed_after too_many = MAX_LISTED_NAMES < length all
+MatchFolder (Some all) failed failed_after unlisted = HasRisen failed failed_after
 
 -- all files and folders that were read, while the count of failures rose from `failed`, agree with the known contents of the tree
-pub record AreAsKnown (contents : TreeContents) (failed : ℕ) (known : KnownFiles) : Type 0 where
-  pub files : (path : List ℕ) (read : FileRead) → keyword_in_table known.files path ≡ Some read → MatchFile (contents.file path) failed contents.failures read
-  pub folders : (folder : List ℕ) (read : FolderRead) → keyword_in_table known.folders folder ≡ Some read
+pub record AreAsKnown (contents : TreeContents) (failed : ℕ) (store : KnownFiles) : Type 0 where
+  pub files : (path : List ℕ) (read : FileRead) → keyword_in_table store.files path ≡ Some read → MatchFile (contents.file path) failed contents.failures read
+  pub folders : (folder : List ℕ) (read : FolderRead) → keyword_in_table store.folders folder ≡ Some read
       → MatchFolder (contents.folder folder) failed contents.failures read
 
 -- files and folders that were read grow from `old` to `new`: none is forgotten, and all agree with the known contents if those of

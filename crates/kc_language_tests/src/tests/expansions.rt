@@ -82,10 +82,11 @@ fn names_at(
 
 impl TreeFiles for MemoryTree {
     ghost use Rattle.std.specs.Prelude.{None};
+    ghost use Rattle.kc_value.specs.FileContents.{unknown};
 
     type File = Script;
 
-    ghost contents = { λ t. record { file = λ _. None; folder = λ _. None; beside = λ _. None; failures = t.failed; reference = 0 } };
+    ghost contents = { λ t. record { file = λ _. unknown; folder = λ _. None; beside = λ _. unknown; failures = t.failed; reference = 0 } };
 
     fn seed(&self) -> Seed {
         Seed::fixed()

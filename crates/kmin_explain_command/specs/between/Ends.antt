@@ -1,6 +1,6 @@
 -- Ends of `explain` over a tree with its lines.
 use Rattle.std.specs.Prelude.{◌≡◌, ℕ, List, ◌∷◌, [], ◌++◌, Option}
-use Rattle.kc_files.specs.TreeContents.{FileContent}
+use Rattle.kc_value.specs.FileContents.{FileContent}
 use Rattle.kc_rules.specs.between.SettledViews.{tree_of_settled}
 use Rattle.kmin_options.specs.Jobs.{ExplainJob}
 use Rattle.kmin_report.specs.Reports.{ErrorLine, refused_line}
@@ -13,7 +13,7 @@ use Rattle.kmin_explain_command.specs.Explains.{Explains, RefusesName}
 use Rattle.kmin_explain_command.specs.Stops.{task_of, unknown_text}
 
 -- the output of `explain` over a tree, whatever texts the tree is of, with the lines of standard error after those of the texts
-pub record AnswersOver (content_of : List ℕ → FileContent) (job : ExplainJob) (tree : LinedTree) (text : List ℕ) (status : ℕ) (taken : SpelledBytes) (failed : ℕ) (taken_after : SpelledBytes) (failed_after : ℕ) : Type 0 where
+pub record ExplainsOver (content_of : List ℕ → FileContent) (job : ExplainJob) (tree : LinedTree) (text : List ℕ) (status : ℕ) (taken : SpelledBytes) (failed : ℕ) (taken_after : SpelledBytes) (failed_after : ℕ) : Type 0 where
   pub own : List ErrorLine
   pub explains : (t : TreeTexts) → IsLinedTree t job.settings.tree tree → Explains content_of job t text status (t.lines ++ own)
   pub reported : TakesLines taken failed own taken_after failed_after

@@ -1,11 +1,11 @@
 -- Configuration files with their last lines, as the code has them.
 use Rattle.std.specs.Prelude.{◌≡◌, ℕ, Bool, List, ◌++◌, Option}
 use Rattle.std.specs.List.{AllZip}
+use Rattle.kc_value.specs.FileContents.{FileContent}
 use Rattle.kc_tree_model.specs.Trees.{Tree}
 use Rattle.kc_rules_model.specs.declared.values.UserValue.{UserValue}
 use Rattle.kc_dotconfig_model.specs.Formats.{FileFormat}
 use Rattle.kc_dotconfig_model.specs.declared.choice_line.ChoiceLine.{ChoiceLine}
-use Rattle.kc_files.specs.TreeContents.{FileContent}
 use Rattle.kc_config_reasons.specs.between.FileLines.{KeepsLines}
 use Rattle.kc_config_reasons.specs.declared.file_lines.FileLines.{FileLines}
 use Rattle.kmin_report.specs.StandardError.{SpelledBytes}

@@ -59,13 +59,13 @@ abbrev pub status_by : ExplainFlags → SourcesModel → (named : List ℕ) → 
 status_by flags g named = if flags.exit_code && is_one_hindered g named then 1 else 0
 
 -- the text and the status for a question, of `explain` for these named symbols
-pub record IsAnswerFor (form : OutputForm) (question : Question) (g : SourcesModel) (named : List ℕ) (text : List ℕ) (status : ℕ) : Type 0 where
+pub record IsOutputFor (form : OutputForm) (question : Question) (g : SourcesModel) (named : List ℕ) (text : List ℕ) (status : ℕ) : Type 0 where
   pub text_is : IsTextFor form question g named text
   pub status_is : status ≡ status_for question g named
 
 -- the text and the status for the symbols of a job, whether or not each of its names means one
-abbrev pub IsAnswerOf : GivenJob → SourcesModel → (text : List ℕ) → (status : ℕ) → Type 0
-IsAnswerOf job g text status = IsAnswerFor job.settings.output_form job.question g (symbols_in job g.tree) text status
+abbrev pub IsOutputOf : GivenJob → SourcesModel → (text : List ℕ) → (status : ℕ) → Type 0
+IsOutputOf job g text status = IsOutputFor job.settings.output_form job.question g (symbols_in job g.tree) text status
 
 -- `explain` ends, once its files are read: at the choices of their configuration, or after the notices on these for a name that means
 -- no symbol, or since memory runs out

@@ -1,6 +1,6 @@
 -- Where a run ends among files that are read whole.
 use Rattle.std.specs.Prelude.{◌≡◌, ℕ, List, [], ◌∷◌, ◌++◌, Option}
-use Rattle.kc_files.specs.TreeContents.{FileContent}
+use Rattle.kc_value.specs.FileContents.{FileContent}
 use Rattle.kmin_inputs.specs.ListFiles.{StopsReadingList, list_content}
 use Rattle.kmin_inputs.specs.WordFiles.{AreFilesRead}
 use Rattle.kmin_report.specs.Reports.{ErrorLine}

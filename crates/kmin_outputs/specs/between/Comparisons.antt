@@ -1,11 +1,11 @@
 -- Configurations that were read, the notices on their choices, and ends of a run there.
 use Rattle.std.specs.Prelude.{◌≡◌, ℕ, Bool, List, [], ◌∷◌}
+use Rattle.kc_value.specs.FileContents.{FileContent}
 use Rattle.kc_tree_model.specs.Trees.{Tree}
 use Rattle.kc_dotconfig_model.specs.Formats.{FileFormat}
 use Rattle.kc_dotconfig_model.specs.ConfigFiles.{empty_assignment}
 use Rattle.kc_dotconfig_model.specs.OtherChoices.{other_choices_of, placed_from}
 use Rattle.kc_config.specs.ConfigStates.{tree_in}
-use Rattle.kc_files.specs.TreeContents.{FileContent}
 use Rattle.kmin_report.specs.Reports.{choice_notice_lines}
 use Rattle.kmin_report.specs.StandardError.{SpelledBytes, TakesLines}
 use Rattle.kmin_outputs.specs.declared.configurations.ReadFiles.{ReadFiles}
@@ -33,11 +33,11 @@ pub record AreBothNoticed (strict : Bool) (left right : List ℕ) (before after 
   pub right_noticed : AreNoticed strict (right ∷ []) after between failed_between taken_after failed_after
 
 -- a verb over a configuration ended without an output: at the notices on its choices, or since memory ran out after they were reported
-pub data StopsAnswering (strict : Bool) (paths : List (List ℕ)) (read : ReadFiles) (status : ℕ) (taken : SpelledBytes) (failed : ℕ) (taken_after : SpelledBytes) (failed_after : ℕ) : Type 0 where
+pub data StopsProducingOutput (strict : Bool) (paths : List (List ℕ)) (read : ReadFiles) (status : ℕ) (taken : SpelledBytes) (failed : ℕ) (taken_after : SpelledBytes) (failed_after : ℕ) : Type 0 where
   at_the_choices : StopsNoticing (tree_in read.config) read.config.values strict paths (lists_of read.chosen.items) status taken failed taken_after failed_after
-      → StopsAnswering strict paths read status taken failed taken_after failed_after
-  answering_output : AreNoticed strict paths read taken failed taken_after failed_after → status ≡ 6
-      → StopsAnswering strict paths read status taken failed taken_after failed_after
+      → StopsProducingOutput strict paths read status taken failed taken_after failed_after
+  producing_output : AreNoticed strict paths read taken failed taken_after failed_after → status ≡ 6
+      → StopsProducingOutput strict paths read status taken failed taken_after failed_after
 
 -- a comparison of two configurations of one file each ended without an output: at the notices on the choices of the left one, or of
 -- the right one, or since memory ran out after all of these were reported

@@ -1,6 +1,7 @@
 -- Results of reading configuration files.
 use Rattle.std.specs.Prelude.{◌≡◌, ℕ, Bool, List, ◌++◌, Option, map}
 use Rattle.std.specs.Global.{Vec}
+use Rattle.kc_value.specs.FileContents.{FileContent, AreKnownBytes}
 use Rattle.kc_tree_model.specs.Trees.{Tree}
 use Rattle.kc_rules_model.specs.declared.values.UserValue.{UserValue}
 use Rattle.kc_dotconfig_model.specs.Formats.{FileFormat}
@@ -12,8 +13,6 @@ use Rattle.kc_dotconfig_model.specs.OtherChoices.{choice_lines_from}
 use Rattle.kc_dotconfig.specs.declared.fragment.Fragment.{Fragment}
 use Rattle.kc_dotconfig.specs.Fragments.{users_of}
 use Rattle.kc_dotconfig_model.specs.between.Notices.{notice_pair}
-use Rattle.kc_files.specs.TreeContents.{FileContent}
-use Rattle.kmin_report.specs.KnownBytes.{AreKnownBytes}
 use Rattle.kmin_report.specs.Reports.{file_notices, notice_lines}
 use Rattle.kmin_report.specs.StandardError.{SpelledBytes, TakesLines}
 use Rattle.kmin_outputs.specs.Outputs.{FilesMean}

@@ -1,5 +1,6 @@
 -- Ends of a run at a configuration file, by the kind of its fault.
 use Rattle.std.specs.Prelude.{◌≡◌, ◌⊎◌, ℕ, Bool, List, [], ◌∷◌, map, Option}
+use Rattle.kc_value.specs.FileContents.{FileContent}
 use Rattle.kc_tree_model.specs.Trees.{Tree}
 use Rattle.kc_dotconfig_model.specs.Formats.{FileFormat}
 use Rattle.kc_dotconfig_model.specs.declared.fault.LoadKind.{LoadKind}
@@ -7,7 +8,6 @@ use Rattle.kc_dotconfig_model.specs.declared.fault.LoadKind.TheVariants.{Read, O
 use Rattle.kc_dotconfig.specs.declared.fragment.Fragment.{Fragment}
 use Rattle.kc_dotconfig_model.specs.between.Notices.{notice_pair}
 use Rattle.kc_dotconfig.specs.ReadResults.{ReportsFault}
-use Rattle.kc_files.specs.TreeContents.{FileContent}
 use Rattle.kc_rules_model.specs.declared.values.UnitValue.{UnitValue}
 use Rattle.kc_dotconfig_model.specs.declared.choice_line.ChoiceLine.{ChoiceLine}
 use Rattle.kc_dotconfig_model.specs.OtherChoices.{other_choices_of, placed_from}

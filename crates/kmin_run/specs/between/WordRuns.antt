@@ -1,6 +1,6 @@
 -- The files of words, once they were read, and words, once they were parsed.
 use Rattle.std.specs.Prelude.{◌≡◌, ℕ, Bool, false, List, Option, None}
-use Rattle.kc_files.specs.TreeContents.{FileContent}
+use Rattle.kc_value.specs.FileContents.{FileContent}
 use Rattle.kmin_lines.specs.WordFiles.{files_of}
 use Rattle.kmin_report.specs.Reports.{ErrorLine, last_lines}
 use Rattle.kmin_texts.specs.Spellings.{AskedForm}

@@ -14,40 +14,40 @@ use Rattle.kmin_tidy.specs.declared.stop.TidyStop.{TidyStop}
 use Rattle.kmin_tidy.specs.declared.stop.TidyStop.TheVariants.{Memory, Left}
 use Rattle.kmin_report.specs.Reports.{ErrorLine}
 
--- an accepted file of these bytes is compared with its minimal file `least`, and replaced by it if they differ and `write` is
+-- an accepted file of these bytes is compared with its minimal file `minimal_bytes`, and replaced by it if they differ and `write` is
 -- true: the disk after it, its line of standard output in a form, and its outcome and problem
-pub data IsRewritten (form : OutputForm) (write : Bool) (old new : Disk) (path bytes least line : List ℕ) (end : FileEnd) : Type 0 where
-  same : least ≡ bytes → new ≡ old → line ≡ [] → end.problem ≡ None → end.outcome ≡ Minimal
-      → IsRewritten form write old new path bytes least line end
-  shown : least ≢ bytes → write ≡ false → new ≡ old → line ≡ file_line form path bytes least → end.problem ≡ None
-      → end.outcome ≡ NotMinimal → IsRewritten form write old new path bytes least line end
-  replaced : least ≢ bytes → write ≡ true → Replaces old.state new.state path least → new.failures ≡ old.failures
-      → line ≡ file_line form path bytes least → end.problem ≡ None → end.outcome ≡ Minimal
-      → IsRewritten form write old new path bytes least line end
-  unwritten : least ≢ bytes → write ≡ true → IsUnwritten old new path → line ≡ [] → end.problem ≡ Some Write
-      → end.outcome ≡ Failed → IsRewritten form write old new path bytes least line end
-  unsynced : least ≢ bytes → write ≡ true → IsUnsynced old new path least → line ≡ file_line form path bytes least
-      → end.problem ≡ Some Write → end.outcome ≡ Failed → IsRewritten form write old new path bytes least line end
+pub data IsRewritten (form : OutputForm) (write : Bool) (old new : Disk) (path bytes minimal_bytes line : List ℕ) (end : FileEnd) : Type 0 where
+  same : minimal_bytes ≡ bytes → new ≡ old → line ≡ [] → end.problem ≡ None → end.outcome ≡ Minimal
+      → IsRewritten form write old new path bytes minimal_bytes line end
+  shown : minimal_bytes ≢ bytes → write ≡ false → new ≡ old → line ≡ file_line form path bytes minimal_bytes → end.problem ≡ None
+      → end.outcome ≡ NotMinimal → IsRewritten form write old new path bytes minimal_bytes line end
+  replaced : minimal_bytes ≢ bytes → write ≡ true → Replaces old.state new.state path minimal_bytes → new.failures ≡ old.failures
+      → line ≡ file_line form path bytes minimal_bytes → end.problem ≡ None → end.outcome ≡ Minimal
+      → IsRewritten form write old new path bytes minimal_bytes line end
+  unwritten : minimal_bytes ≢ bytes → write ≡ true → IsUnwritten old new path → line ≡ [] → end.problem ≡ Some Write
+      → end.outcome ≡ Failed → IsRewritten form write old new path bytes minimal_bytes line end
+  unsynced : minimal_bytes ≢ bytes → write ≡ true → IsUnsynced old new path minimal_bytes → line ≡ file_line form path bytes minimal_bytes
+      → end.problem ≡ Some Write → end.outcome ≡ Failed → IsRewritten form write old new path bytes minimal_bytes line end
 
 -- a file was replaced by its minimal file, or couldn't be: the disk after it, its outcome and problem, and whether it was
-pub data IsWritten (old new : Disk) (path least : List ℕ) (end : FileEnd) : Type 0 where
-  in_place : Replaces old.state new.state path least → new.failures ≡ old.failures → end.problem ≡ None
-      → end.outcome ≡ Minimal → end.is_replaced ≡ true → IsWritten old new path least end
+pub data IsWritten (old new : Disk) (path minimal_bytes : List ℕ) (end : FileEnd) : Type 0 where
+  in_place : Replaces old.state new.state path minimal_bytes → new.failures ≡ old.failures → end.problem ≡ None
+      → end.outcome ≡ Minimal → end.is_replaced ≡ true → IsWritten old new path minimal_bytes end
   not_in_place : IsUnwritten old new path → end.problem ≡ Some Write → end.outcome ≡ Failed → end.is_replaced ≡ false
-      → IsWritten old new path least end
-  not_synced : IsUnsynced old new path least → end.problem ≡ Some Write → end.outcome ≡ Failed → end.is_replaced ≡ true
-      → IsWritten old new path least end
+      → IsWritten old new path minimal_bytes end
+  not_synced : IsUnsynced old new path minimal_bytes → end.problem ≡ Some Write → end.outcome ≡ Failed → end.is_replaced ≡ true
+      → IsWritten old new path minimal_bytes end
 
 -- replacing the file at a path ended the run: memory ran out, and the disk is unchanged; or a new file is left
 abbrev pub StopsWrite : (old new : Disk) → (path : List ℕ) → TidyStop → Type 0
 StopsWrite old new path Memory = IsUnchanged old.state new.state
 StopsWrite old new path (Left new_path) = LeavesNewFile old new path (string_bytes new_path)
 
--- the run ended at a file of these bytes with the minimal file `least`: memory ran out before it was replaced, or replacing it
+-- the run ended at a file of these bytes with the minimal file `minimal_bytes`: memory ran out before it was replaced, or replacing it
 -- ended the run
-abbrev pub StopsRewrite : (write : Bool) → (old new : Disk) → (path bytes least : List ℕ) → TidyStop → Type 0
-StopsRewrite write old new path bytes least stop = ((stop ≡ Memory) × (new ≡ old))
-    ⊎ ((write ≡ true) × (least ≢ bytes) × StopsWrite old new path stop)
+abbrev pub StopsRewrite : (write : Bool) → (old new : Disk) → (path bytes minimal_bytes : List ℕ) → TidyStop → Type 0
+StopsRewrite write old new path bytes minimal_bytes stop = ((stop ≡ Memory) × (new ≡ old))
+    ⊎ ((write ≡ true) × (minimal_bytes ≢ bytes) × StopsWrite old new path stop)
 
 -- the run ended at the file at a path: memory ran out before it was replaced, or replacing it ended the run
 abbrev pub StopsFile : TidySettings → (old new : Disk) → (path : List ℕ) → TidyStop → Type 0

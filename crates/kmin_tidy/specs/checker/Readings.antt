@@ -1,5 +1,6 @@
 -- Files that are read.
-use Rattle.std.specs.Prelude.{◌≡◌, ◌≢◌, ◌⊎◌, ℕ, List, ◌++◌, Option, None, map}
+use Rattle.std.specs.Prelude.{◌≡◌, ◌≢◌, ℕ, List, ◌++◌, None, map}
+use Rattle.kc_value.specs.FileContents.{FileContent, OpensAs, AreKnownBytes}
 use Rattle.kc_dotconfig_model.specs.Formats.{FileFormat}
 use Rattle.kc_dotconfig_model.specs.ConfigLines.{LineMeaning}
 use Rattle.kc_dotconfig_model.specs.ConfigFiles.{FileMeans, file_assignment, notices_from}
@@ -11,8 +12,6 @@ use Rattle.kc_dotconfig.specs.declared.fragment.Fragment.{Fragment}
 use Rattle.kc_dotconfig.specs.Fragments.{FitsTree, users_of}
 use Rattle.kc_dotconfig_model.specs.between.Notices.{notice_pair}
 use Rattle.kc_tree_model.specs.Trees.{Tree}
-use Rattle.kmin_disk.specs.Contents.{OpensAs}
-use Rattle.kmin_report.specs.KnownBytes.{AreKnownBytes}
 use Rattle.kc_dotconfig_model.specs.declared.notice.NoticeKind.TheVariants.{OtherChoice}
 use Rattle.kmin_tidy.specs.Options.{Notices}
 use Rattle.kmin_tidy.specs.declared.accepted_file.AcceptedFile.{AcceptedFile}
@@ -32,25 +31,13 @@ abbrev pub places_noted : List (ℕ × ℕ) → Notices
 places_noted places = map (λ (place : ℕ × ℕ). (place.1, OtherChoice)) places
 
 -- a file was read and accepted: its bytes agree with `known`, what is known of them, and its fragment is that of these bytes
-pub record IsAcceptedAs (format : FileFormat) (tree : Tree) (known : Option (Option (List ℕ))) (file : AcceptedFile) : Type 0 where
+pub record IsAcceptedAs (format : FileFormat) (tree : Tree) (known : FileContent) (file : AcceptedFile) : Type 0 where
   pub read : AreKnownBytes known file.bytes.items
   pub fragment : IsFragmentOf format tree file.bytes.items file.fragment
 
--- a whole file of these bytes isn't accepted for its first fault, of this kind at the line `number`; or memory ran out
-abbrev pub IsFaultOf : FileFormat → Tree → (bytes : List ℕ) → LoadKind → ℕ → Type 0
-IsFaultOf format tree bytes kind number = (kind ≡ OutOfMemory) ⊎ ((kind ≢ Read) × IsFirstFault format tree complete bytes kind number)
-
--- a file of which these bytes were read before a read failed isn't accepted, for a fault of this kind at the line `number`: the
--- first fault in these bytes, the failed read after all of them, or lack of memory
-pub data IsFaultOfPart (format : FileFormat) (tree : Tree) (bytes : List ℕ) (kind : LoadKind) (number : ℕ) : Type 0 where
-  in_front : kind ≢ Read → ((rest : List ℕ) → IsFirstFault format tree complete (bytes ++ rest) kind number)
-      → IsFaultOfPart format tree bytes kind number
-  at_failure : IsFirstFault format tree cut_short bytes Read number → kind ≡ Read → IsFaultOfPart format tree bytes kind number
-  no_memory : kind ≡ OutOfMemory → IsFaultOfPart format tree bytes kind number
-
 -- a file isn't accepted for a fault of this kind at the line `number`: its first fault, a read that fails before one, that it
 -- can't be opened, or lack of memory; `known` is what is known of its bytes
-pub data IsFaulty (format : FileFormat) (tree : Tree) (known : Option (Option (List ℕ))) (kind : LoadKind) (number : ℕ) : Type 0 where
+pub data IsFaulty (format : FileFormat) (tree : Tree) (known : FileContent) (kind : LoadKind) (number : ℕ) : Type 0 where
   refused : (bytes : List ℕ) → AreKnownBytes known bytes → kind ≢ Read → IsFirstFault format tree complete bytes kind number
       → IsFaulty format tree known kind number
   unread : (front rest : List ℕ) → AreKnownBytes known (front ++ rest) → IsFirstFault format tree cut_short front Read number

@@ -1,8 +1,8 @@
 -- The files of some paths, as they are inserted among the texts of a tree.
 use Rattle.std.specs.Prelude.{◌≡◌, ℕ, ◌≤◌, List, None, length}
 use Rattle.std.specs.List.{All}
+use Rattle.kc_value.specs.FileContents.{FileContent}
 use Rattle.kc_tree_model.specs.TreeFiles.{Files, file_at}
-use Rattle.kc_files.specs.TreeContents.{FileContent}
 use Rattle.kmin_inputs.specs.FileContents.{path_below}
 use Rattle.kmin_trees.specs.MissingFiles.{MayBeMissing}
 

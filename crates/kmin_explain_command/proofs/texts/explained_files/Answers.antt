@@ -7,7 +7,7 @@ pub returns-in_err-notice_choices : goal.returns-in_err-notice_choices
 returns-in_err-notice_choices g c =
     record {
       status = no_value c.from_residual.result _ _ c.from_residual.ensures.1;
-      answer = no_value c.from_residual.result _ _ c.from_residual.ensures.1;
+      output = no_value c.from_residual.result _ _ c.from_residual.ensures.1;
       noticed = no_value c.from_residual.result _ _ c.from_residual.ensures.1;
       stopped = with_error c.from_residual.result _ _ c.from_residual.ensures.1 (at_choices (rw c.deref.ensures.value at c.in_err-notice_choices.ensures.stopped));
     }
@@ -18,7 +18,7 @@ returns-in_err-refuse_unknown g c =
     (g.E.Messages.failures c.args.err.now) (g.E.Messages.taken c.notice_choices.new.err) (g.E.Messages.failures c.notice_choices.new.err) = record { allowed = c.in_ok-notice_choices.ensures.allowed; noticed = rw c.deref.ensures.value at c.in_ok-notice_choices.ensures.noticed } in
     record {
       status = no_value c.from_residual-in_err-refuse_unknown.result _ _ c.from_residual-in_err-refuse_unknown.ensures.1;
-      answer = no_value c.from_residual-in_err-refuse_unknown.result _ _ c.from_residual-in_err-refuse_unknown.ensures.1;
+      output = no_value c.from_residual-in_err-refuse_unknown.result _ _ c.from_residual-in_err-refuse_unknown.ensures.1;
       noticed = no_value c.from_residual-in_err-refuse_unknown.result _ _ c.from_residual-in_err-refuse_unknown.ensures.1;
       stopped = with_error c.from_residual-in_err-refuse_unknown.result _ _ c.from_residual-in_err-refuse_unknown.ensures.1
           (name_stops_in c.args.job.now c.args.tree.now c.args.found.now _ _ _ _ _ _ noticed c.tree-symbols.result.now.tree
@@ -31,7 +31,7 @@ returns-in_err-text_of g c =
     (g.E.Messages.failures c.args.err.now) (g.E.Messages.taken c.notice_choices.new.err) (g.E.Messages.failures c.notice_choices.new.err) = record { allowed = c.in_ok-notice_choices.ensures.allowed; noticed = rw c.deref.ensures.value at c.in_ok-notice_choices.ensures.noticed } in
     record {
       status = no_value c.from_residual-in_err-text_of.result _ _ c.from_residual-in_err-text_of.ensures.1;
-      answer = no_value c.from_residual-in_err-text_of.result _ _ c.from_residual-in_err-text_of.ensures.1;
+      output = no_value c.from_residual-in_err-text_of.result _ _ c.from_residual-in_err-text_of.ensures.1;
       noticed = no_value c.from_residual-in_err-text_of.result _ _ c.from_residual-in_err-text_of.ensures.1;
       stopped = memory_err _ _ c.from_residual-in_err-text_of.ensures (λ stop status.
           for_memory (noticed_alone c.args.job.now c.args.tree.now c.args.found.now _ _ _ _ _ _ noticed c.in_ok-refuse_unknown.ensures.unreported) status);
@@ -43,8 +43,8 @@ returns g c =
     (g.E.Messages.failures c.args.err.now) (g.E.Messages.taken c.notice_choices.new.err) (g.E.Messages.failures c.notice_choices.new.err) = record { allowed = c.in_ok-notice_choices.ensures.allowed; noticed = rw c.deref.ensures.value at c.in_ok-notice_choices.ensures.noticed } in
     record {
       status = c.in_ok-text_of.ensures.status;
-      answer = λ read meanings are. explained_by c.args.job.now c.args.tree.now c.args.found.now read meanings _ _ (sym (ap (λ (t : TreeModel). unknown_for (explain_job_view c.args.job.now) t.tree) (c.tree-symbols.ensures.tree ∙ ap tree_model_of c.settled.ensures)) ∙ c.in_ok-refuse_unknown.ensures.known)
-          (c.in_ok-text_of.ensures.answer read meanings are);
+      output = λ read meanings are. explained_by c.args.job.now c.args.tree.now c.args.found.now read meanings _ _ (sym (ap (λ (t : TreeModel). unknown_for (explain_job_view c.args.job.now) t.tree) (c.tree-symbols.ensures.tree ∙ ap tree_model_of c.settled.ensures)) ∙ c.in_ok-refuse_unknown.ensures.known)
+          (c.in_ok-text_of.ensures.output read meanings are);
       noticed = noticed_alone c.args.job.now c.args.tree.now c.args.found.now _ _ _ _ _ _ noticed c.in_ok-refuse_unknown.ensures.unreported;
       stopped = tt;
     }

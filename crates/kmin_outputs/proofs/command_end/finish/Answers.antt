@@ -2,9 +2,9 @@ use Rattle.kmin_outputs.proofs.Common.{inl, inr, refl, arith}
 use Rattle.kmin_report.proofs.Statuses.{of_fault, output_at_most_six, output_not_two, output_not_five, output_no_other, failed_at_most_six, failed_not_two, failed_not_done, fault_at_most_six, fault_not_done}
 use Rattle.kmin_outputs.proofs.command_end.finish.Goals as goal
 
-pub returns-in-Ok-write_answer : goal.returns-in-Ok-write_answer
-returns-in-Ok-write_answer g c =
-    let written = c.in-Ok-write_answer.ensures in
+pub returns-in-Ok-write_output : goal.returns-in-Ok-write_output
+returns-in-Ok-write_output g c =
+    let written = c.in-Ok-write_output.ensures in
     let output = c.in-Ok.output in
     let small = rw c.in-Ok.is at c.requires in record {
       status = output_at_most_six output.status small;
@@ -19,7 +19,7 @@ returns-in-Ok-write_answer g c =
 
 pub returns-in-Ok : goal.returns-in-Ok
 returns-in-Ok g c =
-    let fault = c.in-Err-write_answer.ensures in
+    let fault = c.in-Err-write_output.ensures in
     let part = rw c.deref.ensures.value at fault.part in
     let status = c.status.result in
     let five = c.status.ensures in record {
@@ -28,7 +28,7 @@ returns-in-Ok g c =
       done = λ e. failed_not_done status five e;
       unfailed = λ e. failed_not_done status five e;
       stopped = λ e. inl (c.in-Ok.output, c.in-Ok.is, five, fault.reported);
-      part = λ e. inr (c.in-Ok.output, c.in-Ok.is, c.in-Err-write_answer.field-0.written, part.0, part.1);
+      part = λ e. inr (c.in-Ok.output, c.in-Ok.is, c.in-Err-write_output.field-0.written, part.0, part.1);
       unwritten = λ zero one other. absurd (other five);
       failed = λ e. inl fault.failures;
     }

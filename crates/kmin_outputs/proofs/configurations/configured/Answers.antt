@@ -1,7 +1,7 @@
 use Rattle.kmin_outputs.proofs.Common.{◌∷◌, ◌∙◌, [], List, ℕ, map, refl, arith, Bor, if_err_map, memory_err, rises_later, no_value}
 use Rattle.kmin_report.specs.StandardError as taking
 use Rattle.kmin_outputs.specs.Stops as stops
-use Rattle.kmin_outputs.specs.Outputs as answers
+use Rattle.kmin_outputs.specs.Outputs as outputs
 use Rattle.kmin_outputs.proofs.Sequences.{read_none, read_rest, stopped_more, stopped_later, mapped}
 use Rattle.kmin_outputs.proofs.ErrorExits.{with_error}
 use Rattle.kmin_outputs.proofs.configurations.configured.Goals as goal
@@ -24,7 +24,7 @@ returns-in_err-unassigned g c =
       settled = no_value c.from_residual.result _ _ c.from_residual.ensures.1;
       solved = no_value c.from_residual.result _ _ c.from_residual.ensures.1;
       loaded = no_value c.from_residual.result _ _ c.from_residual.ensures.1;
-      stopped = memory_err _ _ c.from_residual.ensures (λ stop status. ([], stops.for_memory [] _ [] refl answers.none status refl, taking.none));
+      stopped = memory_err _ _ c.from_residual.ensures (λ stop status. ([], stops.for_memory [] _ [] refl outputs.none status refl, taking.none));
       rising = omega arith;
       failed = memory_err _ _ c.from_residual.ensures (λ stop status. λ five. absurd (omega arith));
     }

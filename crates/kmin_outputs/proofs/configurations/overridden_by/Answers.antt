@@ -23,24 +23,24 @@ loop-path-preserved g c =
     let absent : Bor (List ℕ) = record { ref_ptr = (0, 0); now = [] } in
     let path = get_or c.args.paths.now c.loop-path.path-index absent in
     record {
-      same = c.overlay_file.ensures.same ∙ c.loop-path.invariant.same;
-      rising = omega (arith, c.overlay_file.ensures.rising, c.loop-path.invariant.rising);
-      settled = c.in_ok-overlay_file.ensures.settled;
-      solved = c.in_ok-overlay_file.ensures.solved;
+      same = c.override_with_file.ensures.same ∙ c.loop-path.invariant.same;
+      rising = omega (arith, c.override_with_file.ensures.rising, c.loop-path.invariant.rising);
+      settled = c.in_ok-override_with_file.ensures.settled;
+      solved = c.in_ok-override_with_file.ensures.solved;
       loaded = rw (paths_next c.args.paths.now c.loop-path.path-index absent (search rules))
           (read_append content_of _ _ tree _ (path.now ∷ []) c.args.begun.config.users c.loop-path.read.config.users _ _ _ _ _ _ _ _ _ _
-          c.loop-path.invariant.loaded (rw same at c.in_ok-overlay_file.ensures.loaded));
+          c.loop-path.invariant.loaded (rw same at c.in_ok-override_with_file.ensures.loaded));
     }
 
-pub returns-in_err-overlay_file : goal.returns-in_err-overlay_file
-returns-in_err-overlay_file g c =
+pub returns-in_err-override_with_file : goal.returns-in_err-override_with_file
+returns-in_err-override_with_file g c =
     let content_of = (g.F.Files.surroundings c.args.files.now).content in
     let same = c.loop-path.invariant.same in
     let absent : Bor (List ℕ) = record { ref_ptr = (0, 0); now = [] } in
     let k = c.loop-path.path-index in
     let path = get_or c.args.paths.now k absent in
     record {
-      same = c.overlay_file.ensures.same ∙ c.loop-path.invariant.same;
+      same = c.override_with_file.ensures.same ∙ c.loop-path.invariant.same;
       settled = no_value c.from_residual.result _ _ c.from_residual.ensures.1;
       solved = no_value c.from_residual.result _ _ c.from_residual.ensures.1;
       loaded = no_value c.from_residual.result _ _ c.from_residual.ensures.1;
@@ -49,11 +49,11 @@ returns-in_err-overlay_file g c =
           (path.now ∷ map (λ (p : Bor (List ℕ)). p.now) (drop (suc k) c.args.paths.now)) _ c.args.begun.config.users c.loop-path.read.config.users _ _
           (paths_at c.args.paths.now k absent (search rules)) c.loop-path.invariant.loaded.loaded
           (stopped_more content_of _ _ _ _ _ _ _ _ (path.now ∷ []) (map (λ (p : Bor (List ℕ)). p.now) (drop (suc k) c.args.paths.now)) _ refl
-          (rw same at c.in_err-overlay_file.ensures.stopped)));
-      rising = omega (arith, c.overlay_file.ensures.rising, c.loop-path.invariant.rising);
+          (rw same at c.in_err-override_with_file.ensures.stopped)));
+      rising = omega (arith, c.override_with_file.ensures.rising, c.loop-path.invariant.rising);
       failed = with_error c.from_residual.result _ _ c.from_residual.ensures.1 (λ five.
-          rises_later (g.F.Files.failures c.args.files.now) (g.F.Files.failures c.loop-path.files) (g.F.Files.failures c.overlay_file.new.files)
-          c.loop-path.invariant.rising c.overlay_file.ensures.rising (c.in_err-overlay_file.ensures.failed five));
+          rises_later (g.F.Files.failures c.args.files.now) (g.F.Files.failures c.loop-path.files) (g.F.Files.failures c.override_with_file.new.files)
+          c.loop-path.invariant.rising c.override_with_file.ensures.rising (c.in_err-override_with_file.ensures.failed five));
     }
 
 pub returns : goal.returns

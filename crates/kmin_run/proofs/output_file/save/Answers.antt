@@ -5,13 +5,13 @@ use Rattle.kmin_run.proofs.output_file.save.Goals as goal
 
 pub returns-in-Ok-save_text : goal.returns-in-Ok-save_text
 returns-in-Ok-save_text g c =
-    let w = c.in-Ok.ensures.answer in
-    let status = c.in-Ok.answer.status in record {
+    let w = c.in-Ok.ensures.output in
+    let status = c.in-Ok.output.status in record {
       status = output_at_most_six status c.in-Ok.ensures.status;
       accepted_words = output_not_two status c.in-Ok.ensures.status;
       ends = (
         w.0.lines ++ w.1,
-        saved w.0 c.in-Ok.answer.text.items w.1 w.2 w.3 (rw c.deref.ensures.value at c.in-Ok-save_text.ensures.saved) refl,
+        saved w.0 c.in-Ok.output.text.items w.1 w.2 w.3 (rw c.deref.ensures.value at c.in-Ok-save_text.ensures.saved) refl,
         lines_kept _ _ _ _ _ _ (w.0.lines ++ w.1) w.4 c.in-Ok-save_text.ensures.unreported,
       );
       failed = λ five. absurd (omega (arith, five, c.in-Ok.ensures.status));
@@ -28,7 +28,7 @@ returns-in-Ok g c =
           ends_at_file (g.F.Files.surroundings files) _ _
           (settings_view c.args.output_job.now.job.settings) (task_view c.args.output_job.now.job.task) c.args.output_job.now.output.now _ _
           stop status c.exit_status.ensures.status _ _ _ _
-          c.in-Ok.answer.text.items c.in-Ok.answer.status _ _ _ _ c.in-Ok.ensures.answer (rw c.deref.ensures.value at c.in-Err-save_text.ensures.unsaved)
+          c.in-Ok.output.text.items c.in-Ok.output.status _ _ _ _ c.in-Ok.ensures.output (rw c.deref.ensures.value at c.in-Err-save_text.ensures.unsaved)
           c.exit_status.ensures.reported;
       failed = λ five.
           let unsaved = c.in-Err-save_text.ensures.unsaved in inr (_, unsaved.0, unsaved.1);

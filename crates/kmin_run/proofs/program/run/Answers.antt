@@ -6,12 +6,12 @@ use Rattle.kmin_run.proofs.program.run.Goals as goal
 
 pub returns-then-is_empty : goal.returns-then-is_empty
 returns-then-is_empty g c =
-    let ends = c.answer_bundle.ensures.ends (g.D.ReadDisk.disk c.args.disk.now) in record {
-      status = c.answer_bundle.ensures.status;
+    let ends = c.serve_bundle.ensures.ends (g.D.ReadDisk.disk c.args.disk.now) in record {
+      status = c.serve_bundle.ensures.status;
       ends = (None, ends.0, without_words _ _ _ _ _ _ _ ends.0 _ _ c.args.words.now (sym c.is_empty.ensures ∙ c.if-is_empty.true) ends.1, ends.2);
       unasked = inl refl;
-      refused = λ e. inl (on_four c.answer_bundle.result e c.answer_bundle.ensures.unwritten);
-      unwritten = λ zero one four five. c.answer_bundle.ensures.unwritten zero five;
+      refused = λ e. inl (on_four c.serve_bundle.result e c.serve_bundle.ensures.unwritten);
+      unwritten = λ zero one four five. c.serve_bundle.ensures.unwritten zero five;
       failed = λ five. inl (inr (bundle_rises _ _ _ _ _ _ ends.1 five));
     }
 

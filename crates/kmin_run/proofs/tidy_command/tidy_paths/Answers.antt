@@ -10,9 +10,9 @@ returns-in-Ok g c =
           went_over _ _ _ _ _ _ c.tidy_files-status.result
           (g.F.Files.surroundings c.args.files.now) _ _
           (settings_view c.args.tidy_job.now.settings) c.args.tidy_job.now.flags c.in-Ok.settled c.args.tidy_job.now.settings.format
-          c.options_of-options.result _ _ _ c.in-Ok.ensures.profile refl c.options_of-options.ensures c.in-Ok.ensures.accepted run.ends run.became
+          c.options_of.result _ _ _ c.in-Ok.ensures.profile refl c.options_of.ensures c.in-Ok.ensures.accepted run.ends run.became
           run.again run.silent;
-      unasked = λ e. c.tidy_files-status.ensures.unasked (rw c.options_of-options.ensures e);
+      unasked = λ e. c.tidy_files-status.ensures.unasked (rw c.options_of.ensures e);
       unwritten = λ zero one four five. ends_unwritten _ _ _ _ _ _ _ _ _ _ run.ends.1 zero one four five;
       rising = c.job_tree.ensures.rising;
       failed = λ five. inr (_, _, run.ends.0, record { ends = run.ends.1; became = run.became; again = run.again; silent = run.silent });

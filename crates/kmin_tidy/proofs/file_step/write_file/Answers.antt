@@ -9,12 +9,12 @@ returns-in-Ok-clause-written g c = in_place c.in-Ok.ensures.ok c.in-Ok.ensures.f
 pub returns-in-Err-clause-written : goal.returns-in-Err-clause-written
 returns-in-Err-clause-written g c =
     if_ok_map c.end_of_fault.result _ _ (λ end h.
-    written_by (g.D.ReadDisk.disk c.args.disk.now) (g.D.ReadDisk.disk c.replace.new.disk) c.args.path.now c.args.least.now c.in-Err.fault end
+    written_by (g.D.ReadDisk.disk c.args.disk.now) (g.D.ReadDisk.disk c.replace.new.disk) c.args.path.now c.args.minimal_bytes.now c.in-Err.fault end
     c.in-Err.ensures.err c.in-Err.ensures.failures (λ e. c.in-Err.ensures.not_regular (ap Err e)) (λ e. c.in-Err.ensures.names_taken (ap Err e)) h)
     c.end_of_fault.ensures.failed
 
 pub returns-in-Err-clause-stopped : goal.returns-in-Err-clause-stopped
 returns-in-Err-clause-stopped g c =
     if_err_map c.end_of_fault.result _ _ (λ stop h.
-    stopped_by (g.D.ReadDisk.disk c.args.disk.now) (g.D.ReadDisk.disk c.replace.new.disk) c.args.path.now c.args.least.now c.in-Err.fault stop
+    stopped_by (g.D.ReadDisk.disk c.args.disk.now) (g.D.ReadDisk.disk c.replace.new.disk) c.args.path.now c.args.minimal_bytes.now c.in-Err.fault stop
     c.in-Err.ensures.err c.in-Err.ensures.failures h) c.end_of_fault.ensures.stopped

@@ -4,24 +4,24 @@ use Rattle.kmin_tidy.proofs.run.tidy_files.Goals as goal
 
 pub returns-clause-became : goal.returns-clause-became
 returns-clause-became g c =
-    ends_became (settings_of c.args.settled.now c.args.format.now c.args.options)
+    ends_became (settings_of c.args.settled.now c.args.by.now.format.now c.args.by.now.options)
     (g.D.ReadDisk.disk c.args.disk.now)
     _ _ _ _ _ _ _ _ c.run_to_end.ensures.1
 
 pub returns-clause-unasked : goal.returns-clause-unasked
 returns-clause-unasked g c = λ unasked.
-    ends_unasked (settings_of c.args.settled.now c.args.format.now c.args.options)
+    ends_unasked (settings_of c.args.settled.now c.args.by.now.format.now c.args.by.now.options)
     (g.D.ReadDisk.disk c.args.disk.now)
     _ _ _ _ _ _ _ _ c.run_to_end.ensures.1 unasked
 
 pub returns-clause-again : goal.returns-clause-again
 returns-clause-again g c = λ tidy.
-    ends_again (settings_of c.args.settled.now c.args.format.now c.args.options)
+    ends_again (settings_of c.args.settled.now c.args.by.now.format.now c.args.by.now.options)
     (g.D.ReadDisk.disk c.args.disk.now)
     _ _ _ _ _ _ _ _ c.run_to_end.ensures.1 tidy
 
 pub returns-clause-silent : goal.returns-clause-silent
 returns-clause-silent g c = λ tidy.
-    ends_silent (settings_of c.args.settled.now c.args.format.now c.args.options)
+    ends_silent (settings_of c.args.settled.now c.args.by.now.format.now c.args.by.now.options)
     (g.D.ReadDisk.disk c.args.disk.now)
     _ _ _ _ _ _ _ _ c.run_to_end.ensures.1 tidy

@@ -10,7 +10,7 @@ use Rattle.kmin_tidy.proofs.whole_run.tidy_each.Goals as goal
 
 pub loop-path-init : goal.loop-path-init
 loop-path-init g c =
-    let s = settings_of c.args.config.now.system c.args.format.now c.args.options in
+    let s = settings_of c.args.config.now.system c.args.by.now.format.now c.args.by.now.options in
     let a = g.D.ReadDisk.disk c.args.disk.now in
     record {
       system = refl;
@@ -20,7 +20,7 @@ loop-path-init g c =
 pub loop-path-preserved : goal.loop-path-preserved
 loop-path-preserved g c =
     let system = c.args.config.now.system in
-    let s = settings_of system c.args.format.now c.args.options in
+    let s = settings_of system c.args.by.now.format.now c.args.by.now.options in
     let a = g.D.ReadDisk.disk c.args.disk.now in
     let b = g.D.ReadDisk.disk c.loop-path.disk in
     let after = g.D.ReadDisk.disk c.tidy_file.new.disk in
@@ -35,7 +35,7 @@ loop-path-preserved g c =
     ap (λ (m : TreeModel). m.tree) c.tree.ensures.tree ∙ ap tree_of_settled (c.settled.ensures ∙ c.in_ok-report.ensures.settled ∙ inv.system) in
     let step = c.in_ok-report.ensures.step in
     let own_step : Step s b after path step.0 own report.outcome =
-    subst (λ (sys : Settled). Step (settings_of sys c.args.format.now c.args.options) b after path step.0 (report_lines (tree_of_settled sys) path report)
+    subst (λ (sys : Settled). Step (settings_of sys c.args.by.now.format.now c.args.by.now.options) b after path step.0 (report_lines (tree_of_settled sys) path report)
     report.outcome) inv.system step.2 in
     record {
       system = c.in_ok-report.ensures.settled ∙ inv.system;
@@ -55,7 +55,7 @@ returns-clause-run g c =
 pub returns-in_err-report-clause-stopped : goal.returns-in_err-report-clause-stopped
 returns-in_err-report-clause-stopped g c =
     let system = c.args.config.now.system in
-    let s = settings_of system c.args.format.now c.args.options in
+    let s = settings_of system c.args.by.now.format.now c.args.by.now.options in
     let a = g.D.ReadDisk.disk c.args.disk.now in
     let b = g.D.ReadDisk.disk c.loop-path.disk in
     let after = g.D.ReadDisk.disk c.tidy_file.new.disk in
@@ -66,7 +66,7 @@ returns-in_err-report-clause-stopped g c =
     let inv = c.loop-path.invariant in
     let stop = c.in_err-report.field-0.0 in
     let stopped : StopsFile s b after path stop =
-    subst (λ (sys : Settled). StopsFile (settings_of sys c.args.format.now c.args.options) b after path stop) inv.system c.in_err-report.ensures.stopped in
+    subst (λ (sys : Settled). StopsFile (settings_of sys c.args.by.now.format.now c.args.by.now.options) b after path stop) inv.system c.in_err-report.ensures.stopped in
     if_err c.from_residual.result stop _ (search rules) (
       inv.ran.0,
       stops_run s a b after (paths_of c.args.paths.now) (paths_of (take i c.args.paths.now)) (paths_of (drop (suc i) c.args.paths.now)) path
