@@ -17,7 +17,7 @@ ghost use Rattle.kc_expr.specs.between.Arena.{Represents};
 use super::group_parts::{GroupParts, checked_parts};
 use super::rows::symbol_rows;
 use super::tree_lines::{TreeLines, TreeWithLines};
-use kc_checks::{Summary, out_of_memory};
+use kc_checks::Summary;
 use kc_conditions::{WalkedListing, walk_all};
 use kc_expr::Arena;
 use kc_parser::{Listing, SymbolTable};
@@ -166,7 +166,7 @@ fn tree_parts(
     let groups = checked_parts(alloc, walked, summary)?;
     match symbol_rows(alloc, &walked.listing, summary.symbols.as_slice()) {
         Ok(symbols) => Ok(TreeParts { groups, symbols }),
-        Err(_) => Err(out_of_memory()),
+        Err(_) => Err(TreeFault::out_of_memory()),
     }
 }
 
@@ -213,10 +213,10 @@ pub(crate) fn lists_of(
     ensures fault { (files : Files) (root : List ℕ) → IsReadIn language listing files root → IfErr result (IsFaultRead files root) }
 {
     let Ok(summary) = Summary::new(alloc, &listing) else {
-        return Err(out_of_memory());
+        return Err(TreeFault::out_of_memory());
     };
     let Ok(walked) = walk_all(alloc, language, listing) else {
-        return Err(out_of_memory());
+        return Err(TreeFault::out_of_memory());
     };
     gathered_of(alloc, walked, summary)
 }

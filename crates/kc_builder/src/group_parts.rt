@@ -16,7 +16,7 @@ use super::choice_rows::push_row;
 use super::definitions::{no_attributes, push_attributes};
 use super::entries::push_entry;
 use super::group_attributes::GroupAttributes;
-use kc_checks::{Checks, Summary, lines_of, out_of_memory};
+use kc_checks::{Checks, Summary, lines_of};
 use kc_conditions::{GroupConditions, WalkedListing, conditions_of};
 use kc_expr::ExprId;
 use kc_parser::Listing;
@@ -108,7 +108,7 @@ impl GroupParts {
         let conditions = walked.conditions.as_slice();
         match self.push_group(listing, groups, conditions, choices, i) {
             Ok(()) => Ok(()),
-            Err(_) => Err(out_of_memory()),
+            Err(_) => Err(TreeFault::out_of_memory()),
         }
     }
 }
@@ -149,7 +149,7 @@ pub(crate) fn checked_parts(
     ensures fault { (read : List ModelGroup) → RepresentsListing walked.now.listing read → IfErr result (λ f. (f ≡ no_memory) ⊎ (Some f ≡ slice_get (tree_faults walked.now.language read) 0)) }
 {
     let Ok(state) = started(alloc, &walked.listing, summary) else {
-        return Err(out_of_memory());
+        return Err(TreeFault::out_of_memory());
     };
     let (mut checks, mut parts) = state;
     for i in 0..walked.listing.groups.len() {

@@ -7,7 +7,6 @@ ghost use Rattle.kc_builder.specs.checker.Assembly.{IsGathered};
 
 use super::builder::{GatheredTree, lists_of, tree_of, tree_with_lines_of};
 use super::tree_lines::TreeWithLines;
-use kc_checks::out_of_memory;
 use kc_parser::read_files;
 use kc_tree::Tree;
 use kc_tree_model::{Texts, TreeFault};
@@ -43,7 +42,7 @@ pub fn read_tree(alloc: Global, texts: &Texts, root: &str) -> Result<Tree, TreeF
     let lists = read_lists(alloc, texts, root)?;
     match tree_of(alloc, lists) {
         Ok(tree) => Ok(tree),
-        Err(_) => Err(out_of_memory()),
+        Err(_) => Err(TreeFault::out_of_memory()),
     }
 }
 
@@ -63,6 +62,6 @@ pub fn read_tree_with_lines(
     let lists = read_lists(alloc, texts, root)?;
     match tree_with_lines_of(alloc, lists) {
         Ok(read) => Ok(read),
-        Err(_) => Err(out_of_memory()),
+        Err(_) => Err(TreeFault::out_of_memory()),
     }
 }

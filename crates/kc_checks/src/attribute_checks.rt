@@ -18,17 +18,6 @@ use kc_statements::Attribute;
 use kc_tree_model::{TreeFault, TreeKind};
 use kc_value::Kind;
 
-/// A fault of some kind at a line of a file, which is given by its number.
-pub(crate) fn fault_at(file: u32, line: u32, kind: TreeKind) -> TreeFault
-    ensures { result ≡ record { file = Some file; line = line; kind = kind } }
-{
-    TreeFault {
-        file: Some(file),
-        line,
-        kind,
-    }
-}
-
 /// The fault of an attribute of a symbol of type `kind`, or `None`; `prompted` is set if a prompt precedes it.
 fn symbol_attribute_fault(
     listing: &Listing,
@@ -81,7 +70,7 @@ pub(crate) fn first_symbol_fault(
             &line.attribute,
         );
         if let Some(kind) = fault {
-            return Some(fault_at(file, line.number, kind));
+            return Some(TreeFault::at_line(file, line.number, kind));
         }
         prompted = prompted || line.attribute.is_prompt();
     }
@@ -133,7 +122,7 @@ pub(crate) fn first_choice_fault(
             prompted,
             &line.attribute,
         ) {
-            return Some(fault_at(file, line.number, kind));
+            return Some(TreeFault::at_line(file, line.number, kind));
         }
         prompted = prompted || line.attribute.is_prompt();
     }

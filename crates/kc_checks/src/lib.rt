@@ -15,6 +15,6 @@ mod summary;
 
 pub use enclosing_choices::begins_choice;
 pub use group_lines::{end_of, lines_of, part};
-pub use missing_files::{out_of_memory, wanted};
+pub use missing_files::{is_out_of_memory, wanted};
 pub use search::Checks;
 pub use summary::{Summary, SymbolSummary};

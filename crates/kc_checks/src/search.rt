@@ -15,7 +15,7 @@ ghost use Rattle.kc_checks.specs.between.FaultSearch.{AreFaultless, AreSmall, Co
 ghost use Rattle.kc_checks.specs.checker.Kinds.{choice_around, is_added_code, is_added_line, may_follow_code};
 ghost use Rattle.kc_checks.specs.between.Summaries.{group_at, is_choice_code, IsRepresented, IsSummed};
 
-use super::attribute_checks::{fault_at, first_choice_fault, first_symbol_fault};
+use super::attribute_checks::{first_choice_fault, first_symbol_fault};
 use super::enclosing_choices::begins_choice;
 use super::fault_kinds::definition_fault;
 use super::group_lines::lines_of;
@@ -130,7 +130,7 @@ fn config_fault(
     let is_first = is_first(about.first, i);
     let fault = definition_fault(&about, is_misfit, is_first, is_modules, may_follow);
     if let Some(kind) = fault {
-        return Some(fault_at(file, listing.groups[i].line, kind));
+        return Some(TreeFault::at_line(file, listing.groups[i].line, kind));
     }
     first_symbol_fault(
         listing,

@@ -15,7 +15,7 @@ use Rattle.kc_tree_model.specs.declared.ids.Unit.{Unit as TreeUnit}
 use Rattle.kc_tree_model.specs.declared.ids.Unit.TheVariants.{Symbol as of_symbol, Choice as of_choice}
 use Rattle.kc_solver.specs.Solutions.{FitsUsers}
 use Rattle.kc_rules_model.specs.declared.values.UserValue.TheVariants.{Tri as TriUser, Text as TextUser, Member as MemberUser, Lines as LinesUser}
-use Rattle.kc_rules_model.specs.Kinds.{is_m}
+use Rattle.kc_value.specs.Tri.{is_m}
 use Rattle.kc_rules_model.specs.Shapes.{user_fits, symbol_user_fits, tri_fits, user_text_fits}
 use Rattle.kc_value.specs.Lines.{has_newline}
 use Rattle.kc_dotconfig_model.specs.FileLaws.{FilesFit}

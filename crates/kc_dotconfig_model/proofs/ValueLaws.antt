@@ -6,7 +6,7 @@ use Rattle.kc_dotconfig_model.proofs.Common.{no_int, no_hex, value_meaning}
 use Rattle.kc_value.specs.declared.value.Kind.TheVariants.{Bool as Boolean}
 use Rattle.kc_value.specs.Number.{int_text, hex_text}
 use Rattle.kc_rules_model.specs.declared.values.UserValue.TheVariants.{Text as TextUser}
-use Rattle.kc_rules_model.specs.Kinds.{is_y}
+use Rattle.kc_value.specs.Tri.{is_y}
 use Rattle.kc_dotconfig_model.specs.ConfigLines.{no_tri, no_text, no_number}
 use Rattle.kc_dotconfig_model.specs.between.LineMeanings.{ended, unquoted_rest, unquoted, before_quote, raw_text, string_text, tri_meaning, string_meaning, without_number, number_meaning, meaning_of_kind}
 

@@ -11,8 +11,8 @@ ghost use Rattle.kc_macro_lines.specs.checker.LineTexts.{token_view, has_equals_
 use super::line_content::{LineContent, front_token, read_tokens};
 use super::line_tokens::LineToken;
 use super::scope::Scope;
-use kc_answers::is_environment_name;
 use kc_macros::{Bindings, ExpansionState, Place, Stop, is_text};
+use kc_macros_model::is_environment_name;
 use std::alloc::{AllocError, Global};
 
 /// Whether a token is white or a comment.

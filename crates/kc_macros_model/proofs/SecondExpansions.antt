@@ -32,12 +32,12 @@ kept_front c s more y t first bytes parts kept h =
     ∙ ap (λ b. b && list_all is_kept_token (line_tokens 0 y)) kept
     ∙ h
 
--- a byte that isn't one of a run
-other_byte : (c k : ℕ) → is_run_byte c ≡ true → is_run_byte k ≡ false → (c == k) ≡ false
-other_byte c k r n = by_test (c == k) refl
+-- a byte of some kind isn't one that isn't of this kind
+pub other_byte : (c k : ℕ) (p : ℕ → Bool) → p c ≡ true → p k ≡ false → (c == k) ≡ false
+other_byte c k p r n = by_test (c == k) refl
   where
     by_test : (b : Bool) → (c == k) ≡ b → b ≡ false
-    by_test true e = let z : true ≡ false = sym r ∙ ap is_run_byte (eqb-true c k e) ∙ n in let y : ⊥ = cc in absurd y
+    by_test true e = let z : true ≡ false = sym r ∙ ap p (eqb-true c k e) ∙ n in let y : ⊥ = cc in absurd y
     by_test false e = refl
 
 none_of_five : (a b c d e : Bool) → a ≡ false → b ≡ false → c ≡ false → d ≡ false → e ≡ false → (a || b || c || d || e) ≡ false
@@ -45,11 +45,12 @@ none_of_five a b c d e ha hb hc hd he = ap (λ x. x || b || c || d || e) ha ∙ 
     ∙ ap (λ x. false || false || false || x || e) hd ∙ he
 
 not_white : (c : ℕ) → is_run_byte c ≡ true → is_white_byte c ≡ false
-not_white c r = none_of_five (c == 9) (c == 11) (c == 12) (c == 13) (c == 32) (other_byte c 9 r refl) (other_byte c 11 r refl) (other_byte c 12 r refl)
-    (other_byte c 13 r refl) (other_byte c 32 r refl)
+not_white c r =
+    none_of_five (c == 9) (c == 11) (c == 12) (c == 13) (c == 32) (other_byte c 9 is_run_byte r refl) (other_byte c 11 is_run_byte r refl)
+    (other_byte c 12 is_run_byte r refl) (other_byte c 13 is_run_byte r refl) (other_byte c 32 is_run_byte r refl)
 
 -- words
-no_dollars : {s : List ℕ} → AreWordBytes s → has_dollar s ≡ false
+pub no_dollars : {s : List ℕ} → AreWordBytes s → has_dollar s ≡ false
 no_dollars no_word_bytes = refl
 no_dollars (next_word_byte {c = c} {s = s} r e h) = ap (λ b. b || has_dollar s) e ∙ no_dollars h
 
@@ -61,19 +62,19 @@ word_extent (next_word_byte {c = c} {s = s} r e h) y n =
     ∙ ap (λ i. suc (extent false ends_run (pred (length (item_bytes i))) (s ++ y))) (byte_first false c (s ++ y) e refl)
     ∙ ap suc (word_extent h y n)
 
-word_first : (c : ℕ) (s y : List ℕ) → AreWordBytes (c ∷ s) → is_run_byte c ≡ true → begins_with_run y ≡ false → first_token c (s ++ y) ≡ run (c ∷ s)
+pub word_first : (c : ℕ) (s y : List ℕ) → AreWordBytes (c ∷ s) → is_run_byte c ≡ true → begins_with_run y ≡ false → first_token c (s ++ y) ≡ run (c ∷ s)
 word_first c s y h r n =
     let z = s ++ y in
     let as_run = run_token (take (extent false ends_run 0 (c ∷ z)) (c ∷ z)) in
     let as_quoted = cond (c == 34 || (c == 39)) (quoted_token (extent true (λ d. d == c) 0 z) c z) (other (c ∷ [])) in
     ap (λ b. cond b (gap (c ∷ [])) (cond (c == 35) (gap (c ∷ z)) (cond (is_run_byte c) as_run as_quoted))) (not_white c r)
-    ∙ ap (λ b. cond b (gap (c ∷ z)) (cond (is_run_byte c) as_run as_quoted)) (other_byte c 35 r refl)
+    ∙ ap (λ b. cond b (gap (c ∷ z)) (cond (is_run_byte c) as_run as_quoted)) (other_byte c 35 is_run_byte r refl)
     ∙ ap (λ b. cond b as_run as_quoted) r
     ∙ ap (λ k. run_token (take k (c ∷ z))) (word_extent h y n)
     ∙ ap (λ s. run_token s) (take-append_seam (c ∷ s) y)
     ∙ ap (λ b. cond b (broken (c ∷ s)) (run (c ∷ s))) (no_unterminated (plain_items false (c ∷ s) (no_dollars h)))
 
-first_word : {c : ℕ} {s : List ℕ} → AreWordBytes (c ∷ s) → is_run_byte c ≡ true
+pub first_word : {c : ℕ} {s : List ℕ} → AreWordBytes (c ∷ s) → is_run_byte c ≡ true
 first_word (next_word_byte r e h) = r
 
 word_kept : (c : ℕ) (s y : List ℕ) → AreWordBytes (c ∷ s) → begins_with_run y ≡ false → IsKept y → IsKept ((c ∷ s) ++ y)
@@ -84,14 +85,10 @@ bare_words [] e = no_word_bytes
 bare_words (c ∷ s) e =
     let word : is_word_byte c ≡ true = first_so (is_word_byte c) (not (c == 46 || (c == 47))) (first_so (is_bare_byte c) (list_all is_bare_byte s) e) in
     let in_run : is_run_byte c ≡ true = ap (λ b. b || (c == 36)) word in
-    next_word_byte in_run (not_dollar c word (c == 36) refl) (bare_words s (second_so (is_bare_byte c) (list_all is_bare_byte s) e))
-  where
-    not_dollar : (c : ℕ) → is_word_byte c ≡ true → (b : Bool) → (c == 36) ≡ b → b ≡ false
-    not_dollar c w true e = let z : true ≡ false = sym w ∙ ap is_word_byte (eqb-true c 36 e) in let y : ⊥ = cc in absurd y
-    not_dollar c w false e = refl
+    next_word_byte in_run (other_byte c 36 is_word_byte word refl) (bare_words s (second_so (is_bare_byte c) (list_all is_bare_byte s) e))
 
 -- quoted texts
-quoted_first : (q : ℕ) (s y : List ℕ) → (q == q) ≡ true → (92 == q) ≡ false → IsQuotedBody q s → quoted_token (extent true (λ d. d == q) 0 (s ++ q ∷ y)) q
+pub quoted_first : (q : ℕ) (s y : List ℕ) → (q == q) ≡ true → (92 == q) ≡ false → IsQuotedBody q s → quoted_token (extent true (λ d. d == q) 0 (s ++ q ∷ y)) q
     (s ++ q ∷ y) ≡ quoted q s
 quoted_first q s y same other_quote h =
     let z = s ++ q ∷ y in

@@ -2,12 +2,14 @@
 #![tactic(auto)]
 
 mod built_in;
+mod environment_names;
 mod fault;
 mod laws;
 mod operator;
 mod token_sort;
 
 pub use built_in::BuiltIn;
+pub use environment_names::is_environment_name;
 pub use fault::{AnswersFault, AnswersKind, MacroKind, MacroNoticeKind};
 pub use laws::{
     answers_not_asked_change_nothing, expansion_follows_rules, expansion_never_stops,

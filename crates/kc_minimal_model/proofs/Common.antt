@@ -15,7 +15,8 @@ pub use Rattle.kc_dotconfig_model.proofs.FittingFiles.{file_fits, none_held, non
 pub use Rattle.kc_dotconfig_model.proofs.LineLaws.{file_read}
 pub use Rattle.kc_dotconfig_model.proofs.Overlays.{file_length, over_none}
 pub use Rattle.kc_dotconfig_model.proofs.Tables.{same_from}
-pub use Rattle.kc_dotconfig_model.proofs.TrimmedLines.{low_utf8, name_utf8}
+pub use Rattle.kc_dotconfig_model.proofs.TrimmedLines.{name_utf8}
+pub use Rattle.kc_rules_model.proofs.FittingValues.{low_utf8}
 pub use Rattle.kc_dotconfig_model.specs.ConfigFiles.{FileMeans, assigned_over, empty_assignment, file_assignment, file_lines, has_utf8_lines, over}
 pub use Rattle.kc_dotconfig_model.specs.ConfigLines.{LineMeaning, Means, ValueMeans, assigns, assigns_escaped, silent, unchosen, unset_meaning}
 pub use Rattle.kc_dotconfig_model.specs.Formats.{FileFormat, IsStringSpelling, string_spelling}
@@ -23,7 +24,8 @@ pub use Rattle.kc_dotconfig_model.specs.LoadFaults.{IsAccepted}
 pub use Rattle.kc_dotconfig_model.specs.PrefixGrammar.{is_name_prefix}
 pub use Rattle.kc_dotconfig_model.specs.declared.format.Strings.{Strings}
 pub use Rattle.kc_dotconfig_model.specs.declared.format.Strings.TheVariants.{Escaped, Raw}
-pub use Rattle.kc_expr.specs.Expr.{SymbolValue, letter}
+pub use Rattle.kc_expr.specs.Expr.{SymbolValue}
+pub use Rattle.kc_value.specs.Tri.{letter, is_n}
 pub use Rattle.kc_minimal_model.specs.CanonicalText.{HasUnitsOfLines, HasValuesOfLines, with_lines}
 pub use Rattle.kc_minimal_model.specs.Differences.{Difference, difference_at, differences}
 pub use Rattle.kc_minimal_model.specs.FileValues.{DifferAtASymbol, HaveSameValues, ReadsTo, has_short_lines}
@@ -38,7 +40,6 @@ pub use Rattle.kc_rules_model.proofs.OrderedTrees.{IsOrderedTree, ordered_tree}
 pub use Rattle.kc_rules_model.proofs.RowTrees.{m, n, tree_a, tree_lifted, tree_pick, y}
 pub use Rattle.kc_rules_model.proofs.SolutionsFit.{solutions_fit}
 pub use Rattle.kc_rules_model.specs.Equality.{same_tri, same_value}
-pub use Rattle.kc_rules_model.specs.Kinds.{is_n}
 pub use Rattle.kc_rules_model.specs.Reports.{is_written, is_written_symbol, symbol_numbers}
 pub use Rattle.kc_rules_model.specs.Rule.{as_user, choice_rule, default_member, is_shown, is_visible, is_visible_member, member_user, rule_of_choice, rule_of_unit}
 pub use Rattle.kc_rules_model.specs.RuleLaws.{moves_user_values}
@@ -57,13 +58,13 @@ pub use Rattle.kc_solver.specs.Dependencies.{HasNoCycle}
 pub use Rattle.kc_solver.specs.LeastAssignments.{IsCutTo, IsKept}
 pub use Rattle.kc_solver.specs.Solutions.{FitsUsers, FitsValues, Solves, user_of}
 pub use Rattle.kc_tokens.specs.Languages.{is_linux_6_12}
-pub use Rattle.kc_tokens.specs.Token.{is_white_byte}
+pub use Rattle.kc_tokens.specs.Token.{is_white_byte, is_name_byte}
 pub use Rattle.kc_tokens.specs.declared.language.Language.{Language}
 pub use Rattle.kc_tree_model.proofs.Lookups.{inside, place_is, unit_is}
 pub use Rattle.kc_tree_model.proofs.ReadingLaws.TreesOfRelation.{tree_related}
 pub use Rattle.kc_tree_model.specs.LogicalLines.{without_white_end}
 pub use Rattle.kc_tree_model.specs.TreeFiles.{Files}
-pub use Rattle.kc_tree_model.specs.TreeLookup.{IsConsistent, index_of_unit, is_name_byte, title_of_entry, unit_of}
+pub use Rattle.kc_tree_model.specs.TreeLookup.{IsConsistent, index_of_unit, title_of_entry, unit_of}
 pub use Rattle.kc_tree_model.specs.Trees.{Choice, Entry, MemberDefault, Symbol, Tree, choice_begins, comment, definition, menu_begins, menu_ends}
 pub use Rattle.kc_tree_model.specs.TreesOfFiles.{IsTreeOfFiles}
 pub use Rattle.kc_value.proofs.QuotedUtf8.{quoted_utf8}

@@ -7,7 +7,7 @@ ghost use Rattle.kc_parser.specs.checker.OpenBlockViews.{is_file_of};
 ghost use Rattle.kc_parser.specs.checker.Steps.{AppendsSource, IsAfter, ReturnsEndRead, ReturnsSourceFile, ReturnsFile};
 
 use super::append::{push_end, push_group, push_source, push_text};
-use super::fault::{fault_at, fault_or_out_of_memory, out_of_memory};
+use super::fault::fault_or_out_of_memory;
 use super::listing::GroupHead;
 use super::open_blocks::{innermost, is_path_open, open_file_count};
 use super::state::{Position, ReaderState, SourceFile, SourceFiles};
@@ -88,16 +88,16 @@ pub(crate) fn open_source<'a>(
 {
     let found = sourced(read, from, path.as_str());
     let Ok(place) = push_text(read, path) else {
-        return Err(out_of_memory());
+        return Err(TreeFault::out_of_memory());
     };
     match found {
         Ok(opened) => match push_source(read, at, place, opened.bytes.len()) {
             Ok(()) => Ok(opened),
-            Err(_) => Err(out_of_memory()),
+            Err(_) => Err(TreeFault::out_of_memory()),
         },
         Err(kind) => match push_group(&mut read.listing, at, GroupHead::Source(place)) {
             Ok(()) => Err(fault_or_out_of_memory(at.file, at.line, kind)),
-            Err(_) => Err(out_of_memory()),
+            Err(_) => Err(TreeFault::out_of_memory()),
         },
     }
 }
@@ -112,7 +112,7 @@ pub(crate) fn close_source(
 {
     match push_end(read, at, GroupHead::FileEnd) {
         Ok(()) => Ok(()),
-        Err(_) => Err(out_of_memory()),
+        Err(_) => Err(TreeFault::out_of_memory()),
     }
 }
 
@@ -125,7 +125,7 @@ pub(crate) fn end_of_file(
     ensures { (before : List Group) → Describes (file_source_of from.entry) read.now before → ReturnsEndRead file before result }
 {
     match innermost(&read.stack) {
-        Some((_, line)) => Err(fault_at(file, line, TreeKind::Unclosed)),
+        Some((_, line)) => Err(TreeFault::at_line(file, line, TreeKind::Unclosed)),
         None => Ok(()),
     }
 }

@@ -20,7 +20,7 @@ no_file (of_head (comment title)) b e = refl
 no_file (of_head (source path)) b e = cc
 no_file x b e = refl
 
-no_files : (gs hs : List Group) → AllBlocks gs → filter_map sourced_path (gs ++ hs) ≡ filter_map sourced_path hs
+pub no_files : (gs hs : List Group) → AllBlocks gs → filter_map sourced_path (gs ++ hs) ≡ filter_map sourced_path hs
 no_files [] hs own = refl
 no_files (g ∷ gs) hs own = ap (λ o. cons_option o (filter_map sourced_path (gs ++ hs))) (no_file g.head own.0.0 own.0.1) ∙ no_files gs hs own.1
 
@@ -35,7 +35,7 @@ pub one_more_file : (r : FileSource) (read : List Group) (at : Position) (path :
 unfolding source_group
 one_more_file r read at path = refl
 
-past_kind : (b : Bool) (k : TreeKind) (o : Option TreeKind) → cond b (Some k) o ≡ None → (b ≡ false) × (o ≡ None)
+pub past_kind : (b : Bool) (k : TreeKind) (o : Option TreeKind) → cond b (Some k) o ≡ None → (b ≡ false) × (o ≡ None)
 past_kind true k o h = cc
 past_kind false k o h = (refl, h)
 

@@ -10,7 +10,7 @@ returns-in-Some c = record {
       let l = c.index-lines-i.result in
       let reported = left_reported e g (choice_faults members) c.loop-i.prompted c.args.lines.now c.loop-i.i l c.in-Some.kind (omega arith) c.index-lines-i.is
       (c.in-Some.ensures.fault read members h m) in
-      ap Some (c.fault_at.ensures ∙ ap (λ n. let t : TreeFault = record { file = Some n; line = l.number; kind = c.in-Some.kind } in t) (sym f))
+      ap Some (c.at_line.ensures ∙ ap (λ n. let t : TreeFault = record { file = Some n; line = l.number; kind = c.in-Some.kind } in t) (sym f))
       ∙ sym (c.loop-i.invariant read g members h m f ∙ reported);
 }
 

@@ -11,7 +11,7 @@ returns-in-Some c = record {
       let faults = attribute_faults (contents_of read) name c.args.kind in
       let reported = left_reported e g faults c.loop-i.prompted c.args.lines.now c.loop-i.i l c.in-Some.kind (omega arith) c.index-lines-i.is
       (c.in-Some.ensures.fault read name h m) in
-      ap Some (c.fault_at.ensures ∙ ap (λ n. let t : TreeFault = record { file = Some n; line = l.number; kind = c.in-Some.kind } in t) (sym f))
+      ap Some (c.at_line.ensures ∙ ap (λ n. let t : TreeFault = record { file = Some n; line = l.number; kind = c.in-Some.kind } in t) (sym f))
       ∙ sym (c.loop-i.invariant read g name h m f ∙ reported);
 }
 

@@ -77,7 +77,7 @@ returns-in-Some c = record {
       (c.is_modules-is_modules.ensures.value read name h w.1) follow in
       let file = ap (λ g. g.file) (get_or_read l.groups.items _ _ c.requires.here c.index-3.ensures no_group) ∙ sym a.file in
       let line = ap (λ g. g.line) (get_or_read l.groups.items _ _ c.requires.here c.index-in-Some.ensures no_group) ∙ sym a.line in
-      ap Some (c.fault_at.ensures
+      ap Some (c.at_line.ensures
       ∙ ap (λ f. let t : TreeFault = record { file = Some f; line = c.index-in-Some.result.now.line; kind = c.in-Some.kind } in t) file
       ∙ ap (λ n. fault_of p.group n c.in-Some.kind) line)
       ∙ sym (config_first c.args.language (contents_of read) p name w.2
