@@ -1,7 +1,7 @@
 -- Trees that the reader accepts are given back by the expansion: both read the same files in the same order.
 use Rattle.kc_expansion.proofs.Common.{◌≡◌, ℕ, zero, suc, ◌+◌, Bool, true, false, ◌&&◌, ◌||◌, cond, List, [], ◌∷◌, ◌++◌, length, take, drop, map, reverse, Option, Some, None, Result, Ok, Err, refl, sym, ap, ◌∙◌, subst, arith, nat_lt, nat_le, bytes_eq, codes, filter_map, is_some, is_none, sum_by}
 use Rattle.kc_expansion.proofs.Common.{list_any, cons_option, is_utf8, nat_list_eq_equiv, MAX_FILES, MAX_TREE_BYTES, MAX_OPEN_FILES, MAX_TEXT_BYTES, MAX_WORK, MAX_LINE_BYTES, TreeKind, SourceLoop, TooDeep, TooMany, TreeFault, Block, file_at, index_of_file, PhysicalLine, LogicalLine}
-use Rattle.kc_expansion.proofs.Common.{split_at_newlines, without_return, is_continued, joined_bytes, continuation_count, begins_help, source, Statement, head, attribute, path_of_head, Group, Position, file_end, innermost, sourced_path, is_in_list, without_repeats, FileSource, size_in, open_files}
+use Rattle.kc_expansion.proofs.Common.{split_at_newlines, without_return, is_continued, joined_bytes, continuation_count, begins_help, source, Statement, head, attribute, Group, Position, file_end, innermost, sourced_path, is_in_list, without_repeats, FileSource, size_in, open_files}
 use Rattle.kc_expansion.proofs.Common.{files_read, with_group, with_statement, path_to_read, at_file_end, continue_after_file, continue_after_source, continue_after_statement, continue_after_line, read_lines, read_root, environment_asked, meant_line, MacroKind, Place, read_file, Program, returns}
 use Rattle.kc_expansion.proofs.Common.{fails, stops, does, ◌>>=◌, line_tokens, WrittenToken, written_as, line_content, sources, line_bytes, is_help_line, tokens_as_they_are, ExpandedFile, ReadingState, initial_state, Progress, progress, WrittenLine, written_line, counted, has_key, key_of}
 use Rattle.kc_expansion.proofs.Common.{stored_file, place, one_file, SourceReader, source_line, pattern_read, path_read, source_followed, short_line, content_written, line_written, bytes_of_lines, lines_written, help_after, lines_read, contents_read, sourced_read, source_read, root_read, World}
@@ -17,8 +17,7 @@ use Rattle.std.proofs.lemmas.List.Sums.{sum_by-cons}
 use Rattle.kc_tree_model.specs.declared.fault.TreeKind.TheVariants.{MissingFile}
 use Rattle.kc_tree_model.specs.TreeFiles.{Files}
 use Rattle.kc_tree_model.specs.LogicalLines.{help_line_count, logical_lines_from, lines_of}
-use Rattle.kc_tree_model.specs.Statements.{block_of_head}
-use Rattle.kc_tree_model.specs.Blocks.{GroupHead, of_head, from_head, open_blocks}
+use Rattle.kc_tree_model.specs.Blocks.{of_head, open_blocks}
 use Rattle.kc_tree_model.specs.Limits.{source_fault as reader_fault}
 use Rattle.kc_tree_model.specs.TreeReading.{Outcome as Reading, statement_on_line, read_file as read_whole_file, reading}
 use Rattle.kc_tree_model.specs.TreeFaults.{first_tree_fault}
@@ -26,7 +25,8 @@ use Rattle.kc_tree_model.specs.MoreFiles.{AreAmong}
 use Rattle.kc_tree_model.proofs.NestedTrees.OpenTrees.{EndsMatch, ends_first}
 use Rattle.kc_tree_model.proofs.NestedTrees.LineFits.{Fits, line_fits}
 use Rattle.kc_tree_model.proofs.NestedTrees.OpenBlocks.{popped}
-use Rattle.kc_tree_model.proofs.NestedTrees.ReadingNests.{AllBlocks, Since, Closes, Reads, after_given, file_closes}
+use Rattle.kc_tree_model.proofs.NestedTrees.FileCoverage.{no_files, past_kind}
+use Rattle.kc_tree_model.proofs.NestedTrees.ReadingNests.{Since, Closes, Reads, after_given, file_closes}
 use Rattle.kc_macros_model.proofs.EnvironmentLines.{meant_same}
 use Rattle.kc_macros_model.specs.declared.fault.MacroKind.TheVariants as kinds
 use Rattle.kc_macros_model.specs.Expansion.{fault}
@@ -106,22 +106,9 @@ swap false p o = refl
 more_of : (a p o r f : Bool) → (a || o) ≡ (r || f) → (a || (p || o)) ≡ (r || (p || f))
 more_of a p o r f e = swap a p o ∙ ap (λ b. p || b) e ∙ swap p r f
 
-past_kind : (b : Bool) (k : TreeKind) (o : Option TreeKind) → cond b (Some k) o ≡ None → (b ≡ false) × (o ≡ None)
-past_kind true k o h = let z : ⊥ = cc in absurd z
-past_kind false k o h = (refl, h)
-
 not_false : (b : Bool) → not b ≡ false → b ≡ true
 not_false true h = refl
 not_false false h = let z : ⊥ = cc in absurd z
-
--- blocks of a file are no files
-no_file : (g : GroupHead) (b : Block) → from_head block_of_head g ≡ Some b → from_head path_of_head g ≡ None
-no_file (of_head (source path)) b e = let z : ⊥ = cc in absurd z
-no_file g b e = refl
-
-no_files : (gs hs : List Group) → AllBlocks gs → filter_map sourced_path (gs ++ hs) ≡ filter_map sourced_path hs
-no_files [] hs own = refl
-no_files (g ∷ gs) hs own = ap (λ o. cons_option o (filter_map sourced_path (gs ++ hs))) (no_file g.head own.0.0 own.0.1) ∙ no_files gs hs own.1
 
 -- the files that are open stay so while a file is read
 same_open : (r : FileSource) (start read : List Group) → Since start read → open_files r read ≡ open_files r start

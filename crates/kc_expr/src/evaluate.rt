@@ -1,6 +1,6 @@
 //! Values of expressions.
 ghost use Rattle.std.specs.Prelude.{◌≡◌, ◌<◌, length, pos};
-ghost use Rattle.kc_value.specs.Tri.{rank, letter, y_for_m};
+ghost use Rattle.kc_value.specs.Tri.{rank};
 ghost use Rattle.kc_value.specs.declared.tri.Tri.TheVariants.{N, Y};
 ghost use Rattle.std.specs.Prelude.{◌&&◌, if◌then◌else◌};
 ghost use Rattle.std.specs.Cmp.Lexicographic.{slice_cmp};

@@ -11,7 +11,7 @@ use kc_dotconfig_model::{Format, Prefix, Strings};
 use kc_expr::Looked;
 use kc_rules::{Settled, UnitValue};
 use kc_tree::{Sym, is_tri_kind};
-use kc_value::{Kind, Tri, push_escaped};
+use kc_value::{Kind, push_escaped};
 use std::alloc::AllocError;
 
 /// Appends a prefix and a name.
