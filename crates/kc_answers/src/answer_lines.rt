@@ -7,8 +7,7 @@ ghost use Rattle.kc_tree_model.specs.LogicalLines.{without_white_end};
 ghost use Rattle.kc_macros_model.specs.AnswerFiles.{line_after_command, name_not_set, name_with_text, line_alone, meaning_of_line};
 ghost use Rattle.kc_answers.specs.checker.LineView.{line_view};
 
-use kc_tokens::is_white;
-use kc_tree_model::are_name_bytes;
+use kc_tokens::{are_name_bytes, is_white};
 
 /// The meaning of a line of a file of answers, white at its end aside.
 #[derive(Clone, Copy, Debug, PartialEq, Eq)]

@@ -49,14 +49,14 @@ pub use Rattle.kc_tree.specs.TreeModel.{TreeModel}
 pub use Rattle.kc_tree.specs.between.GatheredAttributes.{AreKeys}
 pub use Rattle.kc_tree.specs.between.GatheredView.{gathered_tree}
 pub use Rattle.kc_tree.specs.between.GroupedItems.{items_of}
-pub use Rattle.kc_tree.specs.between.PartsView.{entry_from_row}
-pub use Rattle.kc_tree.specs.between.StoredParts.{EntryRowFits}
+pub use Rattle.kc_tree.specs.between.StoredView.{entry_from_row}
+pub use Rattle.kc_tree.specs.between.StoredFits.{EntryRowFits}
 pub use Rattle.kc_tree.specs.between.Views.{DefaultFits, ReverseDependencyFits, member_default_view}
 pub use Rattle.kc_tree.specs.declared.items_with_keys.ItemsWithKeys.{ItemsWithKeys}
-pub use Rattle.kc_tree.specs.declared.parts.ChoiceRow.{ChoiceRow}
-pub use Rattle.kc_tree.specs.declared.parts.SymbolRow.{SymbolRow}
+pub use Rattle.kc_tree.specs.declared.rows.ChoiceRow.{ChoiceRow}
+pub use Rattle.kc_tree.specs.declared.rows.SymbolRow.{SymbolRow}
 pub use Rattle.kc_tree.specs.declared.symbol.ReverseDependency.{ReverseDependency}
-pub use Rattle.kc_tree.specs.declared.tree_lists.Attributes.{Attributes}
+pub use Rattle.kc_tree.specs.declared.attributes.Attributes.{Attributes}
 pub use Rattle.kc_tree_model.proofs.Consistency.Definitions.{IsSound}
 pub use Rattle.kc_tree_model.proofs.Consistency.Lists.{Differ, Differ-once, Has, get_below, number-get, place-get}
 pub use Rattle.kc_tree_model.specs.Blocks.{Group, GroupHead, Line, closing, defined_name, from_head, is_some_block, of_head, open_blocks, side_of}

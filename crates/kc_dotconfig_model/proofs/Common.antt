@@ -42,13 +42,13 @@ pub use Rattle.kc_rules_model.specs.declared.values.UnitValue.{UnitValue}
 pub use Rattle.kc_rules_model.specs.declared.values.UserValue.{UserValue}
 pub use Rattle.kc_solver.specs.Solutions.{user_of}
 pub use Rattle.kc_tokens.specs.Languages.{is_linux_6_12}
-pub use Rattle.kc_tokens.specs.Token.{is_white_byte}
+pub use Rattle.kc_tokens.specs.Token.{is_white_byte, is_name_byte}
 pub use Rattle.kc_tokens.specs.declared.language.Language.{Language}
 pub use Rattle.kc_tokens.specs.declared.language.Language.TheVariants.{Linux}
 pub use Rattle.kc_tokens.specs.declared.language.LinuxVersion.TheVariants.{V6_12}
 pub use Rattle.kc_tree_model.proofs.Lookups.{index_if_found, unit_is}
 pub use Rattle.kc_tree_model.specs.LogicalLines.{without_white_end}
-pub use Rattle.kc_tree_model.specs.TreeLookup.{IsConsistent, is_name_byte, symbol_named, unit_of}
+pub use Rattle.kc_tree_model.specs.TreeLookup.{IsConsistent, symbol_named, unit_of}
 pub use Rattle.kc_tree_model.specs.Trees.{Choice, Symbol, Tree}
 pub use Rattle.kc_value.specs.Kinds.{is_tri_kind}
 pub use Rattle.kc_value.specs.Lines.{HasWholeLines, has_no_byte, newline_count}

@@ -2,7 +2,7 @@
 use Rattle.std.specs.Prelude.{ℕ, Bool, ◌&&◌, nat_lt, nat_le, List, length}
 use Rattle.std.specs.List.{list_all}
 use Rattle.kc_value.specs.declared.limits.TheConstants.{MAX_PREFIX_BYTES}
-use Rattle.kc_tree_model.specs.TreeLookup.{is_name_byte}
+use Rattle.kc_tokens.specs.Token.{is_name_byte}
 
 -- whether a text can come before the names in configuration files: at most `MAX_PREFIX_BYTES` letters, digits and `_`; the empty
 -- text where names are there as in the tree

@@ -3,7 +3,7 @@ ghost use Rattle.std.specs.Prelude.{◌≡◌, ◌↔◌, ◌≤◌, [], codes, 
 ghost use Rattle.kc_value.specs.declared.limits.TheConstants.{MAX_PREFIX_BYTES};
 ghost use Rattle.kc_dotconfig_model.specs.PrefixGrammar.{is_prefix, is_name_prefix};
 
-use kc_tree_model::are_name_bytes;
+use kc_tokens::are_name_bytes;
 use kc_value::MAX_PREFIX_BYTES;
 
 /// What comes before the names in configuration files: a prefix, of 1 to `MAX_PREFIX_BYTES` letters, digits and `_`, or nothing,

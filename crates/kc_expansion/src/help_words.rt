@@ -1,30 +1,16 @@
 //! Lines that begin help texts.
 ghost use Rattle.std.specs.Prelude.{◌≡◌, ◌||◌, bytes_eq, codes, length, take_while};
-ghost use Rattle.kc_tokens.specs.Token.{is_white_byte, is_word_byte};
+ghost use Rattle.kc_tokens.specs.Token.{is_white_byte};
 ghost use Rattle.kc_tree_model.specs.LogicalLines.{begins_help};
 ghost use Rattle.kc_expansion.specs.checker.HelpWords.{is_end};
 
-use kc_tokens::is_white;
-
-/// A letter, a digit, `_`, `-`, `.` or `/`.
-fn is_word(byte: u8) -> bool
-    ensures { result ≡ is_word_byte byte }
-{
-    byte.is_ascii_alphanumeric() || matches!(byte, b'_' | b'-' | b'.' | b'/')
-}
+use kc_tokens::{is_white, word_len};
 
 /// How many white bytes a text begins with.
 fn white_length(text: &[u8]) -> usize
     ensures { result ≡ length (take_while is_white_byte text.now) }
 {
     text.iter().take_while(|byte| is_white(**byte)).count()
-}
-
-/// How many bytes of a word a text begins with.
-fn word_length(text: &[u8]) -> usize
-    ensures { result ≡ length (take_while is_word_byte text.now) }
-{
-    text.iter().take_while(|byte| is_word(**byte)).count()
 }
 
 /// Whether a word begins a help text.
@@ -49,6 +35,6 @@ pub(crate) fn begins_help(text: &[u8]) -> bool
     ensures { result ≡ begins_help text.now }
 {
     let line = &text[white_length(text)..];
-    let word = word_length(line);
+    let word = word_len(line);
     is_help_word(&line[..word]) && is_end(&line[word..])
 }

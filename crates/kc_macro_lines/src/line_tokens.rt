@@ -8,7 +8,7 @@ ghost use Rattle.kc_macro_lines.specs.checker.LineTexts.{first_item_of, first_to
 
 use super::token_values::has_dollar;
 use kc_macros::{begins_reference_at, inside_length};
-use kc_tokens::is_white;
+use kc_tokens::{is_white, is_word};
 
 /// A token of a logical line: white or a comment; a run of word bytes, references and `$`; the bytes between two quotes;
 /// other bytes; the rest of a line that has a `$(` without its `)`.
@@ -21,22 +21,11 @@ pub(crate) enum LineToken<'a> {
     Broken(&'a [u8]),
 }
 
-/// The bytes of runs, each at its own place; a `!` at the place of any other byte.
-static RUN_BYTES: [u8; 256] = *b"\
-    !!!!!!!!!!!!!!!!!!!!!!!!!!!!!!!!\
-    !!!!$!!!!!!!!-./0123456789!!!!!!\
-    !ABCDEFGHIJKLMNOPQRSTUVWXYZ!!!!_\
-    !abcdefghijklmnopqrstuvwxyz!!!!!\
-    !!!!!!!!!!!!!!!!!!!!!!!!!!!!!!!!\
-    !!!!!!!!!!!!!!!!!!!!!!!!!!!!!!!!\
-    !!!!!!!!!!!!!!!!!!!!!!!!!!!!!!!!\
-    !!!!!!!!!!!!!!!!!!!!!!!!!!!!!!!!";
-
 /// Whether a byte may be part of a run: a letter, a digit, `_`, `-`, `.`, `/` or `$`.
 pub(crate) fn is_run_byte(byte: u8) -> bool
     ensures { result ≡ is_run_byte byte }
 {
-    RUN_BYTES[byte as usize] != b'!'
+    is_word(byte) || byte == b'$'
 }
 
 /// Whether a text begins with a `$(` without its `)`.

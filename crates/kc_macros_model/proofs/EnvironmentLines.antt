@@ -1,7 +1,7 @@
 -- Lines `option env="X"`: the name that one asks is that of a variable, and any other line is read as it is.
 use Rattle.kc_macros_model.proofs.Common.{◌≡◌, ℕ, Bool, true, false, cond, List, [], ◌∷◌, ◌++◌, Option, Some, None, refl, subst, not, ◌==◌, codes, is_none, list_all, first_so, second_so, eqb-true, is_environment_name, LineToken, quoted, line_tokens, environment_asked, meant_line}
 use Rattle.std.specs.Char.{is_digit}
-use Rattle.kc_tree_model.specs.TreeLookup.{is_name_byte}
+use Rattle.kc_tokens.specs.Token.{is_name_byte}
 use Rattle.kc_macros_model.specs.EnvironmentLines.{solid_tokens, is_run, is_equals_sign, quoted_name, asked_after_sign, asked_after_env, asked_after_option, asked_by, environment_line}
 use Rattle.kc_macros_model.proofs.CleanTexts.{IsClean, clean, clean_none, clean_cons, clean_append}
 

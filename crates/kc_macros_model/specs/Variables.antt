@@ -3,7 +3,7 @@ use Rattle.std.specs.Prelude.{ℕ, ◌-◌, Bool, false, not, ◌&&◌, nat_lt, 
 use Rattle.std.specs.List.{list_all}
 use Rattle.std.specs.Char.{is_digit}
 use Rattle.std.specs.Str.Parse.{digits_value}
-use Rattle.kc_tree_model.specs.TreeLookup.{is_name_byte}
+use Rattle.kc_tokens.specs.Token.{is_name_byte}
 use Rattle.kc_macros_model.specs.declared.built_in.BuiltIn.{BuiltIn}
 use Rattle.kc_macros_model.specs.declared.built_in.BuiltIn.TheVariants.{Filename, Lineno, Shell, Info, WarningIf, ErrorIf}
 use Rattle.kc_macros_model.specs.Programs.{Answer}

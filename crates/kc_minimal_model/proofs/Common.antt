@@ -57,13 +57,13 @@ pub use Rattle.kc_solver.specs.Dependencies.{HasNoCycle}
 pub use Rattle.kc_solver.specs.LeastAssignments.{IsCutTo, IsKept}
 pub use Rattle.kc_solver.specs.Solutions.{FitsUsers, FitsValues, Solves, user_of}
 pub use Rattle.kc_tokens.specs.Languages.{is_linux_6_12}
-pub use Rattle.kc_tokens.specs.Token.{is_white_byte}
+pub use Rattle.kc_tokens.specs.Token.{is_white_byte, is_name_byte}
 pub use Rattle.kc_tokens.specs.declared.language.Language.{Language}
 pub use Rattle.kc_tree_model.proofs.Lookups.{inside, place_is, unit_is}
 pub use Rattle.kc_tree_model.proofs.ReadingLaws.TreesOfRelation.{tree_related}
 pub use Rattle.kc_tree_model.specs.LogicalLines.{without_white_end}
 pub use Rattle.kc_tree_model.specs.TreeFiles.{Files}
-pub use Rattle.kc_tree_model.specs.TreeLookup.{IsConsistent, index_of_unit, is_name_byte, title_of_entry, unit_of}
+pub use Rattle.kc_tree_model.specs.TreeLookup.{IsConsistent, index_of_unit, title_of_entry, unit_of}
 pub use Rattle.kc_tree_model.specs.Trees.{Choice, Entry, MemberDefault, Symbol, Tree, choice_begins, comment, definition, menu_begins, menu_ends}
 pub use Rattle.kc_tree_model.specs.TreesOfFiles.{IsTreeOfFiles}
 pub use Rattle.kc_value.proofs.QuotedUtf8.{quoted_utf8}

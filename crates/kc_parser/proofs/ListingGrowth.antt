@@ -1,6 +1,7 @@
 -- A listing represents the same groups as the arena and the lists grow.
 use Rattle.kc_parser.proofs.Common.{◌≡◌, ℕ, suc, zero, ◌-◌, ◌<◌, ◌≤◌, List, [], ◌∷◌, ◌++◌, length, get_or, drop, take, map, Option, Some, None, refl, ap, sym, ◌∙◌, arith, length-append, length-drop, slice_get, slice_range, All, take-append-drop, get_or_append_left, drop-append-le, Exprs, Grows}
 use Rattle.kc_parser.proofs.Common.{node_expr, Group, GroupHead, attribute_in, RepresentsHead, line_in, LineNodesExist, RepresentsGroup, RepresentsGroups}
+use Rattle.kc_statements.proofs.GrownArenas.{node_held, node_same, attribute_held, attribute_same}
 use Rattle.std.proofs.lemmas.List.{take-append-le}
 use Rattle.std.proofs.lemmas.List.Elements.{All-take, All-drop}
 use Rattle.kc_expr.specs.Expr.{alone, constant}
@@ -27,79 +28,18 @@ get_last [] x = refl
 get_last (y ∷ xs) x = get_last xs x
 
 module _ (old new : Exprs) (grows : Grows old new) where
-  nodes_are : old.nodes ++ drop (length old.nodes) new.nodes ≡ new.nodes
-  nodes_are = ap (λ xs. xs ++ drop (length old.nodes) new.nodes) (sym grows.nodes) ∙ take-append-drop (length old.nodes) new.nodes
-
-  node_held : (id : ℕ) → id < length old.nodes → id < length new.nodes
-  node_held id h = let e = ap length nodes_are in omega (arith, e, length-append old.nodes (drop (length old.nodes) new.nodes))
-
-  pub node_kept : (id : ℕ) → id < length old.nodes → node_expr new id ≡ node_expr old id
-  node_kept id h =
-      ap (λ nodes. get_or nodes id (alone (constant N))) (sym nodes_are)
-      ∙ get_or_append_left old.nodes (drop (length old.nodes) new.nodes) (alone (constant N)) id h
-
-  if_held : (c : Option ℕ) → IfNodeExists old c → IfNodeExists new c
-  if_held None h = tt
-  if_held (Some id) h = node_held id h
-
-  if_kept : (c : Option ℕ) → IfNodeExists old c → if_in new c ≡ if_in old c
-  if_kept None h = refl
-  if_kept (Some id) h = ap Some (node_kept id h)
-
-  operand_kept : (id : ℕ) → OperandNodeExists old id → operand_or_n new id ≡ operand_or_n old id
-  operand_kept id h = ap operand_of_expr (node_kept id h.within)
-
-  operand_held : (id : ℕ) → OperandNodeExists old id → OperandNodeExists new id
-  operand_held id h = record { within = node_held id h.within; is = node_kept id h.within ∙ h.is ∙ ap alone (sym (operand_kept id h)) }
-
-  valued_kept : (d : CodeDefaultAttribute) → DefaultNodesExist old d → default_in new d ≡ default_in old d
-  valued_kept d h = rw (node_kept d.value h.0, if_kept d.condition h.1) refl
-
-  target_kept : (d : CodeTargetAttribute) → TargetNodesExist old d → target_in new d ≡ target_in old d
-  target_kept d h = rw (words_kept old new grows d.name h.0, if_kept d.condition h.1) refl
-
-  target_held : (d : CodeTargetAttribute) → TargetNodesExist old d → TargetNodesExist new d
-  target_held d h = (let l = longer old new grows in let w = h.0 in omega arith, if_held d.condition h.1)
-
-  bounded_kept : (d : CodeRangeAttribute) → RangeNodesExist old d → range_in new d ≡ range_in old d
-  bounded_kept d h = rw (operand_kept d.low h.0, operand_kept d.high h.1, if_kept d.condition h.2) refl
-
-  attribute_kept : (a : CodeAttribute) → AttributeNodesExist old a → attribute_in new a ≡ attribute_in old a
-  attribute_kept (attributes.TypedPrompt k c) h = rw (if_kept c h) refl
-  attribute_kept (attributes.TypedDefault k d) h = rw (valued_kept d h) refl
-  attribute_kept (attributes.Prompt c) h = rw (if_kept c h) refl
-  attribute_kept (attributes.Default d) h = rw (valued_kept d h) refl
-  attribute_kept (attributes.Depends id) h = rw (node_kept id h) refl
-  attribute_kept (attributes.Select s) h = rw (target_kept s h) refl
-  attribute_kept (attributes.Imply s) h = rw (target_kept s h) refl
-  attribute_kept (attributes.Range r) h = rw (bounded_kept r h) refl
-  attribute_kept (attributes.Visible id) h = rw (node_kept id h) refl
-  attribute_kept x h = refl
-
-  attribute_held : (a : CodeAttribute) → AttributeNodesExist old a → AttributeNodesExist new a
-  attribute_held (attributes.TypedPrompt k c) h = if_held c h
-  attribute_held (attributes.TypedDefault k d) h = (node_held d.value h.0, if_held d.condition h.1)
-  attribute_held (attributes.Prompt c) h = if_held c h
-  attribute_held (attributes.Default d) h = (node_held d.value h.0, if_held d.condition h.1)
-  attribute_held (attributes.Depends id) h = node_held id h
-  attribute_held (attributes.Select s) h = target_held s h
-  attribute_held (attributes.Imply s) h = target_held s h
-  attribute_held (attributes.Range r) h = (operand_held r.low h.0, operand_held r.high h.1, if_held r.condition h.2)
-  attribute_held (attributes.Visible id) h = node_held id h
-  attribute_held x h = tt
-
   pub lines_held : (lines : List CodeLine) → All (LineNodesExist old) lines → All (LineNodesExist new) lines
-  lines_held lines h = λ k d i. attribute_held _ (h k d i)
+  lines_held lines h = λ k d i. attribute_held old new _ grows (h k d i)
 
   lines_kept : (lines : List CodeLine) → All (LineNodesExist old) lines → map (line_in new) lines ≡ map (line_in old) lines
   lines_kept [] h = refl
-  lines_kept (l ∷ lines) h = rw (attribute_kept l.attribute (h 0 l (omega arith)), lines_kept lines (λ k d i. h (suc k) d (omega arith))) refl
+  lines_kept (l ∷ lines) h = rw (attribute_same old new l.attribute grows (h 0 l (omega arith)), lines_kept lines (λ k d i. h (suc k) d (omega arith))) refl
 
   what_kept : (names ns texts ts : List (List ℕ)) (c : CodeHead) (w : GroupHead) → RepresentsHead old names texts c w
       → RepresentsHead new (names ++ ns) (texts ++ ts) c w
   what_kept names ns texts ts (codes.Config s) w h = (h.0, get_more names ns s h.0 h.1, h.2)
   what_kept names ns texts ts (codes.Menu t) w h = (h.0, get_more texts ts t h.0 h.1, h.2)
-  what_kept names ns texts ts (codes.Condition id) w h = (node_held id h.0, rw (node_kept id h.0) h.1)
+  what_kept names ns texts ts (codes.Condition id) w h = (node_held old new id grows h.0, rw (node_same old new id grows h.0) h.1)
   what_kept names ns texts ts (codes.Comment t) w h = (h.0, get_more texts ts t h.0 h.1, h.2)
   what_kept names ns texts ts (codes.Source t) w h = (h.0, get_more texts ts t h.0 h.1, h.2)
   what_kept names ns texts ts x w h = h

@@ -4,6 +4,7 @@ use Rattle.kc_parser.proofs.Common.{◌≡◌, ℕ, suc, ◌+◌, ◌<◌, ◌�
 use Rattle.kc_parser.proofs.Common.{All-append, All-cons, All-nil, bytes_eq-Decides, Exprs, Grows, index_of_name, place_of_more, place_of_none, slice_get-get_or, slice_get, nat_le, with_name, MAX_SYMBOLS, is_full, number_in_slot, number_in, HasNames}
 use Rattle.std.proofs.lemmas.List.{get_or_past, get_or-set_same, get_or-set_other, length-map, length-set}
 use Rattle.kc_expr.proofs.Places.{place_there}
+use Rattle.kc_statements.proofs.GrownArenas.{front_get, front_long, front_parts}
 use Rattle.kc_parser.specs.between.SymbolTable.{text_of_name}
 
 none_by : (f : ℕ → Option ℕ) → ((i : ℕ) → f i ≡ None) → (o : Option ℕ) → option_and_then f o ≡ None
@@ -34,17 +35,17 @@ number_more held more numbers x h =
     place_more (λ i. number_in_slot (get_or numbers i 0)) x held more (λ i l. ap number_in_slot (get_or_past numbers i 0 (omega arith)))
 
 split : (old new : Exprs) → Grows old new → old.names ++ drop (length old.names) new.names ≡ new.names
-split old new g = ap (λ xs. xs ++ drop (length old.names) new.names) (sym g.names) ∙ take-append-drop (length old.names) new.names
+split old new g = sym (front_parts old.names new.names g.names)
 
 pub words_kept : (old new : Exprs) → Grows old new → (id : ℕ) → id < length old.names → text_of_name new id ≡ text_of_name old id
-words_kept old new g id h = ap (λ names. get_or names id []) (sym (split old new g)) ∙ get_or_append_left old.names (drop (length old.names) new.names) [] id h
+words_kept old new g id h = front_get old.names new.names id [] g.names h
 
 map_words : (old new : Exprs) → Grows old new → (ids : List ℕ) → All (λ id. id < length old.names) ids → map (text_of_name new) ids ≡ map (text_of_name old) ids
 map_words old new g [] h = refl
 map_words old new g (i ∷ ids) h = rw (words_kept old new g i (h 0 0 (omega arith)), map_words old new g ids (λ k d l. h (suc k) d (omega arith))) refl
 
 pub longer : (old new : Exprs) → Grows old new → length old.names ≤ length new.names
-longer old new g = let e = ap length (split old new g) in omega (arith, e, length-append old.names (drop (length old.names) new.names))
+longer old new g = front_long old.names new.names g.names
 
 -- the symbols keep their names (`HasNames`) when the arena of the names grows
 pub names_later : (old new : Exprs) (symbols numbers : List ℕ) (names : List (List ℕ)) → Grows old new → HasNames old symbols numbers names

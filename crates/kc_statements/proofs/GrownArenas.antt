@@ -14,14 +14,16 @@ use Rattle.kc_statements.specs.declared.statement.Attribute.{Attribute as CodeAt
 use Rattle.kc_statements.specs.declared.statement.Attribute.TheVariants as attributes
 use Rattle.kc_statements.specs.between.StatementViews.{if_in, operand_of_expr, operand_or_n, default_in, target_in, range_in, attribute_in, head_in, NodeExists, IfNodeExists, OperandNodeExists, DefaultNodesExist, TargetNodesExist, RangeNodesExist, AttributeNodesExist, HeadNodesExist}
 
-front_long : {X : Type 0} (xs ys : List X) → take (length xs) ys ≡ xs → length xs ≤ length ys
+-- a list is no shorter than its front
+pub front_long : {X : Type 0} (xs ys : List X) → take (length xs) ys ≡ xs → length xs ≤ length ys
 front_long xs ys e = omega (arith, ap length e, length-take (length xs) ys)
 
-front_parts : {X : Type 0} (xs ys : List X) → take (length xs) ys ≡ xs → ys ≡ xs ++ drop (length xs) ys
+-- a list is its front and the rest
+pub front_parts : {X : Type 0} (xs ys : List X) → take (length xs) ys ≡ xs → ys ≡ xs ++ drop (length xs) ys
 front_parts xs ys e = sym (take-append-drop (length xs) ys) ∙ ap (λ zs. zs ++ drop (length xs) ys) e
 
 -- an element of a front is that of the whole
-front_get : {X : Type 0} (xs ys : List X) (i : ℕ) (d : X) → take (length xs) ys ≡ xs → i < length xs → get_or ys i d ≡ get_or xs i d
+pub front_get : {X : Type 0} (xs ys : List X) (i : ℕ) (d : X) → take (length xs) ys ≡ xs → i < length xs → get_or ys i d ≡ get_or xs i d
 front_get xs ys i d e h = ap (λ zs. get_or zs i d) (front_parts xs ys e) ∙ get_or_append_left xs (drop (length xs) ys) d i h
 
 -- a node of an arena is also one of the grown arena

@@ -2,12 +2,10 @@
 ghost use Rattle.std.specs.Prelude.{◌≡◌, ◌||◌, ◌&&◌, codes, bytes_eq, nat_lt, length};
 ghost use Rattle.std.specs.List.{list_all};
 ghost use Rattle.kc_expr.specs.Grammar.{is_operand_kind};
-ghost use Rattle.kc_tokens.specs.Token.{lexeme_of};
+ghost use Rattle.kc_tokens.specs.Token.{lexeme_of, is_name_byte};
 ghost use Rattle.kc_tree_model.specs.Keywords.{is_word_kind, is_quoted_kind, is_the_word, is_name};
-ghost use Rattle.kc_tree_model.specs.TreeLookup.{is_name_byte};
 
-use kc_tokens::{Token, TokenKind};
-use kc_tree_model::are_name_bytes;
+use kc_tokens::{Token, TokenKind, are_name_bytes};
 
 /// Whether a token is a bare word.
 pub(crate) fn is_word(token: &Token<'_>) -> bool

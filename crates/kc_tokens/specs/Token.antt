@@ -31,6 +31,11 @@ is_white_byte c = c == 9 || (c == 11) || (c == 12) || (c == 13) || (c == 32)
 abbrev pub is_word_byte : ℕ → Bool
 is_word_byte c = (nat_le 65 c && nat_le c 90) || (nat_le 97 c && nat_le c 122) || (nat_le 48 c && nat_le c 57) || (c == 95) || (c == 45) || (c == 46) || (c == 47)
 
+-- whether a byte is a letter, a digit or `_`
+abbrev pub is_name_byte : ℕ → Bool
+is_name_byte b = (nat_le 97 b && nat_le b 122) || (nat_le 65 b && nat_le b 90) || (nat_le 48 b && nat_le b 57)
+    || (b == 95)
+
 -- a token of the code as the definitions see it
 abbrev pub lexeme_of : CodeToken → Lexeme
 lexeme_of t = record { kind = t.kind; start = t.start; stop = t.end; text = t.text.now }

@@ -6,6 +6,7 @@ ghost use Rattle.kc_tokens.specs.checker.TokenEnds.{Reaches};
 ghost use Rattle.kc_tokens.specs.TokenGrammar.{IsCut, IsFirstTokenFault};
 ghost use Rattle.kc_tokens.specs.Token.{with_front};
 
+use super::byte_kinds::{is_white, is_word, word_len};
 use super::fault::{ExprFault, ExprKind};
 use super::language::Language;
 use super::plain_quotes::plain_closing_quote;
@@ -55,30 +56,6 @@ pub enum NextToken {
     Fault(ExprKind, usize),
 }
 
-/// The bytes of words, each at its own place; a `!` at the place of any other byte.
-static WORD_BYTES: [u8; 256] = *b"\
-    !!!!!!!!!!!!!!!!!!!!!!!!!!!!!!!!\
-    !!!!!!!!!!!!!-./0123456789!!!!!!\
-    !ABCDEFGHIJKLMNOPQRSTUVWXYZ!!!!_\
-    !abcdefghijklmnopqrstuvwxyz!!!!!\
-    !!!!!!!!!!!!!!!!!!!!!!!!!!!!!!!!\
-    !!!!!!!!!!!!!!!!!!!!!!!!!!!!!!!!\
-    !!!!!!!!!!!!!!!!!!!!!!!!!!!!!!!!\
-    !!!!!!!!!!!!!!!!!!!!!!!!!!!!!!!!";
-
-/// Whether a byte is white: a tab, a vertical tab, a form feed, a carriage return or a space.
-pub fn is_white(byte: u8) -> bool
-    ensures { result ≡ is_white_byte byte }
-{
-    matches!(byte, 0x09 | 0x0B | 0x0C | 0x0D | 0x20)
-}
-
-fn is_word(byte: u8) -> bool
-    ensures { result ≡ is_word_byte byte }
-{
-    WORD_BYTES[byte as usize] != b'!'
-}
-
 /// The place of the first `$` of a text.
 fn first_dollar(text: &[u8]) -> Option<usize>
     ensures place { result ≡ position (λ c. c == 36) text.now }
@@ -114,21 +91,6 @@ fn dollar_left_out(language: Language, text: &[u8]) -> Option<usize>
         Language::Strict => first_dollar(text),
         Language::Linux(_) => bare_dollar(text),
     }
-}
-
-/// How many bytes at the front are of a word.
-fn word_len(bytes: &[u8]) -> usize
-    ensures count { result ≡ length (take_while is_word_byte bytes.now) }
-    ensures within { result ≤ length bytes.now }
-    ensures run { 0 < length bytes.now → is_word_byte (slice_index bytes.now 0) ≡ true → 0 < result }
-    ensures ends { 0 < result → slice_index bytes.now (result - 1) < 128 }
-{
-    for i in 0..bytes.len() {
-        if !is_word(bytes[i]) {
-            return i;
-        }
-    }
-    bytes.len()
 }
 
 /// The quoted token at the front of bytes that begin with a quote, whatever is between the quotes.

@@ -1,4 +1,3 @@
-pub mod GatheredLists
 pub mod NameTable
 pub mod Places
 pub mod TreeView

@@ -2,7 +2,7 @@
 ghost use Rattle.std.specs.Prelude.{◌≡◌};
 ghost use Rattle.kc_tree_model.specs.TreeFaults.{is_other_kind, is_no_member_kind};
 ghost use Rattle.kc_tree_model.specs.Contents.{kind_in_tree};
-ghost use Rattle.kc_value.specs.Kinds.{is_tri_kind, is_number, same_kind};
+ghost use Rattle.kc_value.specs.Kinds.{is_tri_kind, is_number};
 
 use kc_tokens::Language;
 use kc_value::Kind;
@@ -21,25 +21,12 @@ pub fn is_number(kind: Kind) -> bool
     matches!(kind, Kind::Int | Kind::Hex)
 }
 
-/// Whether two types are the same.
-fn is_same(a: Kind, b: Kind) -> bool
-    ensures { result ≡ same_kind a b }
-{
-    match a {
-        Kind::Bool => matches!(b, Kind::Bool),
-        Kind::Tristate => matches!(b, Kind::Tristate),
-        Kind::Text => matches!(b, Kind::Text),
-        Kind::Int => matches!(b, Kind::Int),
-        Kind::Hex => matches!(b, Kind::Hex),
-    }
-}
-
 /// Whether an optional type `given` is present and differs from `kind`.
 pub fn is_other_kind(kind: Kind, given: Option<Kind>) -> bool
     ensures { result ≡ is_other_kind kind given }
 {
     match given {
-        Some(other) => !is_same(kind, other),
+        Some(other) => other != kind,
         None => false,
     }
 }
@@ -50,7 +37,7 @@ pub fn is_no_member_kind(language: Language, given: Option<Kind>) -> bool
 {
     match given {
         Some(kind) => match language {
-            Language::Strict => !is_same(kind, Kind::Bool),
+            Language::Strict => kind != Kind::Bool,
             Language::Linux(_) => !is_tri_kind(kind),
         },
         None => false,

@@ -1,85 +1,19 @@
 //! The lists from which a tree is built.
 ghost use Rattle.std.specs.Prelude.{◌≡◌, ◌<◌, ◌^◌, IfOk, length};
-ghost use Rattle.kc_expr.specs.Lookup.{AreDistinct};
 ghost use Rattle.kc_tree_model.specs.TreeLookup.{IsConsistent};
 
-use super::items_by_number::ItemsByNumber;
+use super::attributes::Attributes;
 use super::items_with_keys::ItemsWithKeys;
 use super::names::symbols_of_names;
-use super::parts::{ChoiceRow, EntryRow, Parts, SymbolRow};
-use super::symbol::{Default, MemberDefault, Range, ReverseDependency};
+use super::rows::{ChoiceRow, EntryRow, SymbolRow};
+use super::symbol::MemberDefault;
 use super::tree::Tree;
 use super::unit_numbers::{UnitNumbers, number_members, number_units};
-use kc_expr::{Arena, ExprId};
+use kc_expr::Arena;
 use kc_tokens::Language;
 use kc_tree_model::{Sym, Unit};
 use kc_value::Text;
 use std::alloc::{AllocError, Global};
-
-/// The collected attributes of symbols, in reading order, each under the number of its symbol; a `select` or `imply` is under the
-/// number of its target.
-#[derive(Drop)]
-pub struct Attributes {
-    pub prompts: ItemsWithKeys<ExprId>,
-    pub defaults: ItemsWithKeys<Default>,
-    pub ranges: ItemsWithKeys<Range>,
-    pub selectors: ItemsWithKeys<ReverseDependency>,
-    pub impliers: ItemsWithKeys<ReverseDependency>,
-    pub direct: ItemsWithKeys<ExprId>,
-}
-
-/// The attributes of all symbols, grouped by symbol; a `select` or `imply` belongs to its target.
-#[derive(Drop)]
-pub struct GroupedAttributes {
-    pub prompts: ItemsByNumber<ExprId>,
-    pub defaults: ItemsByNumber<Default>,
-    pub ranges: ItemsByNumber<Range>,
-    pub selectors: ItemsByNumber<ReverseDependency>,
-    pub impliers: ItemsByNumber<ReverseDependency>,
-    pub direct: ItemsByNumber<ExprId>,
-}
-
-impl Attributes {
-    ghost use Rattle.kc_tree.specs.between.GatheredAttributes.{HaveKeys, AreGrouped};
-
-    /// Groups the attributes by symbol. An `Err` means out of memory.
-    fn grouped(&self, alloc: Global, count: usize) -> Result<GroupedAttributes, AllocError>
-        requires keys { HaveKeys count self.now }
-        requires few { count < 2 ^ 32 }
-        ensures ok { IfOk result (AreGrouped count self.now) }
-    {
-        Ok(GroupedAttributes {
-            prompts: self.prompts.grouped(alloc, count)?,
-            defaults: self.defaults.grouped(alloc, count)?,
-            ranges: self.ranges.grouped(alloc, count)?,
-            selectors: self.selectors.grouped(alloc, count)?,
-            impliers: self.impliers.grouped(alloc, count)?,
-            direct: self.direct.grouped(alloc, count)?,
-        })
-    }
-}
-
-/// The attributes of all symbols grouped by symbol, and the members and defaults of all choices grouped by choice.
-#[derive(Drop)]
-pub(crate) struct Lists {
-    pub attributes: GroupedAttributes,
-    pub members: ItemsByNumber<Sym>,
-    pub member_defaults: ItemsByNumber<MemberDefault>,
-}
-
-/// The unit number of each symbol and of each choice, and for each name of the arena the symbol of that name.
-#[derive(Drop)]
-pub(crate) struct Tables {
-    pub units: UnitNumbers,
-    pub symbol_of_name: Vec<Option<Sym>>,
-}
-
-/// The tables and the grouped lists of a tree, made from its collected lists.
-#[derive(Drop)]
-pub(crate) struct FinishedTables {
-    pub tables: Tables,
-    pub lists: Lists,
-}
 
 /// The lists collected from all groups of a listing, from which a tree is built, and the language of the files.
 #[derive(Drop)]
@@ -100,7 +34,6 @@ impl TreeLists {
     ghost use Rattle.kc_tree.specs.TreeModel.{TreeModel};
     ghost use Rattle.kc_tree.specs.between.GatheredView.{gathered_tree};
     ghost use Rattle.kc_tree.specs.between.GatheredFits.{GatheredFit};
-    ghost use Rattle.kc_tree.specs.checker.GatheredLists.{AreLists, AreTables, parts_made};
     ghost use Rattle.kc_tree.specs.checker.Units.{HasUnits};
 
     /// The unit of each symbol and of each choice. An `Err` means out of memory.
@@ -114,83 +47,30 @@ impl TreeLists {
         Ok(numbers)
     }
 
-    /// The attributes of each symbol together, and the members and defaults of each choice. An `Err` means out of
-    /// memory.
-    fn lists(&self, alloc: Global) -> Result<Lists, AllocError>
-        requires fits { GatheredFit self.now }
-        ensures ok { IfOk result (AreLists self.now) }
-    {
-        let choices = self.choices.len();
-        Ok(Lists {
-            members: self.members.grouped(alloc, choices)?,
-            member_defaults: self.member_defaults.grouped(alloc, choices)?,
-            attributes: self.attributes.grouped(alloc, self.symbols.len())?,
-        })
-    }
-
-    /// The unit of each symbol and of each choice, and the symbol of each name. An `Err` means out of memory.
-    fn tables(&self, alloc: Global) -> Result<Tables, AllocError>
-        requires fits { GatheredFit self.now }
-        requires distinct { AreDistinct self.now.arena.names }
-        requires consistent { IsConsistent (gathered_tree self.now) }
-        ensures ok { IfOk result (AreTables self.now) }
-    {
-        let names = self.arena.name_count();
-        Ok(Tables {
-            units: self.unit_numbers(alloc)?,
-            symbol_of_name: symbols_of_names(alloc, names, &self.symbols)?,
-        })
-    }
-
-    /// The finished tables of the collected lists. An `Err` means out of memory.
-    fn made(&self, alloc: Global) -> Result<FinishedTables, AllocError>
-        requires fits { GatheredFit self.now }
-        requires distinct { AreDistinct self.now.arena.names }
-        requires consistent { IsConsistent (gathered_tree self.now) }
-        ensures tables { IfOk result (λ m. AreTables self.now m.tables) }
-        ensures lists { IfOk result (λ m. AreLists self.now m.lists) }
-    {
-        Ok(FinishedTables {
-            tables: self.tables(alloc)?,
-            lists: self.lists(alloc)?,
-        })
-    }
-
-    /// The lists of the tree that the collected lists make.
-    fn into_parts(self, made: FinishedTables) -> Parts
-        ensures { result ≡ parts_made self made.lists made.tables }
-    {
-        let FinishedTables { tables, lists } = made;
-        Parts {
-            arena: self.arena,
-            symbols: self.symbols,
-            prompts: lists.attributes.prompts,
-            defaults: lists.attributes.defaults,
-            ranges: lists.attributes.ranges,
-            selectors: lists.attributes.selectors,
-            impliers: lists.attributes.impliers,
-            direct: lists.attributes.direct,
-            choices: self.choices,
-            members: lists.members,
-            member_defaults: lists.member_defaults,
-            entries: self.entries,
-            titles: self.titles,
-            units: self.units,
-            unit_of_symbol: tables.units.symbols,
-            unit_of_choice: tables.units.choices,
-            symbol_of_name: tables.symbol_of_name,
-            language: self.language,
-        }
-    }
-
     /// Builds the tree from its collected lists. An `Err` means out of memory.
     pub fn into_tree(self, alloc: Global) -> Result<Tree, AllocError>
         requires fits { GatheredFit self }
-        requires distinct { AreDistinct self.arena.names }
         requires consistent { IsConsistent (gathered_tree self) }
         ensures ok { IfOk result (λ t. t ≡ record { exprs = self.arena; tree = gathered_tree self }) }
     {
-        let made = self.made(alloc)?;
-        Ok(Tree::of(self.into_parts(made)))
+        let attributes = self.attributes.grouped(alloc, self.symbols.len())?;
+        let members = self.members.grouped(alloc, self.choices.len())?;
+        let member_defaults = self.member_defaults.grouped(alloc, self.choices.len())?;
+        let unit_numbers = self.unit_numbers(alloc)?;
+        let symbol_of_name = symbols_of_names(alloc, self.arena.name_count(), &self.symbols)?;
+        Ok(Tree {
+            arena: self.arena,
+            symbols: self.symbols,
+            attributes,
+            choices: self.choices,
+            members,
+            member_defaults,
+            entries: self.entries,
+            titles: self.titles,
+            units: self.units,
+            unit_numbers,
+            symbol_of_name,
+            language: self.language,
+        })
     }
 }

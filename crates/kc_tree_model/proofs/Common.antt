@@ -20,7 +20,7 @@ pub use Rattle.kc_expr.specs.Grammar.{IsExpr, Level, extent, is_close, is_operan
 pub use Rattle.kc_tokens.proofs.CutLaws.{read_cut}
 pub use Rattle.kc_tokens.proofs.TokenLaws.{cut_read}
 pub use Rattle.kc_tokens.specs.QuotedTexts.{between_quotes, quoted_text}
-pub use Rattle.kc_tokens.specs.Token.{Lexeme, lexemes_from}
+pub use Rattle.kc_tokens.specs.Token.{Lexeme, lexemes_from, is_name_byte}
 pub use Rattle.kc_tokens.specs.TokenGrammar.{IsFirstTokenFault}
 pub use Rattle.kc_tokens.specs.declared.fault.ExprFault.{ExprFault}
 pub use Rattle.kc_tokens.specs.declared.fault.ExprKind.{ExprKind}
@@ -50,7 +50,7 @@ pub use Rattle.kc_tree_model.specs.Statements.{Attribute, DefaultAttribute, Head
 pub use Rattle.kc_tree_model.specs.Statements.{path_of_head, prompt, range, select, source, typed_default, typed_prompt, visible}
 pub use Rattle.kc_tree_model.specs.TreeFaults.{definition_faults, faults_of_group, faults_of_head, is_no_member_kind, may_follow_member, when}
 pub use Rattle.kc_tree_model.specs.TreeFiles.{Files, file_at, index_of_file, strict_files, with_file}
-pub use Rattle.kc_tree_model.specs.TreeLookup.{IsConsistent, is_name_byte, own_text}
+pub use Rattle.kc_tree_model.specs.TreeLookup.{IsConsistent, own_text}
 pub use Rattle.kc_tree_model.specs.TreeReading.{Outcome, at_file_end, continue_after_file, continue_after_line, continue_after_source, continue_after_statement, ended_by_fault, fault_if, path_to_read, paths_or_fault, read_file, read_lines, read_root, statement_by_keyword, statement_by_word}
 pub use Rattle.kc_tree_model.specs.TreeReading.{statement_of_tokens, statement_or_fault, with_attribute, with_group, with_statement}
 pub use Rattle.kc_tree_model.specs.Trees.{Choice, Default, Entry, ReverseDependency, Symbol, Tree, choice_begins, definition, menu_begins, menu_ends}

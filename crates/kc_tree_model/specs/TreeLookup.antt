@@ -4,6 +4,7 @@ use Rattle.std.specs.Str.{is_utf8}
 use Rattle.std.specs.List.{position, position_or_len, list_all, list_any}
 use Rattle.kc_value.specs.declared.value.Kind.TheVariants.{Bool as Boolean}
 use Rattle.kc_expr.specs.Expr.{Expr, alone, named, quoted}
+use Rattle.kc_tokens.specs.Token.{is_name_byte}
 use Rattle.kc_tree_model.specs.Trees.{Tree, Symbol, Choice, Default, ReverseDependency, MemberDefault, Entry, definition, choice_begins, menu_begins, menu_ends, comment}
 use Rattle.kc_tree_model.specs.declared.ids.Unit.{Unit as TreeUnit}
 use Rattle.kc_tree_model.specs.declared.ids.Unit.TheVariants.{Symbol as of_symbol, Choice as of_choice}
@@ -38,11 +39,6 @@ unit_of tree s = unit_of_symbol tree s (slice_get tree.symbols s)
 -- the number of the symbol with this name in a tree, if an entry defines it
 abbrev pub symbol_named : Tree → List ℕ → Option ℕ
 symbol_named tree name = position (λ (s : Symbol). bytes_eq name s.name) tree.symbols
-
--- whether a byte is a letter, a digit or `_`
-abbrev pub is_name_byte : ℕ → Bool
-is_name_byte b = (nat_le 97 b && nat_le b 122) || (nat_le 65 b && nat_le b 90) || (nat_le 48 b && nat_le b 57)
-    || (b == 95)
 
 -- the text of an expression that is one name or one quoted text (an undefined name has itself as text); empty of any other
 abbrev pub own_text : Expr → List ℕ

@@ -6,7 +6,6 @@ mod fault;
 mod ids;
 mod keyword;
 mod laws;
-mod name_bytes;
 mod texts;
 
 pub use fault::{TreeFault, TreeKind};
@@ -17,5 +16,4 @@ pub use laws::{
     linux_reads_strict_trees, more_files_change_nothing, nothing_is_missing_after_wanted,
     reading_is_a_nested_tree, trees_are_consistent,
 };
-pub use name_bytes::are_name_bytes;
 pub use texts::Texts;

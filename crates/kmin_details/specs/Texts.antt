@@ -2,7 +2,7 @@
 use Rattle.std.specs.Prelude.{ℕ, List, [], ◌∷◌, ◌++◌, Option, Some, None, codes, decimal, if◌then◌else◌}
 use Rattle.std.specs.List.{flat_map, list_all}
 use Rattle.std.specs.Str.Lossy.{utf8_lossy}
-use Rattle.kc_tree_model.specs.TreeLookup.{is_name_byte}
+use Rattle.kc_tokens.specs.Token.{is_name_byte}
 use Rattle.kc_value.specs.declared.limits.TheConstants.{MAX_CHOICES, MAX_FILES, MAX_LISTED_NAMES, MAX_NAME_BYTES, MAX_SYMBOLS, MAX_TREE_BYTES, MAX_WORK}
 use Rattle.kmin_details.specs.declared.places.Unreadable.{Unreadable}
 use Rattle.kmin_details.specs.declared.places.Unreadable.TheVariants.{NotThere, NoPermission, Folder, FailedRead}

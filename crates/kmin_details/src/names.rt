@@ -3,7 +3,7 @@ ghost use Rattle.std.specs.Prelude.{◌≡◌, ℕ, List, option_map, IfOk, stri
 ghost use Rattle.std.specs.Borrow.{Bor};
 ghost use Rattle.kmin_details.specs.Texts.{name_word, unknown_text, value_text};
 
-use kc_tree_model::are_name_bytes;
+use kc_tokens::are_name_bytes;
 use std::alloc::{AllocError, Global};
 
 /// A name as a text shows it: in quotes where it has a byte that names of symbols don't have, as the space of `CONFIG_A = y`, which

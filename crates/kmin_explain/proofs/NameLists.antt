@@ -3,7 +3,7 @@ use Rattle.kmin_explain.proofs.Common.{◌≡◌, ℕ, ◌+◌, ◌<◌, Bool, t
 use Rattle.std.specs.List.{list_all}
 use Rattle.std.proofs.lemmas.Str.Ascii.{IsAscii-from_all}
 use Rattle.std.proofs.lemmas.Bool.{and_parts}
-use Rattle.kc_tree_model.specs.TreeLookup.{is_name_byte}
+use Rattle.kc_tokens.specs.Token.{is_name_byte}
 use Rattle.kc_dotconfig_model.specs.PrefixGrammar.{is_name_prefix}
 use Rattle.kmin_explain.proofs.EachOnce.{one_name}
 

@@ -14,8 +14,7 @@ use crate::job::{Definition, ExpansionOptions};
 use crate::refusal::Refusal;
 use crate::values::{has_values, is_given, value_of, values_of};
 use clap::ArgMatches;
-use kc_tokens::is_white;
-use kc_tree_model::are_name_bytes;
+use kc_tokens::{are_name_bytes, is_white};
 use kc_value::{MAX_VARIABLE_BYTES, has_newline};
 use std::alloc::{AllocError, Global};
 

@@ -11,7 +11,7 @@ use Rattle.kc_parser.specs.declared.listing.Line.{Line as CodeLine}
 use Rattle.kc_statements.specs.between.StatementViews.{is_optional_code}
 use Rattle.kc_checks.specs.between.Summaries.{is_choice_code}
 use Rattle.kc_conditions.specs.between.Firsts.{first_prompt}
-use Rattle.kc_tree.specs.declared.parts.ChoiceRow.{ChoiceRow}
+use Rattle.kc_tree.specs.declared.rows.ChoiceRow.{ChoiceRow}
 
 -- whether the attribute of a line is `optional`
 abbrev pub is_optional_line : CodeLine → Bool

@@ -6,36 +6,36 @@ use Rattle.kc_tree_model.specs.Trees as tree
 use Rattle.kc_tree_model.specs.Trees.{Tree}
 use Rattle.kc_tree.specs.between.Views.{default_view, range_view, reverse_dependency_view, member_default_view}
 use Rattle.kc_tree.specs.between.GroupedItems.{items_at}
-use Rattle.kc_tree.specs.declared.parts.SymbolRow.{SymbolRow}
-use Rattle.kc_tree.specs.declared.parts.ChoiceRow.{ChoiceRow}
-use Rattle.kc_tree.specs.declared.parts.EntryRow.{EntryRow}
-use Rattle.kc_tree.specs.declared.parts.EntryRow.TheVariants.{Definition, ChoiceBegins, MenuBegins, MenuEnds, Comment}
-use Rattle.kc_tree.specs.declared.parts.Parts.{Parts}
+use Rattle.kc_tree.specs.declared.rows.SymbolRow.{SymbolRow}
+use Rattle.kc_tree.specs.declared.rows.ChoiceRow.{ChoiceRow}
+use Rattle.kc_tree.specs.declared.rows.EntryRow.{EntryRow}
+use Rattle.kc_tree.specs.declared.rows.EntryRow.TheVariants.{Definition, ChoiceBegins, MenuBegins, MenuEnds, Comment}
+use Rattle.kc_tree.specs.declared.tree.Tree.TheInside.{Inside}
 
 -- the symbol that a number and a row represent, with the attributes stored for the number
-abbrev pub symbol_from_row : Parts → ℕ → SymbolRow → tree.Symbol
-symbol_from_row p s r = record {
-  name = slice_index_or p.arena.names r.name [];
+abbrev pub symbol_from_row : Inside → ℕ → SymbolRow → tree.Symbol
+symbol_from_row t s r = record {
+  name = slice_index_or t.arena.names r.name [];
   kind = r.kind;
   file = r.file;
   line = r.line;
-  prompts = map (node_expr p.arena) (items_at p.prompts.starts.items p.prompts.items.items s);
-  defaults = map (default_view p.arena) (items_at p.defaults.starts.items p.defaults.items.items s);
-  ranges = map (range_view p.arena) (items_at p.ranges.starts.items p.ranges.items.items s);
-  selectors = map (reverse_dependency_view p.arena) (items_at p.selectors.starts.items p.selectors.items.items s);
-  impliers = map (reverse_dependency_view p.arena) (items_at p.impliers.starts.items p.impliers.items.items s);
-  direct = own_dependencies r.choice (map (node_expr p.arena) (items_at p.direct.starts.items p.direct.items.items s));
+  prompts = map (node_expr t.arena) (items_at t.attributes.prompts.starts.items t.attributes.prompts.items.items s);
+  defaults = map (default_view t.arena) (items_at t.attributes.defaults.starts.items t.attributes.defaults.items.items s);
+  ranges = map (range_view t.arena) (items_at t.attributes.ranges.starts.items t.attributes.ranges.items.items s);
+  selectors = map (reverse_dependency_view t.arena) (items_at t.attributes.selectors.starts.items t.attributes.selectors.items.items s);
+  impliers = map (reverse_dependency_view t.arena) (items_at t.attributes.impliers.starts.items t.attributes.impliers.items.items s);
+  direct = own_dependencies r.choice (map (node_expr t.arena) (items_at t.attributes.direct.starts.items t.attributes.direct.items.items s));
   choice = r.choice;
 }
 
 -- the choice that a number and a row represent, with the members and defaults stored for the number
-abbrev pub choice_from_row : Parts → ℕ → ChoiceRow → tree.Choice
-choice_from_row p c r = record {
+abbrev pub choice_from_row : Inside → ℕ → ChoiceRow → tree.Choice
+choice_from_row t c r = record {
   file = r.file;
   line = r.line;
-  members = items_at p.members.starts.items p.members.items.items c;
-  prompt = option_map (node_expr p.arena) r.prompt;
-  defaults = map (member_default_view p.arena) (items_at p.member_defaults.starts.items p.member_defaults.items.items c);
+  members = items_at t.members.starts.items t.members.items.items c;
+  prompt = option_map (node_expr t.arena) r.prompt;
+  defaults = map (member_default_view t.arena) (items_at t.member_defaults.starts.items t.member_defaults.items.items c);
   optional = r.optional;
 }
 
@@ -53,11 +53,11 @@ from_rows f n [] = []
 from_rows f n (r ∷ rs) = f n r ∷ from_rows f (suc n) rs
 
 -- the tree that stored lists represent: its symbols, choices, entries, units and language
-abbrev pub tree_from_rows : Parts → Tree
-tree_from_rows p = record {
-  symbols = from_rows (symbol_from_row p) 0 p.symbols.items;
-  choices = from_rows (choice_from_row p) 0 p.choices.items;
-  entries = map (entry_from_row p.arena p.titles.items) p.entries.items;
-  units = p.units.items;
-  language = p.language;
+abbrev pub tree_from_rows : Inside → Tree
+tree_from_rows t = record {
+  symbols = from_rows (symbol_from_row t) 0 t.symbols.items;
+  choices = from_rows (choice_from_row t) 0 t.choices.items;
+  entries = map (entry_from_row t.arena t.titles.items) t.entries.items;
+  units = t.units.items;
+  language = t.language;
 }

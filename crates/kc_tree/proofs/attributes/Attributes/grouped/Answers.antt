@@ -1,5 +1,5 @@
 use Rattle.kc_tree.proofs.Common.{arith, common_steps}
-use Rattle.kc_tree.proofs.tree_lists.Attributes.grouped.Goals as goal
+use Rattle.kc_tree.proofs.attributes.Attributes.grouped.Goals as goal
 
 pub grouped-requires-clause-keys : goal.grouped-requires-clause-keys
 grouped-requires-clause-keys c = c.requires.keys.prompts

@@ -1,6 +1,6 @@
 use Rattle.kc_tokens.proofs.Common.{◌≡◌, ℕ, ◌-◌, ◌<◌, length, get_or, sym, ◌∙◌, subst, arith, common_steps, take_while, is_word_byte}
 use Rattle.kc_tokens.proofs.TokenSteps.{word_ends, run_stops, run_ends}
-use Rattle.kc_tokens.proofs.token.word_len.Goals as goal
+use Rattle.kc_tokens.proofs.byte_kinds.word_len.Goals as goal
 
 pub returns-then-not-is_word-clause-ends : goal.returns-then-not-is_word-clause-ends
 returns-then-not-is_word-clause-ends c =
