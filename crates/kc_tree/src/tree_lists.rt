@@ -2,7 +2,8 @@
 ghost use Rattle.std.specs.Prelude.{◌≡◌, ◌<◌, ◌^◌, IfOk, length};
 ghost use Rattle.kc_tree_model.specs.TreeLookup.{IsConsistent};
 
-use super::attributes::Attributes;
+use super::attributes::{Attributes, GroupedAttributes};
+use super::items_by_number::ItemsByNumber;
 use super::items_with_keys::ItemsWithKeys;
 use super::names::symbols_of_names;
 use super::rows::{ChoiceRow, EntryRow, SymbolRow};
@@ -30,10 +31,21 @@ pub struct TreeLists {
     pub language: Language,
 }
 
+/// The attributes of each symbol, the members and defaults of each choice, the unit of each, and the symbol of each name.
+#[derive(Drop)]
+pub(crate) struct Tables {
+    pub attributes: GroupedAttributes,
+    pub members: ItemsByNumber<Sym>,
+    pub member_defaults: ItemsByNumber<MemberDefault>,
+    pub unit_numbers: UnitNumbers,
+    pub symbol_of_name: Vec<Option<Sym>>,
+}
+
 impl TreeLists {
     ghost use Rattle.kc_tree.specs.TreeModel.{TreeModel};
     ghost use Rattle.kc_tree.specs.between.GatheredView.{gathered_tree};
     ghost use Rattle.kc_tree.specs.between.GatheredFits.{GatheredFit};
+    ghost use Rattle.kc_tree.specs.checker.Tables.{AreTables};
     ghost use Rattle.kc_tree.specs.checker.Units.{HasUnits};
 
     /// The unit of each symbol and of each choice. An `Err` means out of memory.
@@ -47,30 +59,57 @@ impl TreeLists {
         Ok(numbers)
     }
 
+    /// The attributes of each symbol, the members and defaults of each choice, the unit of each, and the symbol of each name. An `Err`
+    /// means out of memory.
+    fn tables(&self, alloc: Global) -> Result<Tables, AllocError>
+        requires fits { GatheredFit self.now }
+        requires consistent { IsConsistent (gathered_tree self.now) }
+        ensures ok { IfOk result (AreTables self.now) }
+    {
+        let symbol_of_name = symbols_of_names(alloc, self.arena.name_count(), &self.symbols)?;
+        let unit_numbers = self.unit_numbers(alloc)?;
+        let members = self.members.grouped(alloc, self.choices.len())?;
+        let member_defaults = self.member_defaults.grouped(alloc, self.choices.len())?;
+        let attributes = self.attributes.grouped(alloc, self.symbols.len())?;
+        Ok(Tables {
+            attributes,
+            members,
+            member_defaults,
+            unit_numbers,
+            symbol_of_name,
+        })
+    }
+
+    /// The tree with these tables.
+    fn with_tables(self, tables: Tables) -> Tree
+        requires fits { GatheredFit self }
+        requires consistent { IsConsistent (gathered_tree self) }
+        requires tables { AreTables self tables }
+        ensures value { result ≡ record { exprs = self.arena; tree = gathered_tree self } }
+    {
+        Tree {
+            arena: self.arena,
+            symbols: self.symbols,
+            attributes: tables.attributes,
+            choices: self.choices,
+            members: tables.members,
+            member_defaults: tables.member_defaults,
+            entries: self.entries,
+            titles: self.titles,
+            units: self.units,
+            unit_numbers: tables.unit_numbers,
+            symbol_of_name: tables.symbol_of_name,
+            language: self.language,
+        }
+    }
+
     /// Builds the tree from its collected lists. An `Err` means out of memory.
     pub fn into_tree(self, alloc: Global) -> Result<Tree, AllocError>
         requires fits { GatheredFit self }
         requires consistent { IsConsistent (gathered_tree self) }
         ensures ok { IfOk result (λ t. t ≡ record { exprs = self.arena; tree = gathered_tree self }) }
     {
-        let attributes = self.attributes.grouped(alloc, self.symbols.len())?;
-        let members = self.members.grouped(alloc, self.choices.len())?;
-        let member_defaults = self.member_defaults.grouped(alloc, self.choices.len())?;
-        let unit_numbers = self.unit_numbers(alloc)?;
-        let symbol_of_name = symbols_of_names(alloc, self.arena.name_count(), &self.symbols)?;
-        Ok(Tree {
-            arena: self.arena,
-            symbols: self.symbols,
-            attributes,
-            choices: self.choices,
-            members,
-            member_defaults,
-            entries: self.entries,
-            titles: self.titles,
-            units: self.units,
-            unit_numbers,
-            symbol_of_name,
-            language: self.language,
-        })
+        let tables = self.tables(alloc)?;
+        Ok(self.with_tables(tables))
     }
 }
