@@ -97,9 +97,9 @@ def line_tokens(text):
     while at < len(text):
         rest = text[at:]
         if rest[0] in WHITE:
-            token = "gap", rest[:1]
+            token = "trivia", rest[:1]
         elif rest[0] == 0x23:
-            token = "gap", rest
+            token = "trivia", rest
         elif rest[0] in RUN:
             run = rest[:extent(rest, False, lambda byte: byte not in RUN)]
             token = "broken" if any(sort == "unterminated" for sort, _ in items(run, False)) else "run", run
@@ -130,7 +130,7 @@ def in_quotes(text):
 def written_text(text):
     """A text as one token: its sort, its bytes, and the text that it means."""
     if not text:
-        return "gap", b" ", b""
+        return "trivia", b" ", b""
     if all(byte in BARE for byte in text) and text not in KEYWORDS:
         return "word", text, text
     return "quoted", in_quotes(text), text
@@ -325,13 +325,13 @@ class Expansion:
                     raise Stopped
                 if name:
                     return (name, operator, rest.lstrip(WHITE)[len(operator):].lstrip(b" \t")), None
-                made.append(("gap", b" ", b""))
+                made.append(("trivia", b" ", b""))
                 continue
             one = self.written(at, sort, token)
-            if may_assign and one[0] == "unknown" and any(later != "gap" for later, _ in tokens[number + 1:]):
+            if may_assign and one[0] == "unknown" and any(later != "trivia" for later, _ in tokens[number + 1:]):
                 raise Stopped
             made.append(one)
-            may_assign = may_assign and one[0] == "gap"
+            may_assign = may_assign and one[0] == "trivia"
         return None, made
 
     def assign(self, at, name, operator, text):
@@ -363,7 +363,7 @@ class Expansion:
                 raise Fault(at, "JoinedAssignment")
             self.assign(at, *assignment)
             return b"", False
-        real = [token for token in tokens if token[0] != "gap"]
+        real = [token for token in tokens if token[0] != "trivia"]
         if real and real[0][0] == "word" and real[0][1] in (*SOURCE_WORDS, *HELP_WORDS) and any(token[0] == "unknown" for token in real[1:]):
             raise Stopped
         made = self.formed(at, tokens, real, open_files)
@@ -389,7 +389,7 @@ class Expansion:
             self.choices.add(second[1])
             return with_tokens(tokens, {1: b""})
         if word == b"option" and second[1] in (b"defconfig_list", b"allnoconfig_y"):
-            white = next(number for number, token in enumerate(tokens) if token[0] != "gap")
+            white = next(number for number, token in enumerate(tokens) if token[0] != "trivia")
             front = b"".join(token[1] for token in tokens[:white])
             return front + (b"depends on n" if second[1] == b"defconfig_list" else b"")
         return whole
@@ -498,11 +498,11 @@ def operator_at(rest):
 
 
 def with_tokens(tokens, new):
-    """The bytes of a line with other bytes in place of some of its tokens, gaps aside."""
+    """The bytes of a line with other bytes in place of some of its tokens, trivia aside."""
     made, number = [], 0
     for sort, token, _ in tokens:
-        made.append(new.get(number, token) if sort != "gap" else token)
-        number += sort != "gap"
+        made.append(new.get(number, token) if sort != "trivia" else token)
+        number += sort != "trivia"
     return b"".join(made)
 
 

@@ -1,13 +1,11 @@
 //! The meanings of the lines of a file of answers.
 ghost use Rattle.std.specs.Prelude.{◌≡◌, ◌+◌, ◌<◌, ◌==◌, Some, IfSome, length, position, slice_index, option_map};
-ghost use Rattle.std.specs.List.{list_all};
-ghost use Rattle.kc_tokens.specs.Token.{is_white_byte};
-ghost use Rattle.kc_macros_model.specs.Variables.{is_environment_name};
 ghost use Rattle.kc_tree_model.specs.LogicalLines.{without_white_end};
 ghost use Rattle.kc_macros_model.specs.AnswerFiles.{line_after_command, name_not_set, name_with_text, line_alone, meaning_of_line};
 ghost use Rattle.kc_answers.specs.checker.LineView.{line_view};
 
-use kc_tokens::{are_name_bytes, is_white};
+use kc_macros_model::is_environment_name;
+use kc_tokens::white_end;
 
 /// The meaning of a line of a file of answers, white at its end aside.
 #[derive(Clone, Copy, Debug, PartialEq, Eq)]
@@ -29,21 +27,7 @@ pub(crate) enum AnswerLine<'a> {
 pub fn without_white_end(line: &[u8]) -> &[u8]
     ensures { result.now ≡ without_white_end line.now }
 {
-    let mut end = line.len();
-    while end > 0 && is_white(line[end - 1]) {
-        end -= 1;
-    }
-    &line[..end]
-}
-
-/// Whether an environment variable may have this name: letters, digits and `_`, of which the first is no digit.
-pub fn is_environment_name(text: &[u8]) -> bool
-    ensures { result ≡ is_environment_name text.now }
-{
-    let Some(first) = text.first() else {
-        return false;
-    };
-    !first.is_ascii_digit() && are_name_bytes(text)
+    &line[..white_end(line)]
 }
 
 /// The byte of a line at a place, which is counted from 0; 0 if the line ends before it.

@@ -7,5 +7,5 @@ mod answers;
 mod file_records;
 mod line_records;
 
-pub use answer_lines::{byte_at, is_environment_name, without_white_end};
+pub use answer_lines::{byte_at, without_white_end};
 pub use answers::Answers;

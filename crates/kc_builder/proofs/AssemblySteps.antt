@@ -1,7 +1,7 @@
 -- The collected lists represent the tree.
 use Rattle.kc_builder.proofs.Common.{◌≡◌, ℕ, zero, suc, ◌+◌, ◌<◌, ◌≤◌, ◌^◌, Bool, true, false, cond, List, [], ◌∷◌, length, map, reverse, Option, Some, None, refl, ap, sym, subst, ◌∙◌, arith, All, filter, filter_map, flat_map, slice_get, option_to_list, option_and_then, cons_option, length-map}
 use Rattle.kc_builder.proofs.Common.{All-append, All-cons, All-nil, Language, Exprs, index_of_name, Files, Group, defined_name, GroupInContext, Contents, contents_of, choice_number, names_defined, IsSound, faults_of_group, get_below, place-get, Listing, text_of_name, HasNoFaults, TreeModel}
-use Rattle.kc_builder.proofs.Common.{member_default_view, IsReadIn, RepresentsAllConditions, choice_defaults_of, opens, IsChoiceRow, AreChoiceRows, AreAttributes, AreKeys, gathered_tree, items_of, entry_from_row, IsRowOf, AreRowsOf, Summary, AreParts, GroupParts, ChoiceRow, SymbolRow, count_is}
+use Rattle.kc_builder.proofs.Common.{member_default_view, IsReadIn, RepresentsAllConditions, choice_defaults_of, opens, IsChoiceRow, AreChoiceRows, AreAttributes, AreKeys, gathered_tree, items_of, IsRowOf, AreRowsOf, Summary, AreParts, GroupParts, ChoiceRow, SymbolRow, count_is}
 use Rattle.kc_builder.proofs.Common.{reading, RepresentsListing}
 use Rattle.kc_tree_model.specs.Trees as tree
 use Rattle.kc_tree_model.specs.Contents.{begins_symbol, symbol_of, choice_of, tree_of_groups, tree_of_files}
@@ -13,17 +13,18 @@ use Rattle.kc_tree_model.proofs.Consistency.Places.{is_read}
 use Rattle.kc_tree_model.specs.TreeFaults.{first_tree_fault, tree_faults}
 use Rattle.kc_tree_model.proofs.Consistency.Lists.{map-get}
 use Rattle.kc_tree_model.proofs.Consistency.Units.{number_is}
-use Rattle.kc_builder.specs.checker.Assembly.{IsGathering, IsWalk}
+use Rattle.kc_builder.specs.checker.Assembly.{IsGathering, IsWalk, lists_from}
 use Rattle.kc_conditions.specs.declared.listing_walk.WalkedListing.{WalkedListing}
 use Rattle.kc_tree.specs.between.GatheredFits.{GatheredFit}
 use Rattle.kc_tree.specs.between.GatheredView.{symbol_gathered, choice_gathered}
-use Rattle.kc_tree.specs.between.PartsView.{from_rows}
+use Rattle.kc_tree.specs.between.StoredView.{from_rows}
 use Rattle.kc_checks.specs.between.Summaries.{own_choice, member_in, members_at, member_keys_at, IsSummary, IsSummaryOf}
 use Rattle.kc_tree.specs.declared.tree_lists.TreeLists.{TreeLists}
 use Rattle.kc_checks.proofs.GroupPlaces.{placed_count}
 use Rattle.kc_checks.proofs.MemberLaw.{own_members_are}
 use Rattle.kc_checks.proofs.MemberMarks.{enclosing_below, keys_small}
 use Rattle.std.proofs.lemmas.List.Sums.{count_by-le-length, length-filter}
+use Rattle.std.specs.Global.{Vec}
 use Rattle.kc_builder.proofs.UnitLaw.{unit_read, units_read, units_same}
 
 -- symbols
@@ -182,13 +183,9 @@ walk_read language l w files root k written shows walked = record {
 }
 
 -- the whole, part by part
-module _ (files : Files) (root : List ℕ) (l : Listing) (symbols : List SymbolRow) (parts : GroupParts) (summary : Summary) (g : TreeLists)
-    (arena_is : g.arena ≡ l.names.arena) (symbols_is : g.symbols.items ≡ symbols) (attributes_is : g.attributes ≡ parts.attributes)
-    (choices_is : g.choices ≡ parts.rows) (members_is : g.members ≡ summary.own_members)
-    (defaults_is : g.member_defaults ≡ parts.defaults) (entries_is : g.entries ≡ parts.entries) (titles_is : g.titles ≡ l.texts)
-    (units_is : g.units ≡ summary.units) (language_is : g.language ≡ files.language)
-    (shows : RepresentsListing l (reading files root).read)
-    (s : AreRowsOf l.names.arena (contents_of (reading files root).read) (names_defined (reading files root).read) symbols)
+module _ (files : Files) (root : List ℕ) (language : Language) (l : Listing) (symbols : Vec SymbolRow) (parts : GroupParts) (summary : Summary)
+    (language_is : language ≡ files.language) (shows : RepresentsListing l (reading files root).read)
+    (s : AreRowsOf l.names.arena (contents_of (reading files root).read) (names_defined (reading files root).read) symbols.items)
     (k : AreParts files.language l (reading files root).read parts) (m : IsSummary (reading files root).read summary)
     (none : HasNoFaults (reading files root).read) (few : length l.groups.items < 2 ^ 32) where
   abbrev read : List Group
@@ -197,27 +194,15 @@ module _ (files : Files) (root : List ℕ) (l : Listing) (symbols : List SymbolR
   abbrev c : Contents
   c = contents_of (reading files root).read
 
+  abbrev g : TreeLists
+  g = lists_from language l symbols parts summary
+
   summed : IsSummaryOf c c.places summary
   unfolding IsSummary
   summed = m
 
   sound : IsSound c
   sound = sound_contents (reading files root).read (is_read files root)
-
-  rows : AreRowsOf g.arena c c.names g.symbols.items
-  rows = rw (arena_is, symbols_is) s
-
-  attributes : AreAttributes files.language g.arena c g.attributes
-  attributes = rw (arena_is, attributes_is) k.attributes
-
-  choice_rows : AreChoiceRows files.language g.arena (filter opens c.places) g.choices.items
-  choice_rows = rw (arena_is, choices_is) k.rows
-
-  keys : g.members.keys.items ≡ flat_map (member_keys_at (own_choice c) c) c.places
-  keys = ap (λ v. v.keys.items) members_is ∙ summed.own_members.member_keys
-
-  items : g.members.items.items ≡ flat_map (members_at (own_choice c) c) c.places
-  items = ap (λ v. v.items.items) members_is ∙ summed.own_members.members
 
   defaults_by : (o : Option GroupInContext) → choice_defaults_of files.language c o ≡ elim o as (λ _. List tree.MemberDefault)
       [ None ↦ [] | Some p ↦ (choice_of files.language c p).defaults ]
@@ -227,27 +212,29 @@ module _ (files : Files) (root : List ℕ) (l : Listing) (symbols : List SymbolR
   defaults : (j : ℕ)
       → map (member_default_view g.arena) (items_of j g.member_defaults.keys.items g.member_defaults.items.items)
       ≡ elim (slice_get (filter opens c.places) j) as (λ _. List tree.MemberDefault) [ None ↦ [] | Some p ↦ (choice_of files.language c p).defaults ]
-  defaults j = rw (arena_is, defaults_is) (k.defaults.are j ∙ defaults_by (slice_get (filter opens c.places) j))
-
-  entries : map (entry_from_row g.arena g.titles.items) g.entries.items ≡ (tree_of_groups files.language read).entries
-  entries = rw (arena_is, titles_is, entries_is) k.entries
+  defaults j = k.defaults.are j ∙ defaults_by (slice_get (filter opens c.places) j)
 
   units : g.units.items ≡ units_read c
   unfolding tree_faults
-  units =
-      ap (λ v. v.items) units_is ∙ summed.units
-      ∙ units_same none.0 read sound (λ p h. nothing_at (faults_of_group none.0 c) c.places p none.1 h)
+  units = summed.units ∙ units_same none.0 read sound (λ p h. nothing_at (faults_of_group none.0 c) c.places p none.1 h)
 
   pub whole : gathered_tree g ≡ tree_of_groups files.language read
   unfolding tree_of_groups
-  whole = rw (symbols_are _ g c attributes g.symbols.items rows, choices_are _ g c sound keys items defaults g.choices.items choice_rows, entries, units, language_is) refl
+  whole =
+      rw (
+        symbols_are _ g c k.attributes g.symbols.items s,
+        choices_are _ g c sound summed.own_members.member_keys summed.own_members.members defaults g.choices.items k.rows,
+        k.entries,
+        units,
+        language_is,
+      ) refl
 
   many_symbols : length g.symbols.items ≡ length c.names
-  many_symbols = as_many_rows g.arena c c.names g.symbols.items rows
+  many_symbols = as_many_rows g.arena c c.names g.symbols.items s
 
   many_choices : length g.choices.items ≡ length c.choices
   many_choices =
-      as_many_choices _ g.arena (filter opens c.places) g.choices.items choice_rows
+      as_many_choices _ g.arena (filter opens c.places) g.choices.items k.rows
       ∙ sym (length-map (filter opens c.places) (λ (p : GroupInContext). p.group.number))
 
   many_names : length l.names.symbols.items ≡ length c.names
@@ -260,7 +247,7 @@ module _ (files : Files) (root : List ℕ) (l : Listing) (symbols : List SymbolR
 
   few_choices : length g.choices.items < 2 ^ 32
   few_choices =
-      omega (arith, length-filter opens c.places, count_by-le-length opens c.places, many_places, few, as_many_choices _ g.arena (filter opens c.places) g.choices.items choice_rows)
+      omega (arith, length-filter opens c.places, count_by-le-length opens c.places, many_places, few, as_many_choices _ g.arena (filter opens c.places) g.choices.items k.rows)
 
   few_units : length g.units.items < 2 ^ 32
   few_units =
@@ -277,21 +264,21 @@ module _ (files : Files) (root : List ℕ) (l : Listing) (symbols : List SymbolR
     few_symbols = omega (arith, many_symbols, few_names);
     few_choices = few_choices;
     few_units = few_units;
-    names = rows_held g.arena c c.names g.symbols.items rows;
-    keys = rw many_symbols attributes.keys;
-    member_keys = rw (many_choices, keys) (keys_of_all (length c.choices) (flat_map (member_keys_at (own_choice c) c) c.places) (keys_small c (own_choice c) (λ p j e. own_fits c (begins_symbol c p) p.choice j e) c.places));
-    member_default_keys = rw (many_choices, defaults_is) k.defaults.keys;
-    prompts = attributes.prompts_fit;
-    defaults = attributes.defaults_fit;
-    ranges = attributes.ranges_fit;
-    bounds = attributes.bounds_fit;
-    selectors = rw many_symbols attributes.selectors_fit;
-    impliers = rw many_symbols attributes.impliers_fit;
-    direct = attributes.direct_fit;
-    choice_prompts = λ j i r at is. prompts_held _ g.arena (filter opens c.places) g.choices.items choice_rows j i r at is;
-    members = rw (many_symbols, items) (members_fit c c.places);
-    member_defaults = rw (many_symbols, ← many_names, arena_is, defaults_is) k.defaults.fits;
-    entries = rw (many_symbols, ← many_names, many_choices, arena_is, titles_is, entries_is) k.entries_fit;
+    names = rows_held g.arena c c.names g.symbols.items s;
+    keys = rw many_symbols k.attributes.keys;
+    member_keys = rw (many_choices, summed.own_members.member_keys) (keys_of_all (length c.choices) (flat_map (member_keys_at (own_choice c) c) c.places) (keys_small c (own_choice c) (λ p j e. own_fits c (begins_symbol c p) p.choice j e) c.places));
+    member_default_keys = rw many_choices k.defaults.keys;
+    prompts = k.attributes.prompts_fit;
+    defaults = k.attributes.defaults_fit;
+    ranges = k.attributes.ranges_fit;
+    bounds = k.attributes.bounds_fit;
+    selectors = rw many_symbols k.attributes.selectors_fit;
+    impliers = rw many_symbols k.attributes.impliers_fit;
+    direct = k.attributes.direct_fit;
+    choice_prompts = λ j i r at is. prompts_held _ g.arena (filter opens c.places) g.choices.items k.rows j i r at is;
+    members = rw (many_symbols, summed.own_members.members) (members_fit c c.places);
+    member_defaults = rw (many_symbols, ← many_names) k.defaults.fits;
+    entries = rw (many_symbols, ← many_names, many_choices) k.entries_fit;
   }
 
   pub is_gathering : IsGathering files.language (reading files root).read g

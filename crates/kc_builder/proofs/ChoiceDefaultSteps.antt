@@ -3,19 +3,19 @@ use Rattle.std.specs.Prelude.{slice_index}
 use Rattle.kc_builder.proofs.Common.{◌≡◌, ℕ, zero, suc, ◌+◌, ◌<◌, ◌==◌, Bool, true, false, cond, List, [], ◌∷◌, ◌++◌, length, map, Option, Some, None, refl, ap, sym, subst, ◌∙◌, arith, append-nil, All, slice_get, option_map, option_and_then, filter, filter_map, flat_map, is_none, cons_option}
 use Rattle.kc_builder.proofs.Common.{eq-eqb, eqb-true, map-append, length-map, All-append, All-cons, All-nil, Language, Exprs, node_expr, Expr, index_of_name, attribute_in, SymbolTable, number_in, HasNames, line_in, RepresentsHead, Listing, as_many_names, names_defined, DefaultAttribute, default_of}
 use Rattle.kc_builder.proofs.Common.{Group, Line, of_head, open_blocks, context_of, GroupInContext, group_in_context, groups_in_context, attribute_condition, Contents, contents_of, place-get, faults_of_group, HasNoFaults, member_default_view, member_default_row, member_default_rows}
-use Rattle.kc_builder.proofs.Common.{choice_defaults_of, AreDefaultsOf, IsWalkOf, opens, own_conditions, read_before, group_at, own_lines, is_choice_code, ItemsWithKeys, GroupConditions, none_before, all_before, count_is, AreKeys, items_of, condition_at, CodeAttribute, CodeLine, RepresentsListing}
+use Rattle.kc_builder.proofs.Common.{choice_defaults_of, AreDefaultsOf, IsWalkOf, opens, own_conditions, read_before, group_at, own_lines, is_choice_code, ItemsWithKeys, GroupConditions, none_before, all_before, count_is, AreKeys, items_of, condition_at, ReadAttribute, CodeLine, RepresentsListing}
 use Rattle.kc_builder.proofs.Common.{CodeHead}
 use Rattle.std.proofs.lemmas.Bool.{false≢true}
 use Rattle.std.proofs.lemmas.Option.{slice_get_within, slice_get_past}
 use Rattle.std.proofs.lemmas.List.Concat.{flat_map-cons}
 use Rattle.kc_expr.specs.between.Names.{name_alone}
 use Rattle.kc_statements.specs.between.StatementViews.{default_in}
-use Rattle.kc_statements.specs.declared.statement.Attribute.TheVariants as attributes
+use Rattle.kc_tree_model.specs.declared.statement.Attribute.TheVariants as attributes
 use Rattle.kc_parser.specs.declared.listing.GroupHead.TheVariants as codes
 use Rattle.kc_tree_model.specs.Trees as tree
 use Rattle.kc_tree_model.specs.declared.fault.TreeKind.{TreeKind}
 use Rattle.kc_tree_model.specs.declared.fault.TreeKind.TheVariants.{ChoiceDefault}
-use Rattle.kc_tree_model.specs.Statements.{choice}
+use Rattle.kc_tree_model.specs.declared.statement.Head.TheVariants.{Choice as choice}
 use Rattle.kc_tree_model.specs.Contents.{bare_name, member_named, member_names, member_default, name_among}
 use Rattle.kc_tree_model.specs.TreeFaults.{when, second_prompt, choice_faults, is_no_member, faults_at, faults_of_lines, tree_faults}
 use Rattle.kc_tree.specs.between.Views.{MemberDefaultFits}
@@ -105,7 +105,7 @@ module _ (language : Language) (n : SymbolTable) (symbols : List ℕ) (c : Conte
       ∙ ap (option_map (λ s. (let m : tree.MemberDefault = record { member = s; condition = attribute_condition (context_of language p) p.group d.condition } in m)))
       (symbol ∙ sym (ap (option_and_then (λ y. index_of_name y c.names)) m.1))
 
-  one_default : (p : GroupInContext) (k : ℕ) (a : CodeAttribute) (x : ℕ)
+  one_default : (p : GroupInContext) (k : ℕ) (a : ReadAttribute) (x : ℕ)
       → node_expr n.arena x ≡ condition_at language p (record { number = k; attribute = attribute_in n.arena a })
       → NamesMember (member_names c p.group.number) (default_of (attribute_in n.arena a))
       → option_map (member_default_view n.arena) (option_map (λ s. (let m : MemberDefault = record { member = s; condition = x } in m))

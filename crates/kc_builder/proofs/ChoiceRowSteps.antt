@@ -2,16 +2,16 @@
 use Rattle.std.proofs.Common.{◌||◌}
 use Rattle.kc_builder.proofs.Common.{◌≡◌, ℕ, suc, ◌+◌, ◌<◌, Bool, true, false, cond, List, [], ◌∷◌, ◌++◌, length, map, reverse, Some, refl, ap, sym, subst, ◌∙◌, arith, append-nil, All, filter, filter_map, slice_get, option_map, length-map, list_any, Language, Exprs, node_expr, Expr, attribute_in}
 use Rattle.kc_builder.proofs.Common.{is_prompt, prompt_of, Group, Line, open_blocks, context_of, GroupInContext, group_in_context, groups_in_context, prompt_condition, Listing, line_in, RepresentsGroup, names_defined, opens, IsChoiceRow, AreChoiceRows, conditions_at, own_conditions, read_before}
-use Rattle.kc_builder.proofs.Common.{group_at, own_lines, is_choice_code, condition_at, RepresentsConditions, RepresentsAllConditions, ChoiceRow, GroupConditions, shown_at, placed_more, none_before, all_before, count_is, conditioned_at, CodeAttribute, CodeLine, RepresentsListing}
+use Rattle.kc_builder.proofs.Common.{group_at, own_lines, is_choice_code, condition_at, RepresentsConditions, RepresentsAllConditions, ChoiceRow, GroupConditions, shown_at, placed_more, none_before, all_before, count_is, conditioned_at, ReadAttribute, CodeLine, RepresentsListing}
 use Rattle.std.proofs.lemmas.List.Elements.{filter-append}
-use Rattle.kc_statements.specs.between.StatementViews.{is_optional_code}
-use Rattle.kc_statements.specs.declared.statement.Attribute.TheVariants as attributes
 use Rattle.kc_tree_model.specs.Statements.{is_optional}
+use Rattle.kc_statements.proofs.AttributeViews.{is_optional_same}
+use Rattle.kc_tree_model.specs.declared.statement.Attribute.TheVariants as attributes
 use Rattle.kc_tree_model.specs.Conditions.{prompts_of}
 use Rattle.kc_builder.specs.checker.ChoiceRows.{is_optional_line, choice_row, group_rows}
 use Rattle.kc_conditions.specs.between.Firsts.{first_prompt}
 use Rattle.kc_conditions.proofs.GroupConditionLemmas.{conditions_count}
-use Rattle.kc_checks.proofs.Rounds.{begins_is}
+use Rattle.kc_parser.proofs.ChoiceSteps.{begins_is}
 
 same_group : (m n : Group) (a b : List Group) → m ∷ a ≡ n ∷ b → m ≡ n
 same_group m n a b e = cc
@@ -21,7 +21,7 @@ module _ (language : Language) (old far : Exprs) (p : GroupInContext) where
   abbrev prompts_among : List Line → List Expr
   prompts_among lines = map (prompt_condition (context_of language p) p.group) (filter_map (λ (l : Line). prompt_of l.attribute) lines)
 
-  prompt_one : (n : ℕ) (a : CodeAttribute) (o : ℕ) (os : List ℕ) (ls : List CodeLine) (rest : List Line)
+  prompt_one : (n : ℕ) (a : ReadAttribute) (o : ℕ) (os : List ℕ) (ls : List CodeLine) (rest : List Line)
       → node_expr far o ≡ condition_at language p (record { number = n; attribute = attribute_in old a })
       → option_map (node_expr far) (first_prompt ls os) ≡ slice_get (prompts_among rest) 0
       → option_map (node_expr far) (first_prompt (record { number = n; attribute = a } ∷ ls) (o ∷ os)) ≡ slice_get
@@ -45,13 +45,9 @@ module _ (language : Language) (old far : Exprs) (p : GroupInContext) where
   prompt_shown ls os a e = prompt_first ls os (e ∙ ap (map (condition_at language p)) a) ∙ sym (ap (λ xs. slice_get (prompts_among xs) 0) a)
 
 -- the attribute `optional`
-optional_one : (old : Exprs) (a : CodeAttribute) → is_optional_code a ≡ is_optional (attribute_in old a)
-optional_one old (attributes.Typed k) = refl
-optional_one old x = refl
-
 optional_shown : (old : Exprs) (ls : List CodeLine) → list_any is_optional_line ls ≡ list_any (λ (l : Line). is_optional l.attribute) (map (line_in old) ls)
 optional_shown old [] = refl
-optional_shown old (l ∷ ls) = ap (λ b. b || list_any is_optional_line ls) (optional_one old l.attribute)
+optional_shown old (l ∷ ls) = ap (λ b. b || list_any is_optional_line ls) (is_optional_same old l.attribute)
     ∙ ap (λ b. is_optional (attribute_in old l.attribute) || b) (optional_shown old ls)
 
 prompt_held : (n : ℕ) (ls : List CodeLine) (os : List ℕ) → All (λ i. i < n) os → (i : ℕ) → first_prompt ls os ≡ Some i → i < n

@@ -18,7 +18,7 @@ pub use Rattle.kc_builder.specs.checker.Rows.{AreRowsOf, IsRowOf, row_of_symbol,
 pub use Rattle.kc_builder.specs.declared.group_parts.GroupParts.{GroupParts}
 pub use Rattle.kc_checks.proofs.GroupPlaces.{all_before, count_is, none_before, placed_more, shown_at}
 pub use Rattle.kc_checks.specs.between.FaultSearch.{HasNoFaults, choices_before}
-pub use Rattle.kc_checks.specs.between.Summaries.{IsRepresented, attributes_end, group_at, is_choice_code, no_group, own_lines, read_before}
+pub use Rattle.kc_checks.specs.between.Summaries.{IsRepresented, attributes_end, group_at, no_group, own_lines, read_before}
 unfoldable pub use Rattle.kc_checks.specs.between.Summaries.{IsSummary}
 pub use Rattle.kc_checks.specs.declared.summary.Summary.{Summary}
 pub use Rattle.kc_checks.specs.declared.summary.SymbolSummary.{SymbolSummary}
@@ -31,6 +31,7 @@ pub use Rattle.kc_expr.specs.Expr.{Expr}
 pub use Rattle.kc_expr.specs.Lookup.{index_of_name}
 pub use Rattle.kc_expr.specs.between.Arena.{Exprs, Represents, node_expr}
 pub use Rattle.kc_parser.proofs.NameLemmas.{as_many_names}
+pub use Rattle.kc_parser.specs.between.EnclosingChoices.{is_choice_code}
 pub use Rattle.kc_parser.specs.between.ListingView.{LineNodesExist, RepresentsGroup, RepresentsGroups, RepresentsHead, line_in}
 unfoldable pub use Rattle.kc_parser.specs.between.ListingView.{RepresentsListing}
 pub use Rattle.kc_parser.specs.between.MemoryFaults.{no_memory}
@@ -40,23 +41,23 @@ pub use Rattle.kc_parser.specs.declared.listing.GroupHead.{GroupHead as CodeHead
 pub use Rattle.kc_parser.specs.declared.listing.Line.{Line as CodeLine}
 pub use Rattle.kc_parser.specs.declared.listing.Listing.{Listing}
 pub use Rattle.kc_parser.specs.declared.listing.SymbolTable.{SymbolTable}
-pub use Rattle.kc_statements.specs.between.StatementViews.{AttributeNodesExist, attribute_in, is_prompt, target_given}
-pub use Rattle.kc_statements.specs.declared.statement.Attribute.{Attribute as CodeAttribute}
-pub use Rattle.kc_statements.specs.declared.statement.ReverseKind.{ReverseKind}
-pub use Rattle.kc_statements.specs.declared.statement.ReverseKind.TheVariants.{Imply, Select}
+pub use Rattle.kc_statements.specs.between.StatementViews.{AttributeNodesExist, attribute_in, ReadAttribute}
+pub use Rattle.kc_tree_model.specs.between.Attributes.{is_prompt, target_given}
+pub use Rattle.kc_tree_model.specs.declared.statement.ReverseKind.{ReverseKind}
+pub use Rattle.kc_tree_model.specs.declared.statement.ReverseKind.TheVariants.{Imply, Select}
 pub use Rattle.kc_tokens.specs.declared.language.Language.{Language}
 pub use Rattle.kc_tree.specs.TreeModel.{TreeModel}
 pub use Rattle.kc_tree.specs.between.GatheredAttributes.{AreKeys}
 pub use Rattle.kc_tree.specs.between.GatheredView.{gathered_tree}
 pub use Rattle.kc_tree.specs.between.GroupedItems.{items_of}
-pub use Rattle.kc_tree.specs.between.PartsView.{entry_from_row}
-pub use Rattle.kc_tree.specs.between.StoredParts.{EntryRowFits}
+pub use Rattle.kc_tree.specs.between.StoredView.{entry_from_row}
+pub use Rattle.kc_tree.specs.between.StoredFits.{EntryRowFits}
 pub use Rattle.kc_tree.specs.between.Views.{DefaultFits, ReverseDependencyFits, member_default_view}
 pub use Rattle.kc_tree.specs.declared.items_with_keys.ItemsWithKeys.{ItemsWithKeys}
-pub use Rattle.kc_tree.specs.declared.parts.ChoiceRow.{ChoiceRow}
-pub use Rattle.kc_tree.specs.declared.parts.SymbolRow.{SymbolRow}
+pub use Rattle.kc_tree.specs.declared.rows.ChoiceRow.{ChoiceRow}
+pub use Rattle.kc_tree.specs.declared.rows.SymbolRow.{SymbolRow}
 pub use Rattle.kc_tree.specs.declared.symbol.ReverseDependency.{ReverseDependency}
-pub use Rattle.kc_tree.specs.declared.tree_lists.Attributes.{Attributes}
+pub use Rattle.kc_tree.specs.declared.attributes.Attributes.{Attributes}
 pub use Rattle.kc_tree_model.proofs.Consistency.Definitions.{IsSound}
 pub use Rattle.kc_tree_model.proofs.Consistency.Lists.{Differ, Differ-once, Has, get_below, number-get, place-get}
 pub use Rattle.kc_tree_model.specs.Blocks.{Group, GroupHead, Line, closing, defined_name, from_head, is_some_block, of_head, open_blocks, side_of}
@@ -64,7 +65,8 @@ pub use Rattle.kc_tree_model.specs.Conditions.{GroupInContext, attribute_conditi
 pub use Rattle.kc_tree_model.specs.Contents.{Contents, choice_number, contents_of, defines, definitions_of}
 unfoldable pub use Rattle.kc_tree_model.specs.Contents.{tree_of_files, tree_of_groups}
 pub use Rattle.kc_tree_model.specs.Limits.{names_defined}
-pub use Rattle.kc_tree_model.specs.Statements.{Attribute, DefaultAttribute, RangeAttribute, TargetAttribute, block_of_head, config, default_of, name_of_head, prompt_of, range_of}
+pub use Rattle.kc_tree_model.specs.Statements.{Attribute, DefaultAttribute, RangeAttribute, TargetAttribute, block_of_head, default_of, name_of_head, prompt_of, range_of}
+pub use Rattle.kc_tree_model.specs.declared.statement.Head.TheVariants.{Config as config}
 pub use Rattle.kc_tree_model.specs.TreeFaults.{faults_of_group}
 unfoldable pub use Rattle.kc_tree_model.specs.TreeFaults.{tree_faults}
 pub use Rattle.kc_tree_model.specs.TreeFiles.{Files}

@@ -15,8 +15,8 @@ use Rattle.kc_tree_model.specs.Contents.{entry_of_head, menu_end_of}
 use Rattle.kc_parser.specs.declared.listing.GroupHead.TheVariants as codes
 use Rattle.kc_builder.specs.checker.Entries.{entry_row}
 use Rattle.kc_conditions.specs.between.Walks.{RepresentsEnd}
-use Rattle.kc_tree.specs.declared.parts.EntryRow.{EntryRow}
-use Rattle.kc_tree.specs.declared.parts.EntryRow.TheVariants.{Definition, ChoiceBegins, MenuBegins, MenuEnds, Comment}
+use Rattle.kc_tree.specs.declared.rows.EntryRow.{EntryRow}
+use Rattle.kc_tree.specs.declared.rows.EntryRow.TheVariants.{Definition, ChoiceBegins, MenuBegins, MenuEnds, Comment}
 use Rattle.kc_checks.proofs.GroupPlaces.{are_numbers, numbers_before}
 use Rattle.kc_checks.proofs.Rounds.{number_counts}
 use Rattle.kc_checks.proofs.Symbols.{place_is}

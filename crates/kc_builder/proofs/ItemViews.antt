@@ -2,10 +2,10 @@
 use Rattle.kc_builder.proofs.Common.{◌≡◌, ℕ, suc, ◌<◌, Bool, true, false, cond, List, [], ◌∷◌, length, map, Option, Some, None, refl, ap, sym, ◌∙◌, subst, arith, filter_map, option_map, option_and_then, All, IfSome, is_some, cons_option, All-nil, All-cons, Language, Exprs, node_expr, Expr}
 use Rattle.kc_builder.proofs.Common.{index_of_name, attribute_in, AttributeNodesExist, is_prompt, target_given, Attribute, DefaultAttribute, RangeAttribute, TargetAttribute, prompt_of, default_of, range_of, Line, context_of, GroupInContext, prompt_condition, attribute_condition, get_below}
 use Rattle.kc_builder.proofs.Common.{place-get, SymbolTable, HasNames, number_in, text_of_name, LineNodesExist, line_in, DefaultFits, ReverseDependencyFits, gathered_prompt, gathered_default, gathered_range, gathered_target, gathered_reverse_dependency, own_key, target_key, gathered_items}
-use Rattle.kc_builder.proofs.Common.{condition_at, ReverseKind, Select, Imply, ReverseDependency, CodeAttribute, CodeLine}
+use Rattle.kc_builder.proofs.Common.{condition_at, ReverseKind, Select, Imply, ReverseDependency, ReadAttribute, CodeLine}
 use Rattle.kc_expr.specs.Expr.{Operand}
 use Rattle.kc_expr.specs.between.Operand.{operand_alone}
-use Rattle.kc_statements.specs.declared.statement.Attribute.TheVariants as attributes
+use Rattle.kc_tree_model.specs.declared.statement.Attribute.TheVariants as attributes
 use Rattle.kc_statements.specs.between.StatementViews as statement_views
 use Rattle.kc_tree_model.specs.Trees as tree
 use Rattle.kc_tree_model.specs.Statements.{select_of, imply_of}
@@ -52,7 +52,7 @@ pairs_fit P item e (l ∷ ls) (i ∷ cs) w v h =
 
 -- prompts
 module _ (language : Language) (e : Exprs) (p : GroupInContext) where
-  prompt_by : (a : CodeAttribute) (number i : ℕ) → node_expr e i ≡ condition_at language p (record { number = number; attribute = attribute_in e a })
+  prompt_by : (a : ReadAttribute) (number i : ℕ) → node_expr e i ≡ condition_at language p (record { number = number; attribute = attribute_in e a })
       → option_map (node_expr e) (cond (is_prompt a) (Some i) None) ≡ option_map (prompt_condition (context_of language p) p.group) (prompt_of (attribute_in e a))
   prompt_by (attributes.TypedPrompt k c) n i s = ap Some s
   prompt_by (attributes.Prompt c) n i s = ap Some s
@@ -63,7 +63,7 @@ module _ (language : Language) (e : Exprs) (p : GroupInContext) where
   prompt_item l i w s = prompt_by l.attribute l.number i s
 
   -- defaults
-  default_by : (a : CodeAttribute) (number i : ℕ) → node_expr e i ≡ condition_at language p (record { number = number; attribute = attribute_in e a })
+  default_by : (a : ReadAttribute) (number i : ℕ) → node_expr e i ≡ condition_at language p (record { number = number; attribute = attribute_in e a })
       → option_map (views.default_view e) (gathered_default (record { number = number; attribute = a }) i) ≡ option_map
       (λ (d : DefaultAttribute). let x : tree.Default = record { value = d.value; condition = attribute_condition (context_of language p) p.group d.condition; from_environment = d.from_environment } in x)
       (default_of (attribute_in e a))
@@ -81,7 +81,7 @@ module _ (language : Language) (e : Exprs) (p : GroupInContext) where
   operand_same : (id : ℕ) → statement_views.OperandNodeExists e id → views.operand_or_empty (node_expr e id) ≡ statement_views.operand_or_n e id
   operand_same id h = ap views.operand_or_empty h.is
 
-  range_by : (a : CodeAttribute) (number i : ℕ) → AttributeNodesExist e a
+  range_by : (a : ReadAttribute) (number i : ℕ) → AttributeNodesExist e a
       → node_expr e i ≡ condition_at language p (record { number = number; attribute = attribute_in e a })
       → option_map (views.range_view e) (gathered_range (record { number = number; attribute = a }) i) ≡ option_map
       (λ (b : RangeAttribute). let x : tree.Range = record {
@@ -107,7 +107,7 @@ module _ (language : Language) (e : Exprs) (p : GroupInContext) where
 
 -- they are under their symbol
 module _ (e : Exprs) (names : List (List ℕ)) (x : List ℕ) (s : ℕ) (number : number_of names x ≡ s) where
-  prompt_key_by : (a : CodeAttribute) (i : ℕ)
+  prompt_key_by : (a : ReadAttribute) (i : ℕ)
       → option_map (λ _. s) (cond (is_prompt a) (Some i) None) ≡ option_map (λ _. number_of names x) (prompt_of (attribute_in e a))
   prompt_key_by (attributes.TypedPrompt k c) i = ap Some (sym number)
   prompt_key_by (attributes.Prompt c) i = ap Some (sym number)
@@ -116,7 +116,7 @@ module _ (e : Exprs) (names : List (List ℕ)) (x : List ℕ) (s : ℕ) (number 
   pub prompt_key : (l : CodeLine) (i : ℕ) → own_key s gathered_prompt l i ≡ own_key_of prompt_of names x (line_in e l)
   prompt_key l i = prompt_key_by l.attribute i
 
-  default_key_by : (a : CodeAttribute) (n i : ℕ)
+  default_key_by : (a : ReadAttribute) (n i : ℕ)
       → option_map (λ _. s) (gathered_default (record { number = n; attribute = a }) i) ≡ option_map (λ _. number_of names x) (default_of (attribute_in e a))
   default_key_by (attributes.TypedDefault k d) n i = ap Some (sym number)
   default_key_by (attributes.Default d) n i = ap Some (sym number)
@@ -125,7 +125,7 @@ module _ (e : Exprs) (names : List (List ℕ)) (x : List ℕ) (s : ℕ) (number 
   pub default_key : (l : CodeLine) (i : ℕ) → own_key s gathered_default l i ≡ own_key_of default_of names x (line_in e l)
   default_key l i = default_key_by l.attribute l.number i
 
-  range_key_by : (a : CodeAttribute) (n i : ℕ)
+  range_key_by : (a : ReadAttribute) (n i : ℕ)
       → option_map (λ _. s) (gathered_range (record { number = n; attribute = a }) i) ≡ option_map (λ _. number_of names x) (range_of (attribute_in e a))
   range_key_by (attributes.Range r) n i = ap Some (sym number)
   range_key_by a n i = refl
@@ -141,7 +141,7 @@ prompt_fit_by false i nodes h = tt
 pub prompt_fit : (e : Exprs) (l : CodeLine) (i : ℕ) → LineNodesExist e l → i < length e.nodes → IfSome (gathered_prompt l i) (λ k. k < length e.nodes)
 prompt_fit e l i w h = prompt_fit_by (is_prompt l.attribute) i (length e.nodes) h
 
-default_fit_by : (e : Exprs) (a : CodeAttribute) (n i : ℕ) → AttributeNodesExist e a → i < length e.nodes
+default_fit_by : (e : Exprs) (a : ReadAttribute) (n i : ℕ) → AttributeNodesExist e a → i < length e.nodes
     → IfSome (gathered_default (record { number = n; attribute = a }) i) (DefaultFits (length e.nodes))
 default_fit_by e (attributes.TypedDefault k d) n i w h = (w.0, h)
 default_fit_by e (attributes.Default d) n i w h = (w.0, h)
@@ -154,7 +154,7 @@ default_fit e l i w h = default_fit_by e l.attribute l.number i w h
 abbrev pub RangeStands : Exprs → Range → Type 0
 RangeStands e r = RangeFits (length e.nodes) r × HasOperands e r
 
-range_fit_by : (e : Exprs) (a : CodeAttribute) (n i : ℕ) → AttributeNodesExist e a → i < length e.nodes
+range_fit_by : (e : Exprs) (a : ReadAttribute) (n i : ℕ) → AttributeNodesExist e a → i < length e.nodes
     → IfSome (gathered_range (record { number = n; attribute = a }) i) (RangeStands e)
 range_fit_by e (attributes.Range r) n i w h = ((w.0.within, w.1.within, h), (ap is_some (ap operand_alone w.0.is), ap is_some (ap operand_alone w.1.is)))
 range_fit_by e a n i w h = tt
@@ -175,7 +175,7 @@ aim_of Select a = select_of a
 aim_of Imply a = imply_of a
 
 module _ (language : Language) (n : SymbolTable) (names : List (List ℕ)) (h : HasNames n.arena n.symbols.items n.numbers.items names) where
-  target_by : (f : ReverseKind) (a : CodeAttribute)
+  target_by : (f : ReverseKind) (a : ReadAttribute)
       → option_and_then (λ id. number_in n.arena.names n.numbers.items (text_of_name n.arena id)) (target_given f a)
       ≡ option_and_then (λ (b : TargetAttribute). index_of_name b.name names) (aim_of f (attribute_in n.arena a))
   target_by Select (attributes.Select a) = h.numbered (text_of_name n.arena a.name)
@@ -192,7 +192,7 @@ module _ (language : Language) (n : SymbolTable) (names : List (List ℕ)) (h : 
   made_by s i p None a e = refl
   made_by s i p (Some t) a e = ap (λ c. let y : tree.ReverseDependency = record { by = s; condition = c } in Some y) e
 
-  reverse_dependency_item_by : (f : ReverseKind) (a : CodeAttribute) (number s i : ℕ) (p : GroupInContext)
+  reverse_dependency_item_by : (f : ReverseKind) (a : ReadAttribute) (number s i : ℕ) (p : GroupInContext)
       → node_expr n.arena i ≡ condition_at language p (record { number = number; attribute = attribute_in n.arena a })
       → option_map (views.reverse_dependency_view n.arena) (option_map (λ _. let y : ReverseDependency = record { by = s; condition = i } in y)
       (option_and_then (λ id. number_in n.arena.names n.numbers.items (text_of_name n.arena id)) (target_given f a)))

@@ -1,7 +1,7 @@
 -- A listing represents one list of statements, so a summary of it stays one as its arena grows.
 use Rattle.kc_builder.proofs.Common.{◌≡◌, ℕ, List, [], ◌∷◌, length, reverse, Some, refl, ap, sym, subst, ◌∙◌, slice_get, slice_range, Exprs, config, Group, GroupHead, of_head, names_defined, Listing, RepresentsHead, RepresentsGroup, RepresentsGroups, Summary, CodeGroup, CodeLine, CodeHead}
 use Rattle.kc_builder.proofs.Common.{RepresentsListing}
-use Rattle.kc_tree_model.specs.Statements.{menu, comment, source}
+use Rattle.kc_tree_model.specs.declared.statement.Head.TheVariants.{Menu as menu, Comment as comment, Source as source}
 use Rattle.kc_parser.specs.declared.listing.GroupHead.TheVariants as codes
 use Rattle.kc_checks.specs.between.Summaries.{IsSummary, IsSummed}
 

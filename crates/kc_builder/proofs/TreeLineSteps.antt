@@ -6,20 +6,14 @@ use Rattle.kc_tree_model.specs.TreeReading.{Outcome, reading}
 use Rattle.kc_tree_model.specs.TreesOfFiles.{origin_of, IsTreeOfFiles}
 use Rattle.kc_tree_model.proofs.ReadingLaws.ReadingCompleteness.{whole_read}
 use Rattle.kc_builder.specs.between.TreeLines.{HasLines, IsTreeWithLines}
+use Rattle.kc_builder.specs.checker.Assembly.{lines_from}
 use Rattle.kc_builder.specs.declared.tree_lines.TreeLines.{TreeLines}
 
 -- the groups and lines of a listing are the lines of its statements
-pub lines_of_listing : (l : Listing) (arena : Exprs) (lines : TreeLines) (off : ℕ) (read : List Group) → RepresentsListing l read
-    → arena ≡ l.names.arena → lines.groups ≡ l.groups → lines.lines ≡ l.lines → lines.no ≡ off → length l.groups.items < 2 ^ 32 → Represents l.names.arena off (alone (constant N))
-    → HasLines arena lines read
+pub lines_of_listing : (l : Listing) (off : ℕ) (read : List Group) → RepresentsListing l read → length l.groups.items < 2 ^ 32
+    → Represents l.names.arena off (alone (constant N)) → HasLines l.names.arena (lines_from l off) read
 unfolding RepresentsListing
-lines_of_listing l arena lines off read h same groups own is few stands = record {
-  texts = l.texts.items;
-  held = rw (same, own) h.held;
-  groups_are = rw (same, own, groups) h.groups_are;
-  few = rw groups few;
-  no_is = rw (same, is) stands;
-}
+lines_of_listing l off read h few stands = record { texts = l.texts.items; held = h.held; groups_are = h.groups_are; few = few; no_is = stands }
 
 pub tree_with_lines : (files : Files) (root : List ℕ) (t : TreeModel) (lines : TreeLines) → IsTreeOfFiles files root t.tree
     → HasLines t.exprs lines (reading files root).read → IsTreeWithLines files root t lines

@@ -2,16 +2,15 @@
 ghost use Rattle.std.specs.Prelude.{◌≡◌, All, OnOk};
 ghost use Rattle.std.specs.List.{list_any};
 ghost use Rattle.kc_parser.specs.between.ListingView.{LineNodesExist};
-ghost use Rattle.kc_statements.specs.declared.statement.ReverseKind.TheVariants.{Select, Imply};
+ghost use Rattle.kc_tree_model.specs.declared.statement.ReverseKind.TheVariants.{Select, Imply};
 ghost use Rattle.kc_builder.specs.checker.Definitions.{HasLine, HasOwn};
 ghost use Rattle.kc_builder.specs.checker.GatheredItems.{has_target, target_key, gathered_prompt, gathered_default, gathered_range, gathered_target, gathered_reverse_dependency, HasAppended};
 
 use super::group_attributes::{GroupAttributes, push_optional};
 use kc_expr::ExprId;
 use kc_parser::{Line, SymbolTable};
-use kc_statements::{Attribute, ReverseKind};
 use kc_tree::{Attributes, Default, ItemsWithKeys, Range, ReverseDependency};
-use kc_tree_model::Sym;
+use kc_tree_model::{Attribute, ReverseKind, Sym};
 use std::alloc::AllocError;
 
 /// The given condition if an attribute line is a prompt, and `None` if not.

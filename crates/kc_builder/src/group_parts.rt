@@ -3,11 +3,12 @@ ghost use Rattle.std.specs.Prelude.{◌≡◌, ◌⊎◌, ◌<◌, ◌+◌, ◌^
 ghost use Rattle.kc_tokens.specs.declared.language.Language.{Language as AnyLanguage};
 ghost use Rattle.kc_tree_model.specs.Blocks.{Group as ModelGroup};
 ghost use Rattle.kc_tree_model.specs.TreeFaults.{tree_faults};
+ghost use Rattle.kc_parser.specs.between.EnclosingChoices.{is_choice_code};
 ghost use Rattle.kc_parser.specs.between.ListingView.{RepresentsListing};
 ghost use Rattle.kc_parser.specs.between.MemoryFaults.{no_memory};
 ghost use Rattle.kc_conditions.specs.between.GroupConditions.{conditions_at, own_conditions};
 ghost use Rattle.kc_checks.specs.between.FaultSearch.{AreFaultless};
-ghost use Rattle.kc_checks.specs.between.Summaries.{group_at, is_choice_code, own_lines, IsRepresented, IsSummed};
+ghost use Rattle.kc_checks.specs.between.Summaries.{group_at, own_lines, IsRepresented, IsSummed};
 ghost use Rattle.kc_builder.specs.checker.ChoiceDefaults.{IsWalkOf};
 ghost use Rattle.kc_builder.specs.checker.GroupParts.{AreEmpty, AreParts, HasGroup, HasNextGroup};
 
@@ -16,7 +17,7 @@ use super::choice_rows::push_row;
 use super::definitions::{no_attributes, push_attributes};
 use super::entries::push_entry;
 use super::group_attributes::GroupAttributes;
-use kc_checks::{Checks, Summary, lines_of, out_of_memory};
+use kc_checks::{Checks, Summary, lines_of};
 use kc_conditions::{GroupConditions, WalkedListing, conditions_of};
 use kc_expr::ExprId;
 use kc_parser::Listing;
@@ -34,7 +35,7 @@ pub(crate) struct GroupParts {
 }
 
 impl GroupParts {
-    /// What no group gives, with room for the entries of so many. An `Err` means out of memory.
+    /// What no group gives, with capacity for the entries of so many. An `Err` means out of memory.
     fn new(alloc: Global, groups: usize) -> Result<GroupParts, AllocError>
         ensures { IfOk result AreEmpty }
     {
@@ -108,7 +109,7 @@ impl GroupParts {
         let conditions = walked.conditions.as_slice();
         match self.push_group(listing, groups, conditions, choices, i) {
             Ok(()) => Ok(()),
-            Err(_) => Err(out_of_memory()),
+            Err(_) => Err(TreeFault::out_of_memory()),
         }
     }
 }
@@ -149,7 +150,7 @@ pub(crate) fn checked_parts(
     ensures fault { (read : List ModelGroup) → RepresentsListing walked.now.listing read → IfErr result (λ f. (f ≡ no_memory) ⊎ (Some f ≡ slice_get (tree_faults walked.now.language read) 0)) }
 {
     let Ok(state) = started(alloc, &walked.listing, summary) else {
-        return Err(out_of_memory());
+        return Err(TreeFault::out_of_memory());
     };
     let (mut checks, mut parts) = state;
     for i in 0..walked.listing.groups.len() {

@@ -27,16 +27,16 @@ fn place_of(groups: &[Group], number: Option<u32>) -> (u32, u32)
 }
 
 /// The row of a symbol of that name.
-fn row_of(groups: &[Group], name: NameId, about: &SymbolSummary) -> SymbolRow
-    ensures { result ≡ row_of_symbol groups.now name about.now }
+fn row_of(groups: &[Group], name: NameId, symbol_summary: &SymbolSummary) -> SymbolRow
+    ensures { result ≡ row_of_symbol groups.now name symbol_summary.now }
 {
-    let (file, line) = place_of(groups, about.first);
+    let (file, line) = place_of(groups, symbol_summary.first);
     SymbolRow {
         name,
-        kind: kind_in_tree(about.choice, about.given),
+        kind: kind_in_tree(symbol_summary.choice, symbol_summary.given),
         file,
         line,
-        choice: about.choice,
+        choice: symbol_summary.choice,
     }
 }
 

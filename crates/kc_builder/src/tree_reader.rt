@@ -5,17 +5,16 @@ ghost use Rattle.kc_parser.specs.between.MemoryFaults.{no_memory};
 ghost use Rattle.kc_builder.specs.between.TreeLines.{IsTreeWithLines};
 ghost use Rattle.kc_builder.specs.checker.Assembly.{IsGathered};
 
-use super::builder::{GatheredTree, lists_of, tree_of, tree_with_lines_of};
-use super::tree_lines::TreeWithLines;
-use kc_checks::out_of_memory;
+use super::builder::lists_of;
+use super::tree_lines::{TreeLines, TreeWithLines};
 use kc_parser::read_files;
-use kc_tree::Tree;
+use kc_tree::{Tree, TreeLists};
 use kc_tree_model::{Texts, TreeFault};
 use std::alloc::Global;
 
 /// Reads the files of a tree, makes the checks on the whole tree, and collects its lists; the faults are those of `read_tree`.
-fn read_lists(alloc: Global, texts: &Texts, root: &str) -> Result<GatheredTree, TreeFault>
-    ensures ok { IfOk result (IsGathered texts.now root.now) }
+fn read_lists(alloc: Global, texts: &Texts, root: &str) -> Result<(TreeLists, TreeLines), TreeFault>
+    ensures ok { IfOk result (λ r. IsGathered texts.now root.now r.0 r.1) }
     ensures fault { IfErr result (λ fault. (fault ≡ no_memory) ⊎ IsReportedFault texts.now root.now fault) }
 {
     let (listing, fault) = read_files(alloc, texts, root);
@@ -40,10 +39,11 @@ pub fn read_tree(alloc: Global, texts: &Texts, root: &str) -> Result<Tree, TreeF
     ensures tree { IfOk result (λ tree. IsTreeOfFiles texts.now root.now tree.tree) }
     ensures fault { IfErr result (λ fault. (fault ≡ no_memory) ⊎ IsReportedFault texts.now root.now fault) }
 {
-    let lists = read_lists(alloc, texts, root)?;
-    match tree_of(alloc, lists) {
+    let (lists, lines) = read_lists(alloc, texts, root)?;
+    drop(lines);
+    match lists.into_tree(alloc) {
         Ok(tree) => Ok(tree),
-        Err(_) => Err(out_of_memory()),
+        Err(_) => Err(TreeFault::out_of_memory()),
     }
 }
 
@@ -60,9 +60,9 @@ pub fn read_tree_with_lines(
     ensures lines { IfOk result (λ r. IsTreeWithLines texts.now root.now r.tree r.lines) }
     ensures fault { IfErr result (λ fault. (fault ≡ no_memory) ⊎ IsReportedFault texts.now root.now fault) }
 {
-    let lists = read_lists(alloc, texts, root)?;
-    match tree_with_lines_of(alloc, lists) {
-        Ok(read) => Ok(read),
-        Err(_) => Err(out_of_memory()),
+    let (lists, lines) = read_lists(alloc, texts, root)?;
+    match lists.into_tree(alloc) {
+        Ok(tree) => Ok(TreeWithLines { tree, lines }),
+        Err(_) => Err(TreeFault::out_of_memory()),
     }
 }

@@ -1,6 +1,6 @@
 -- The first fault of a definition, of an attribute, and of lines.
 use Rattle.kc_checks.proofs.Common.{◌≡◌, ℕ, suc, ◌+◌, ◌<◌, ◌≤◌, Bool, true, false, cond, ◌&&◌, ◌||◌, List, [], ◌∷◌, ◌++◌, length, get_or, drop, map, Option, Some, None, refl, ap, sym, ◌∙◌, arith, not, slice_get, is_some, is_none, bytes_eq, option_map, option_or, Language, Kind, Exprs, TreeFault}
-use Rattle.kc_checks.proofs.Common.{default_of, prompt_of, Group, Line, GroupInContext, Contents, choice_of_symbol, is_first_definition, type_given, is_again_in_choice, is_no_member_kind, may_follow_member, definition_faults, attribute_faults, choice_faults, faults_at, faults_of_lines, is_no_member}
+use Rattle.kc_checks.proofs.Common.{default_of, prompt_of, Group, Line, GroupInContext, Contents, choice_of_symbol, is_first_definition, type_given, is_again_in_choice, is_no_member_kind, only_extends_member, definition_faults, attribute_faults, choice_faults, faults_at, faults_of_lines, is_no_member}
 use Rattle.kc_checks.proofs.Common.{attribute_in, line_in, definition_kind, SymbolSummary, modules_name, CodeLine}
 use Rattle.std.specs.List.{list_all}
 use Rattle.std.proofs.Math.Seq.{drop-cons}
@@ -9,9 +9,9 @@ use Rattle.kc_tokens.specs.declared.language.Language.TheVariants.{Strict, Linux
 use Rattle.kc_tree_model.specs.declared.fault.TreeKind.{TreeKind}
 use Rattle.kc_tree_model.specs.Statements.{Attribute}
 use Rattle.kc_tree_model.specs.TreeFaults.{is_added_attribute, when, is_wrong_reverse_dependency}
-use Rattle.kc_statements.specs.declared.statement.Attribute.{Attribute as CodeAttribute}
-use Rattle.kc_statements.specs.declared.statement.Attribute.TheVariants as attributes
-use Rattle.kc_checks.specs.checker.Kinds.{is_added_code, is_added_line, may_follow_code, typed_kind, choice_kind}
+use Rattle.kc_statements.specs.between.StatementViews.{ReadAttribute}
+use Rattle.kc_tree_model.specs.declared.statement.Attribute.TheVariants as attributes
+use Rattle.kc_checks.specs.checker.Kinds.{is_added_code, is_added_line, only_extends_member_code, typed_kind, choice_kind}
 use Rattle.kc_checks.proofs.SymbolSummaries.{first_of_both}
 
 -- the first of a list that has one kind if a test holds is this kind if the test holds, and `None` if not
@@ -45,7 +45,7 @@ six true b c d e f j k l m n o = refl
 six false b c d e f j k l m n o = five b c d e f k l m n o
 
 -- whether a definition may follow that of a member
-added_one : (old : Exprs) (a : CodeAttribute) → is_added_code a ≡ is_added_attribute (attribute_in old a)
+added_one : (old : Exprs) (a : ReadAttribute) → is_added_code a ≡ is_added_attribute (attribute_in old a)
 added_one old (attributes.Typed k) = refl
 added_one old x = refl
 
@@ -60,7 +60,7 @@ not_some (Some n) = refl
 
 pub follow_is : (language : Language) (old : Exprs) (c : Contents) (name : List ℕ) (p : GroupInContext) (is_member is_again : Bool) (ls : List CodeLine)
     → is_member ≡ is_some p.choice → is_again ≡ is_again_in_choice c name p → p.group.attributes ≡ map (line_in old) ls
-    → may_follow_code language is_member is_again ls ≡ may_follow_member language c name p
+    → only_extends_member_code language is_member is_again ls ≡ only_extends_member language c name p
 follow_is Strict old c name p is_member is_again ls m g a = refl
 follow_is (Linux version) old c name p is_member is_again ls m g a =
     ap (λ b. (not is_member && list_all is_added_line ls) || b) g
@@ -70,13 +70,13 @@ follow_is (Linux version) old c name p is_member is_again ls m g a =
     ∙ ap (λ b. is_none p.choice && b) (added_all old ls ∙ ap (list_all (λ (l : Line). is_added_attribute l.attribute)) (sym a)))
 
 -- the kind of fault found in a definition from its symbol's summary is the first of the model's faults of the definition
-pub definition_is : (language : Language) (c : Contents) (p : GroupInContext) (name : List ℕ) (about : SymbolSummary)
+pub definition_is : (language : Language) (c : Contents) (p : GroupInContext) (name : List ℕ) (symbol_summary : SymbolSummary)
     (is_misfit is_first is_modules may_follow : Bool)
-    → about.given ≡ type_given c name → is_some about.choice ≡ is_some (choice_of_symbol c name)
+    → symbol_summary.given ≡ type_given c name → is_some symbol_summary.choice ≡ is_some (choice_of_symbol c name)
     → is_misfit ≡ (is_some p.choice && is_no_member_kind language (type_given c name))
-    → is_first ≡ is_first_definition c name p → is_modules ≡ bytes_eq name modules_name → may_follow ≡ may_follow_member language c name p
-    → definition_kind about is_misfit is_first is_modules may_follow ≡ slice_get (definition_faults language c p name) 0
-definition_is language c p name about is_misfit is_first is_modules may_follow given choice misfit first modules follow =
+    → is_first ≡ is_first_definition c name p → is_modules ≡ bytes_eq name modules_name → may_follow ≡ only_extends_member language c name p
+    → definition_kind symbol_summary is_misfit is_first is_modules may_follow ≡ slice_get (definition_faults language c p name) 0
+definition_is language c p name symbol_summary is_misfit is_first is_modules may_follow given choice misfit first modules follow =
     rw (given, choice, misfit, first, modules, follow) (sym (three _ _ _ _ _ _))
 
 -- the kind of fault found in an attribute of a typed symbol is the first of the model's faults of the attribute

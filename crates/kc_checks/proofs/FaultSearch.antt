@@ -2,7 +2,7 @@
 use Rattle.std.specs.Prelude.{IfSome}
 use Rattle.kc_checks.proofs.Common.{◌≡◌, inl, ◌&&◌, ℕ, zero, suc, ◌+◌, ◌-◌, ◌<◌, ◌≤◌, Bool, true, false, cond, List, [], ◌∷◌, length, get_or, map, replicate, reverse, Option, Some, None, refl, ap, sym, subst, ◌∙◌, arith, filter, slice_get, slice_index, slice_range, filter_map, flat_map, is_some}
 use Rattle.kc_checks.proofs.Common.{nat_lt, option_and_then, option_map, bytes_eq, All, list_any, option_or, flat_map-append, length-map, get_or_from_slice_get, Language, Exprs, index_of_name, TreeFault, config, choice, Group, GroupHead, of_head, defined_name, open_blocks, opens_choice}
-use Rattle.kc_checks.proofs.Common.{GroupInContext, group_in_context, groups_in_context, Contents, contents_of, choice_number, defines, definitions_of, is_first_definition, member_names, names_defined, is_again_in_choice, is_no_member_kind, may_follow_member, attribute_faults, choice_faults}
+use Rattle.kc_checks.proofs.Common.{GroupInContext, group_in_context, groups_in_context, Contents, contents_of, choice_number, defines, definitions_of, is_first_definition, member_names, names_defined, is_again_in_choice, is_no_member_kind, only_extends_member, attribute_faults, choice_faults}
 use Rattle.kc_checks.proofs.Common.{definition_faults, faults_at, faults_of_lines, kind_of, Has, Differ-once, get_below, has-at, has-filter, map-get, number-get, text_of_name, Listing, RepresentsGroups, RepresentsHead, line_in, choice_around, definition_kind, AreMarked, WereMarked, AreSmall}
 use Rattle.kc_checks.proofs.Common.{choices_before, summary_in, attributes_end, enclosing_choice, first_is, first_in_definitions, group_at, member_keys_at, members_at, number_at, read_before, SymbolSummary, ◌==◌, modules_name, CodeGroup, CodeLine, CodeHead, RepresentsListing}
 use Rattle.std.proofs.lemmas.Bool.{ltb-true}
@@ -20,7 +20,9 @@ use Rattle.kc_checks.specs.declared.search.Checks.{Checks}
 use Rattle.kc_checks.proofs.SymbolSummaries.{first_of_both, first_number_is}
 use Rattle.kc_checks.proofs.GroupPlaces.{all_before, are_numbers, count_is, none_before, numbers_before, place_numbered, placed_before, placed_count, shown_at}
 use Rattle.kc_checks.proofs.FaultKinds.{definition_is, fault_of, first_mapped}
-use Rattle.kc_checks.proofs.Rounds.{begins_is, number_counts, enclosing_numbered}
+use Rattle.kc_parser.specs.between.EnclosingChoices.{HaveChoices}
+use Rattle.kc_parser.proofs.ChoiceSteps.{begins_is}
+use Rattle.kc_checks.proofs.Rounds.{choices_enclose, enclosing_numbered, number_counts}
 use Rattle.kc_checks.proofs.MemberMarks.{are_marked, enclosing_below, keys_small, member_defined}
 use Rattle.kc_checks.proofs.MemberLaw.{members_are, same_choice}
 use Rattle.kc_checks.proofs.Symbols.{choice_is, place_is, statement_by}
@@ -69,13 +71,6 @@ pub choice_there : (e : Exprs) (names texts : List (List ℕ)) (code : CodeHead)
     → w ≡ of_head choice
 choice_there e names texts code w h k = subst (λ v. RepresentsHead e names texts v w) k h
 
--- the list of enclosing choices has at index `i` the number of the choice that encloses group `i`
-pub enclosing_got : (read : List Group) (enclosing : List (Option ℕ)) (i : ℕ) (p : GroupInContext) (d : Option ℕ)
-    → enclosing ≡ map (enclosing_choice (contents_of read)) (groups_in_context read) → slice_get (groups_in_context read) i ≡ Some p
-    → get_or enclosing i d ≡ enclosing_choice (contents_of read) p
-enclosing_got read enclosing i p d a at =
-    get_or_from_slice_get enclosing i _ d (ap (λ xs. slice_get xs i) a ∙ map-get (enclosing_choice (contents_of read)) (groups_in_context read) i p at)
-
 -- the stored name of symbol `s` is the name at index `s` among the defined names
 pub word_is : (e : Exprs) (symbols numbers : List ℕ) (names : List (List ℕ)) (s : ℕ) (name : List ℕ) (d : ℕ) → HasNames e symbols numbers names
     → slice_get names s ≡ Some name → text_of_name e (get_or symbols s d) ≡ name
@@ -110,14 +105,17 @@ same_by c (Some n) (Some m) f g =
     ap (λ o. is_same_choice o (choice_number c m)) x.1 ∙ ap (is_same_choice (Some x.0)) y.1 ∙ same_choice c y.0 m y.1 n x.0 x.1
 
 -- the number of the choice around the first definition of a symbol
-first_choice_by : (read : List Group) (name : List ℕ) (ds : List GroupInContext) → definitions_of (contents_of read) name ≡ ds
+first_choice_by : (read : List Group) (groups : List CodeGroup) (name : List ℕ) (ds : List GroupInContext) → definitions_of (contents_of read) name ≡ ds
+    → map (λ (g : CodeGroup). g.choice) groups ≡ map (enclosing_choice (contents_of read)) (groups_in_context read)
     → ((d : GroupInContext) → Has d (definitions_of (contents_of read) name) → slice_get (groups_in_context read) d.group.number ≡ Some d)
-    → choice_around (map (enclosing_choice (contents_of read)) (groups_in_context read)) (slice_get (flat_map number_at ds) 0)
+    → choice_around groups (slice_get (flat_map number_at ds) 0)
     ≡ option_and_then (choice_number (contents_of read)) (option_and_then (λ (p : GroupInContext). p.choice) (slice_get ds 0))
-first_choice_by read name [] e at = refl
-first_choice_by read name (d ∷ ds) e at =
-    ap (option_and_then (λ o. o)) (map-get (enclosing_choice (contents_of read)) (groups_in_context read) d.group.number d
-    (at d (subst (Has d) (sym e) (inl refl))))
+first_choice_by read groups name [] e own at = refl
+first_choice_by read groups name (d ∷ ds) e own at =
+    let r = get-map (λ (g : CodeGroup). g.choice) groups d.group.number (enclosing_choice (contents_of read) d)
+    (ap (λ xs. slice_get xs d.group.number) own ∙ map-get (enclosing_choice (contents_of read)) (groups_in_context read) d.group.number d
+    (at d (subst (Has d) (sym e) (inl refl)))) in
+    ap (option_and_then (λ (g : CodeGroup). g.choice)) r.1 ∙ r.2
 
 module _ (e : Exprs) (names texts : List (List ℕ)) (lines : List CodeLine) (groups : List CodeGroup) (read : List Group)
     (h : RepresentsGroups e names texts lines (length lines) (reverse groups) read) where
@@ -139,29 +137,29 @@ module _ (e : Exprs) (names texts : List (List ℕ)) (lines : List CodeLine) (gr
 
   -- a definition is in the choice of its symbol's first definition exactly if the numbers of the choices around them are the same
   pub again_is : (name : List ℕ) (p : GroupInContext) (first here : Option ℕ) (is_again : Bool) → Has p (groups_in_context read)
-      → first ≡ choice_around (map (enclosing_choice (contents_of read)) (groups_in_context read))
-      (summary_in (contents_of read) (groups_in_context read) name).first
+      → HaveChoices (reverse groups) → first ≡ choice_around groups (summary_in (contents_of read) (groups_in_context read) name).first
       → here ≡ enclosing_choice (contents_of read) p → is_again ≡ is_same_choice first here → is_again ≡ is_again_in_choice (contents_of read) name p
-  again_is name p first here is_again has f g w =
+  again_is name p first here is_again has own f g w =
       let c = contents_of read in
       w
-      ∙ ap (λ o. is_same_choice o here) (f ∙ first_choice_by read name (definitions_of c name) refl (numbered_at name))
+      ∙ ap (λ o. is_same_choice o here) (f ∙ first_choice_by read groups name (definitions_of c name) refl
+      (choices_enclose e names texts lines groups read h own) (numbered_at name))
       ∙ ap (is_same_choice (option_and_then (choice_number c) (choice_of_first_definition c name))) g
       ∙ same_by c (choice_of_first_definition c name) p.choice (first_choice_numbered name) (λ n o. enclosing_numbered read p n has o)
 
 -- the kind of fault found in a definition that was read is the first of the model's faults of the definition
-pub definition_reported : (language : Language) (read : List Group) (p : GroupInContext) (name : List ℕ) (i : ℕ) (about : SymbolSummary)
+pub definition_reported : (language : Language) (read : List Group) (p : GroupInContext) (name : List ℕ) (i : ℕ) (symbol_summary : SymbolSummary)
     (is_member is_misfit is_first is_modules may_follow : Bool) → Has p (groups_in_context read) → p.group.number ≡ i
-    → about ≡ summary_in (contents_of read) (groups_in_context read) name
-    → is_member ≡ is_some (enclosing_choice (contents_of read) p) → is_misfit ≡ (is_member && is_no_member_kind language about.given)
-    → is_first ≡ first_is about.first i → is_modules ≡ bytes_eq name modules_name
-    → may_follow ≡ may_follow_member language (contents_of read) name p → definition_kind about is_misfit is_first is_modules may_follow
+    → symbol_summary ≡ summary_in (contents_of read) (groups_in_context read) name
+    → is_member ≡ is_some (enclosing_choice (contents_of read) p) → is_misfit ≡ (is_member && is_no_member_kind language symbol_summary.given)
+    → is_first ≡ first_is symbol_summary.first i → is_modules ≡ bytes_eq name modules_name
+    → may_follow ≡ only_extends_member language (contents_of read) name p → definition_kind symbol_summary is_misfit is_first is_modules may_follow
     ≡ slice_get (definition_faults language (contents_of read) p name) 0
-definition_reported language read p name i about is_member is_misfit is_first is_modules may_follow has n a m s f o w =
-    definition_is language (contents_of read) p name about is_misfit is_first is_modules may_follow
+definition_reported language read p name i symbol_summary is_member is_misfit is_first is_modules may_follow has n a m s f o w =
+    definition_is language (contents_of read) p name symbol_summary is_misfit is_first is_modules may_follow
     (ap (λ (x : SymbolSummary). x.given) a)
     (ap (λ (x : SymbolSummary). is_some x.choice) a ∙ ap is_some (choice_is read name))
-    (s ∙ ap (λ b. b && is_no_member_kind language about.given) (m ∙ enclosing_some read p has)
+    (s ∙ ap (λ b. b && is_no_member_kind language symbol_summary.given) (m ∙ enclosing_some read p has)
     ∙ ap (λ (x : SymbolSummary). is_some p.choice && is_no_member_kind language x.given) a)
     (f ∙ ap (λ (x : SymbolSummary). first_is x.first i) a ∙ first_reported (contents_of read) name p i n)
     o

@@ -111,9 +111,9 @@ module _ (read : List Group) (symbols : List SymbolSummary) (h : symbols ≡ sym
   pub symbol_below : (s : ℕ) (name : List ℕ) → slice_get (names_defined read) s ≡ Some name → s < length symbols
   symbol_below s name e = let l = get_below (names_defined read) s name e in let m = as_many_symbols in omega arith
 
-  pub about_is : (s : ℕ) (name : List ℕ) (d : SymbolSummary) → slice_get (names_defined read) s ≡ Some name
+  pub symbol_summary_is : (s : ℕ) (name : List ℕ) (d : SymbolSummary) → slice_get (names_defined read) s ≡ Some name
       → get_or symbols s d ≡ summary_in (contents_of read) (groups_in_context read) name
-  about_is s name d e =
+  symbol_summary_is s name d e =
       get_or_from_slice_get symbols s _ d (ap (λ xs. slice_get xs s) h
       ∙ map-get (summary_in (contents_of read) (groups_in_context read)) (names_defined read) s name e)
 

@@ -14,20 +14,9 @@ use super::fault_kinds::{choice_attribute_kind, typed_attribute_fault};
 use super::name_checks::{is_wrong_reverse_dependency, names_member};
 use super::summary::SymbolSummary;
 use kc_parser::{Line, Listing};
-use kc_statements::Attribute;
+use kc_statements::ReadAttribute;
 use kc_tree_model::{TreeFault, TreeKind};
 use kc_value::Kind;
-
-/// A fault of some kind at a line of a file, which is given by its number.
-pub(crate) fn fault_at(file: u32, line: u32, kind: TreeKind) -> TreeFault
-    ensures { result ≡ record { file = Some file; line = line; kind = kind } }
-{
-    TreeFault {
-        file: Some(file),
-        line,
-        kind,
-    }
-}
 
 /// The fault of an attribute of a symbol of type `kind`, or `None`; `prompted` is set if a prompt precedes it.
 fn symbol_attribute_fault(
@@ -36,7 +25,7 @@ fn symbol_attribute_fault(
     kind: Option<Kind>,
     is_modules: bool,
     prompted: bool,
-    attribute: &Attribute,
+    attribute: &ReadAttribute,
 ) -> Option<TreeKind>
     requires shown { IsRepresented listing.now }
     requires symbols { AreSymbolSummaries listing.now symbols.now }
@@ -81,7 +70,7 @@ pub(crate) fn first_symbol_fault(
             &line.attribute,
         );
         if let Some(kind) = fault {
-            return Some(fault_at(file, line.number, kind));
+            return Some(TreeFault::at_line(file, line.number, kind));
         }
         prompted = prompted || line.attribute.is_prompt();
     }
@@ -94,7 +83,7 @@ fn choice_attribute_fault(
     marks: &[u32],
     mark: u32,
     prompted: bool,
-    attribute: &Attribute,
+    attribute: &ReadAttribute,
 ) -> Option<TreeKind>
     requires shown { IsRepresented listing.now }
     requires many { length marks.now ≡ length listing.now.names.symbols.items }
@@ -133,7 +122,7 @@ pub(crate) fn first_choice_fault(
             prompted,
             &line.attribute,
         ) {
-            return Some(fault_at(file, line.number, kind));
+            return Some(TreeFault::at_line(file, line.number, kind));
         }
         prompted = prompted || line.attribute.is_prompt();
     }

@@ -8,7 +8,7 @@ ghost use Rattle.kc_statements.specs.between.StatementViews.{attribute_in};
 ghost use Rattle.kc_checks.specs.checker.Kinds.{definition_kind, typed_kind, choice_kind};
 
 use super::summary::SymbolSummary;
-use kc_statements::Attribute;
+use kc_statements::ReadAttribute;
 use kc_tree::{is_number, is_other_kind, is_tri_kind};
 use kc_tree_model::TreeKind;
 use kc_value::Kind;
@@ -16,18 +16,18 @@ use kc_value::Kind;
 /// The kind of the first fault of a definition, from the summary of its symbol; `is_misfit` is set if it is in a choice and the
 /// symbol's type isn't one of a member, `may_follow` if it may come after its symbol's definition as a choice member.
 pub(crate) fn definition_fault(
-    about: &SymbolSummary,
+    symbol_summary: &SymbolSummary,
     is_misfit: bool,
     is_first: bool,
     is_modules: bool,
     may_follow: bool,
 ) -> Option<TreeKind>
-    ensures { result ≡ definition_kind about.now is_misfit is_first is_modules may_follow }
+    ensures { result ≡ definition_kind symbol_summary.now is_misfit is_first is_modules may_follow }
 {
-    let other = is_other_kind(Kind::Bool, about.given);
-    if is_first && about.kind().is_none() {
+    let other = is_other_kind(Kind::Bool, symbol_summary.given);
+    if is_first && symbol_summary.kind().is_none() {
         Some(TreeKind::NoType)
-    } else if is_misfit || (!is_first && about.choice.is_some() && !may_follow) {
+    } else if is_misfit || (!is_first && symbol_summary.choice.is_some() && !may_follow) {
         Some(TreeKind::ChoiceMember)
     } else if is_first && is_modules && other {
         Some(TreeKind::ModulesType)
@@ -37,7 +37,7 @@ pub(crate) fn definition_fault(
 }
 
 /// Whether an attribute is a default that isn't one operand, in a symbol whose type wants one.
-fn is_shapeless(kind: Kind, attribute: &Attribute) -> bool
+fn is_shapeless(kind: Kind, attribute: &ReadAttribute) -> bool
     ensures { (e : Exprs) → result ≡ shapeless kind (default_of (attribute_in e attribute.now)) }
 {
     match attribute.default_given() {
@@ -47,21 +47,21 @@ fn is_shapeless(kind: Kind, attribute: &Attribute) -> bool
 }
 
 /// Whether an attribute is a prompt after another one.
-fn is_second_prompt(prompted: bool, attribute: &Attribute) -> bool
+fn is_second_prompt(prompted: bool, attribute: &ReadAttribute) -> bool
     ensures { (e : Exprs) → result ≡ (prompted && is_some (prompt_of (attribute_in e attribute.now))) }
 {
     prompted && attribute.is_prompt()
 }
 
 /// Whether an attribute is a range in a symbol whose type has none.
-fn is_stray_range(kind: Kind, attribute: &Attribute) -> bool
+fn is_stray_range(kind: Kind, attribute: &ReadAttribute) -> bool
     ensures { (e : Exprs) → result ≡ (is_some (range_of (attribute_in e attribute.now)) && not (is_number kind)) }
 {
     attribute.is_range() && !is_number(kind)
 }
 
 /// Whether an attribute marks the modules symbol in another symbol.
-fn is_stray_modules(is_modules_symbol: bool, attribute: &Attribute) -> bool
+fn is_stray_modules(is_modules_symbol: bool, attribute: &ReadAttribute) -> bool
     ensures { (e : Exprs) → result ≡ (modules (attribute_in e attribute.now) && not is_modules_symbol) }
 {
     attribute.is_modules() && !is_modules_symbol
@@ -74,7 +74,7 @@ pub(crate) fn typed_attribute_fault(
     prompted: bool,
     is_modules_symbol: bool,
     is_wrong: bool,
-    attribute: &Attribute,
+    attribute: &ReadAttribute,
 ) -> Option<TreeKind>
     ensures { (e : Exprs) → result ≡ typed_kind kind prompted is_modules_symbol is_wrong (attribute_in e attribute.now) }
 {
@@ -100,7 +100,7 @@ pub(crate) fn typed_attribute_fault(
 pub(crate) fn choice_attribute_kind(
     prompted: bool,
     is_no_member: bool,
-    attribute: &Attribute,
+    attribute: &ReadAttribute,
 ) -> Option<TreeKind>
     ensures { (e : Exprs) → result ≡ choice_kind prompted is_no_member (attribute_in e attribute.now) }
 {

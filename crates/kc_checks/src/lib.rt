@@ -3,7 +3,6 @@
 #![tactic(auto)]
 
 mod attribute_checks;
-mod enclosing_choices;
 mod fault_kinds;
 mod group_lines;
 mod marks;
@@ -13,8 +12,7 @@ mod paths;
 mod search;
 mod summary;
 
-pub use enclosing_choices::begins_choice;
 pub use group_lines::{end_of, lines_of, part};
-pub use missing_files::{out_of_memory, wanted};
-pub use search::Checks;
+pub use missing_files::{is_out_of_memory, wanted};
+pub use search::{Checks, begins_choice};
 pub use summary::{Summary, SymbolSummary};

@@ -15,19 +15,8 @@ use kc_tree_model::{Texts, TreeFault, TreeKind};
 use kc_value::Text;
 use std::alloc::{AllocError, Global};
 
-/// The fault for out of memory, which has no file and the line 0.
-pub fn out_of_memory() -> TreeFault
-    ensures { result ≡ no_memory }
-{
-    TreeFault {
-        file: None,
-        line: 0,
-        kind: TreeKind::OutOfMemory,
-    }
-}
-
 /// Whether reading ended for lack of memory.
-fn is_out_of_memory(fault: Option<TreeFault>) -> bool
+pub fn is_out_of_memory(fault: Option<TreeFault>) -> bool
     ensures other { result ≡ false → fault ≢ Some no_memory }
     ensures memory { result ≡ true → option_map (λ f. f.kind) fault ≡ Some OutOfMemory }
 {
@@ -105,7 +94,7 @@ fn wanted_or_fault(paths: &Paths, fault: Option<TreeFault>) -> Result<Vec<String
     }
     match paths.to_list() {
         Ok(list) => Ok(list),
-        Err(_) => Err(out_of_memory()),
+        Err(_) => Err(TreeFault::out_of_memory()),
     }
 }
 
@@ -123,11 +112,11 @@ fn missing_paths(
     ensures fault { IfErr result (λ f. (f ≡ no_memory) ⊎ (files_wanted texts.now root.now ≡ Err f)) }
 {
     if is_out_of_memory(fault) {
-        return Err(out_of_memory());
+        return Err(TreeFault::out_of_memory());
     }
     match absent_paths(alloc, texts, root, listing) {
         Ok(paths) => wanted_or_fault(&paths, fault),
-        Err(_) => Err(out_of_memory()),
+        Err(_) => Err(TreeFault::out_of_memory()),
     }
 }
 

@@ -12,7 +12,7 @@ ghost use Rattle.kc_checks.specs.checker.Marks.{AreMarked};
 
 use super::summary::SymbolSummary;
 use kc_parser::Listing;
-use kc_statements::{Attribute, DefaultAttribute};
+use kc_statements::{ReadAttribute, ReadDefault};
 use kc_tree::is_tri_kind;
 use kc_value::Kind;
 
@@ -44,7 +44,7 @@ pub(crate) fn is_wrong_reverse_dependency(
     listing: &Listing,
     symbols: &[SymbolSummary],
     kind: Kind,
-    attribute: &Attribute,
+    attribute: &ReadAttribute,
 ) -> bool
     requires shown { IsRepresented listing.now }
     requires symbols { AreSymbolSummaries listing.now symbols.now }
@@ -64,7 +64,7 @@ pub(crate) fn names_member(
     listing: &Listing,
     marks: &[u32],
     mark: u32,
-    valued: &DefaultAttribute,
+    valued: &ReadDefault,
 ) -> bool
     requires shown { IsRepresented listing.now }
     requires many { length marks.now ≡ length listing.now.names.symbols.items }

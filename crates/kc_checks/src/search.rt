@@ -8,24 +8,24 @@ ghost use Rattle.kc_tree_model.specs.Conditions.{GroupInContext, groups_in_conte
 ghost use Rattle.kc_tree_model.specs.Contents.{contents_of, member_names};
 ghost use Rattle.kc_tree_model.specs.Limits.{names_defined};
 ghost use Rattle.kc_tree_model.specs.TreeFaults.{faults_of_group, is_no_member_kind, is_same_choice, tree_faults};
+ghost use Rattle.kc_parser.specs.between.EnclosingChoices.{is_choice_code};
 ghost use Rattle.kc_parser.specs.between.ListingView.{RepresentsListing};
 ghost use Rattle.kc_parser.specs.declared.listing.GroupHead.TheVariants as codes;
 ghost use Rattle.kc_checks.specs.checker.Marks.{AreMarked};
 ghost use Rattle.kc_checks.specs.between.FaultSearch.{AreFaultless, AreSmall, CountsChoices, HasMembers};
-ghost use Rattle.kc_checks.specs.checker.Kinds.{choice_around, is_added_code, is_added_line, may_follow_code};
-ghost use Rattle.kc_checks.specs.between.Summaries.{group_at, is_choice_code, IsRepresented, IsSummed};
+ghost use Rattle.kc_checks.specs.checker.Kinds.{choice_around, is_added_code, is_added_line, only_extends_member_code};
+ghost use Rattle.kc_checks.specs.between.Summaries.{group_at, IsRepresented, IsSummed};
 
-use super::attribute_checks::{fault_at, first_choice_fault, first_symbol_fault};
-use super::enclosing_choices::begins_choice;
+use super::attribute_checks::{first_choice_fault, first_symbol_fault};
 use super::fault_kinds::definition_fault;
 use super::group_lines::lines_of;
 use super::marks::mark_members;
 use super::summary::{Summary, is_first};
-use kc_parser::{GroupHead, Line, Listing};
-use kc_statements::Attribute;
+use kc_parser::{Group, GroupHead, Line, Listing};
+use kc_statements::ReadAttribute;
 use kc_tokens::Language;
 use kc_tree::{ItemsByNumber, is_no_member_kind};
-use kc_tree_model::{Sym, TreeFault};
+use kc_tree_model::{Attribute, Sym, TreeFault};
 use kc_value::Kind;
 use std::alloc::{AllocError, Global};
 
@@ -41,7 +41,7 @@ fn is_modules(listing: &Listing, s: u32) -> bool
 
 /// Whether a later definition of a choice member may have an attribute: a type without a prompt, `depends on`, `select`, `imply` or
 /// help text.
-fn is_added(attribute: &Attribute) -> bool
+fn is_added(attribute: &ReadAttribute) -> bool
     ensures { result ≡ is_added_code attribute.now }
 {
     matches!(
@@ -55,7 +55,7 @@ fn is_added(attribute: &Attribute) -> bool
 }
 
 /// Whether some lines are of attributes alone that a later definition of a member may have.
-fn are_added(lines: &[Line]) -> bool
+fn only_add_attributes(lines: &[Line]) -> bool
     ensures { result ≡ list_all is_added_line lines.now }
 {
     lines.iter().all(|line| is_added(&line.attribute))
@@ -63,21 +63,21 @@ fn are_added(lines: &[Line]) -> bool
 
 /// Whether a definition with these attributes may follow that of a member in its choice; `is_again` is set if it is in that choice.
 fn only_extends_member(language: Language, is_member: bool, is_again: bool, lines: &[Line]) -> bool
-    ensures { result ≡ may_follow_code language is_member is_again lines.now }
+    ensures { result ≡ only_extends_member_code language is_member is_again lines.now }
 {
     match language {
         Language::Strict => false,
-        Language::Linux(_) => (!is_member && are_added(lines)) || is_again,
+        Language::Linux(_) => (!is_member && only_add_attributes(lines)) || is_again,
     }
 }
 
 /// The number of the choice that encloses the group of a number, if there is such a group and it is in a choice.
-fn choice_around(enclosing: &[Option<u32>], number: Option<u32>) -> Option<u32>
-    ensures { result ≡ choice_around enclosing.now number }
+fn choice_around(groups: &[Group], number: Option<u32>) -> Option<u32>
+    ensures { result ≡ choice_around groups.now number }
 {
     match number {
-        Some(number) => match enclosing.get(number as usize) {
-            Some(choice) => *choice,
+        Some(number) => match groups.get(number as usize) {
+            Some(group) => group.choice,
             None => None,
         },
         None => None,
@@ -118,26 +118,26 @@ fn config_fault(
     requires head { (group_at listing.now.groups.items i).head ≡ codes.Config s }
     ensures fault { (read : List ModelGroup) (p : GroupInContext) → RepresentsListing listing.now read → slice_get (groups_in_context read) i ≡ Some p → result ≡ slice_get (faults_of_group language (contents_of read) p) 0 }
 {
-    let about = summary.symbols[s as usize];
-    let is_member = summary.enclosing[i].is_some();
+    let symbol_summary = summary.symbols[s as usize];
+    let group = &listing.groups[i];
+    let is_member = group.choice.is_some();
     let is_modules = is_modules(listing, s);
-    let file = listing.groups[i].file;
     let lines = lines_of(listing, i);
-    let first_choice = choice_around(&summary.enclosing, about.first);
-    let is_again = is_same_choice(first_choice, summary.enclosing[i]);
+    let first_choice = choice_around(&listing.groups, symbol_summary.first);
+    let is_again = is_same_choice(first_choice, group.choice);
     let may_follow = only_extends_member(language, is_member, is_again, lines);
-    let is_misfit = is_misfit(language, is_member, about.given);
-    let is_first = is_first(about.first, i);
-    let fault = definition_fault(&about, is_misfit, is_first, is_modules, may_follow);
+    let is_misfit = is_misfit(language, is_member, symbol_summary.given);
+    let is_first = is_first(symbol_summary.first, i);
+    let fault = definition_fault(&symbol_summary, is_misfit, is_first, is_modules, may_follow);
     if let Some(kind) = fault {
-        return Some(fault_at(file, listing.groups[i].line, kind));
+        return Some(TreeFault::at_line(group.file, group.line, kind));
     }
     first_symbol_fault(
         listing,
         &summary.symbols,
-        about.kind(),
+        symbol_summary.kind(),
         is_modules,
-        file,
+        group.file,
         lines,
     )
 }
@@ -185,6 +185,13 @@ fn group_fault(
         }
         _ => None,
     }
+}
+
+/// Whether a statement is a `choice`.
+pub fn begins_choice(head: &GroupHead) -> bool
+    ensures { result ≡ is_choice_code head.now }
+{
+    matches!(*head, GroupHead::Choice)
 }
 
 /// The number of choices up to and including a statement; `choices` counts those before it.

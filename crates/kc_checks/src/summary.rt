@@ -1,5 +1,5 @@
 //! Summaries of symbols and choices, before conditions are joined.
-ghost use Rattle.std.specs.Prelude.{◌≡◌, ◌<◌, ◌+◌, ◌^◌, ◌++◌, [], List, IfOk, OnOk, Some, None, is_none, is_some, length, filter_map, option_to_list, slice_get, if◌then◌else◌};
+ghost use Rattle.std.specs.Prelude.{◌≡◌, ◌<◌, ◌+◌, ◌^◌, ◌++◌, List, IfOk, OnOk, Some, None, is_none, is_some, length, filter_map, option_to_list, slice_get, if◌then◌else◌};
 ghost use Rattle.kc_expr.specs.between.Arena.{Exprs};
 ghost use Rattle.kc_tree_model.specs.Blocks.{Group as ModelGroup};
 ghost use Rattle.kc_tree_model.specs.TreeFaults.{kind_or_bool};
@@ -8,7 +8,6 @@ ghost use Rattle.kc_parser.specs.between.ListingView.{RepresentsListing};
 ghost use Rattle.kc_checks.specs.between.Summaries.{first_is, first_summary, type_in, IsRepresented, IsSummary};
 ghost use Rattle.kc_checks.specs.checker.SummarySteps.{HasDefined, HasMember, IsSummedTo};
 
-use super::enclosing_choices::{innermost, push_or_pop};
 use super::group_lines::lines_of;
 use kc_parser::{GroupHead, Line, Listing};
 use kc_tree::ItemsWithKeys;
@@ -51,13 +50,11 @@ impl SymbolSummary {
     }
 }
 
-/// A summary of a listing: the summary of each symbol, the number of the enclosing choice of each group, the number of choices, the
-/// members of choices, each under the number of its choice, by all definitions (`members`) and by first ones alone (`own_members`),
-/// and the units, each where it begins: a choice, or a symbol that is first defined outside choices.
+/// A summary of a listing: the summary of each symbol, the number of choices, the members of choices, each under the number of its
+/// choice, by all definitions (`members`) and by first ones alone (`own_members`), and the units, each where it begins: a choice, or a symbol that is first defined outside choices.
 #[derive(Drop)]
 pub struct Summary {
     pub symbols: Vec<SymbolSummary>,
-    pub enclosing: Vec<Option<u32>>,
     pub choices: u32,
     pub members: ItemsWithKeys<Sym>,
     pub own_members: ItemsWithKeys<Sym>,
@@ -120,9 +117,9 @@ fn push_first(
 }
 
 impl Summary {
-    /// The summary of no group, with room for those of a listing. An `Err` means out of memory.
+    /// The summary of no group, with capacity for those of a listing. An `Err` means out of memory.
     fn empty(alloc: Global, listing: &Listing) -> Result<Summary, AllocError>
-        ensures { IfOk result (IsSummedTo listing.now 0 []) }
+        ensures { IfOk result (IsSummedTo listing.now 0) }
     {
         let nothing = SymbolSummary {
             first: None,
@@ -130,11 +127,9 @@ impl Summary {
             choice: None,
         };
         let symbols = vec![in alloc; nothing; listing.names.symbols.len()]?;
-        let enclosing = Vec::with_capacity(alloc, listing.groups.len())?;
         let units = Vec::with_capacity(alloc, listing.groups.len())?;
         Ok(Summary {
             symbols,
-            enclosing,
             choices: 0,
             members: ItemsWithKeys::new(alloc),
             own_members: ItemsWithKeys::new(alloc),
@@ -147,41 +142,32 @@ impl Summary {
         requires there { s < length self.old.symbols.items }
         ensures ok { OnOk result (HasDefined s here self.old self.new) }
     {
-        let about = self.symbols[s as usize];
-        self.symbols[s as usize] = about.or(here);
+        let symbol_summary = self.symbols[s as usize];
+        self.symbols[s as usize] = symbol_summary.or(here);
         let symbol = Sym::at(s);
         push_member(&mut self.members, here.choice, symbol)?;
-        if about.first.is_some() {
+        if symbol_summary.first.is_some() {
             return Ok(());
         }
         push_first(&mut self.own_members, &mut self.units, here.choice, symbol)
     }
 
-    /// Adds the group of this number, where `inside` has the number of the choice that each open block is or is in, innermost last.
-    /// An `Err` means out of memory.
-    fn add_group(
-        &mut self,
-        listing: &Listing,
-        inside: &mut Vec<Option<u32>>,
-        i: usize,
-    ) -> Result<(), AllocError>
+    /// Adds the group of this number. An `Err` means out of memory.
+    fn add_group(&mut self, listing: &Listing, i: usize) -> Result<(), AllocError>
         requires shown { IsRepresented listing.now }
         requires few { length listing.now.groups.items < 2 ^ 32 }
         requires here { i < length listing.now.groups.items }
-        requires summed { IsSummedTo listing.now i inside.old.items self.old }
-        ensures summed { OnOk result (IsSummedTo listing.now (i + 1) inside.new.items self.new) }
+        requires summed { IsSummedTo listing.now i self.old }
+        ensures summed { OnOk result (IsSummedTo listing.now (i + 1) self.new) }
     {
-        let head = &listing.groups[i].head;
-        let choice = innermost(inside);
-        self.enclosing.push(choice)?;
-        push_or_pop(inside, head, self.choices)?;
-        match *head {
+        let group = &listing.groups[i];
+        match group.head {
             GroupHead::Config(s) => {
                 let given = first_type(lines_of(listing, i));
                 let here = SymbolSummary {
                     first: Some(i as u32),
                     given,
-                    choice,
+                    choice: group.choice,
                 };
                 self.define(s, here)?;
                 Ok(())
@@ -205,9 +191,8 @@ impl Summary {
             return Err(AllocError);
         }
         let mut summary = Summary::empty(alloc, listing)?;
-        let mut inside = Vec::new(alloc);
         for i in 0..listing.groups.len() {
-            summary.add_group(listing, &mut inside, i)?;
+            summary.add_group(listing, i)?;
         }
         Ok(summary)
     }

@@ -20,11 +20,12 @@ pub use Rattle.kc_parser.specs.between.ListingView.{LineNodesExist, RepresentsHe
 pub use Rattle.kc_parser.specs.declared.listing.Line.{Line as CodeLine}
 pub use Rattle.kc_statements.proofs.ArenaGrowth.{grows_on}
 pub use Rattle.kc_statements.proofs.GrownArenas.{attribute_held, node_held, node_same}
-pub use Rattle.kc_statements.specs.between.StatementViews.{AttributeNodesExist, attribute_in, conjunct_given, is_prompt}
-pub use Rattle.kc_statements.specs.declared.statement.Attribute.{Attribute as CodeAttribute}
-pub use Rattle.kc_statements.specs.declared.statement.Conjuncts.TheVariants.{Dependencies, Visibles}
+pub use Rattle.kc_statements.specs.between.StatementViews.{AttributeNodesExist, attribute_in, ReadAttribute}
+pub use Rattle.kc_tree_model.specs.between.Attributes.{conjunct_given, is_prompt}
+pub use Rattle.kc_tree_model.specs.declared.statement.Conjuncts.TheVariants.{Dependencies, Visibles}
 pub use Rattle.kc_tokens.specs.Languages.{is_linux_6_12}
 pub use Rattle.kc_tokens.specs.declared.language.Language.{Language}
 pub use Rattle.kc_tree_model.specs.Blocks.{Group, Line, of_head, open_blocks}
 pub use Rattle.kc_tree_model.specs.Conditions.{conjunction_of, context, dependencies_of, group_in_context, visible_conjunct}
-pub use Rattle.kc_tree_model.specs.Statements.{Attribute, choice, condition, depends_of, visible_of}
+pub use Rattle.kc_tree_model.specs.Statements.{Attribute, depends_of, visible_of}
+pub use Rattle.kc_tree_model.specs.declared.statement.Head.TheVariants.{Choice as choice, Condition as condition}

@@ -2,14 +2,15 @@
 use Rattle.std.proofs.Common.{append_assoc}
 use Rattle.kc_conditions.proofs.Common.{◌≡◌, ℕ, ◌<◌, Bool, true, false, cond, List, [], ◌∷◌, ◌++◌, length, get_or, take, map, Option, Some, None, suc, ◌+◌, refl, ap, sym, subst, ◌∙◌, arith, append-nil, All, IfSome, Exprs, Represents, node_expr, Grows, Expr, represents_on, AttributeNodesExist}
 use Rattle.kc_conditions.proofs.Common.{is_prompt, conjunct_given, grows_on, node_held, node_same, LineNodesExist, conjunction_of, visible_conjunct, Conjoins, conjunct, conjunct_views, AreJoined, AreAppended, condition_view, line_condition, or_yes, Dependencies, Visibles, EntryConditions, line_in}
-use Rattle.kc_conditions.proofs.Common.{CodeAttribute, CodeLine, Line, Attribute, depends_of, visible_of}
+use Rattle.kc_conditions.proofs.Common.{ReadAttribute, CodeLine, Line, Attribute, depends_of, visible_of}
 use Rattle.std.proofs.lemmas.List.{map-append, take_more}
 use Rattle.std.proofs.lemmas.List.Elements.{All-append, All-cons, All-nil}
 use Rattle.std.specs.List.{cons_option}
 use Rattle.std.specs.Prelude.{filter_map, option_map, option_to_list}
-use Rattle.kc_statements.specs.between.StatementViews.{IfNodeExists, attribute_in, if_given}
-use Rattle.kc_statements.specs.declared.statement.Attribute.TheVariants as attributes
-use Rattle.kc_statements.specs.declared.statement.Conjuncts.{Conjuncts}
+use Rattle.kc_statements.specs.between.StatementViews.{IfNodeExists, attribute_in}
+use Rattle.kc_tree_model.specs.between.Attributes.{if_given}
+use Rattle.kc_tree_model.specs.declared.statement.Attribute.TheVariants as attributes
+use Rattle.kc_tree_model.specs.declared.statement.Conjuncts.{Conjuncts}
 
 pub conjoins_on : (old new : Exprs) → Grows old new → (o : Option ℕ) (es : List Expr) → Conjoins old o es → Conjoins new o es
 conjoins_on old new g None es h = h
@@ -45,7 +46,7 @@ abbrev pub part_meant : Conjuncts → Attribute → Option Expr
 part_meant Dependencies a = depends_of a
 part_meant Visibles a = visible_of a
 
-pub part_is : (e : Exprs) (part : Conjuncts) (a : CodeAttribute) → option_map (node_expr e) (conjunct_given part a) ≡ part_meant part (attribute_in e a)
+pub part_is : (e : Exprs) (part : Conjuncts) (a : ReadAttribute) → option_map (node_expr e) (conjunct_given part a) ≡ part_meant part (attribute_in e a)
 part_is e Dependencies (attributes.Depends i) = refl
 part_is e Dependencies a = refl
 part_is e Visibles (attributes.Visible i) = refl
@@ -64,7 +65,7 @@ parts_given e part (l ∷ lines) =
     ∙ ap (cons_option (part_meant part (attribute_in e l.attribute))) (parts_given e part lines)
 
 -- the conjunct of an attribute whose nodes exist is a node of the arena
-pub reported_there : (w : Conjuncts) (exprs : Exprs) (a : CodeAttribute) → AttributeNodesExist exprs a
+pub reported_there : (w : Conjuncts) (exprs : Exprs) (a : ReadAttribute) → AttributeNodesExist exprs a
     → IfSome (conjunct_given w a) (λ i. i < length exprs.nodes)
 reported_there Dependencies exprs (attributes.Depends id) h = h
 reported_there Dependencies exprs x h = tt
@@ -76,7 +77,7 @@ if_there exprs None h = tt
 if_there exprs (Some i) h = h
 
 -- the `if` of an attribute whose nodes exist is a node of the arena
-pub if_node_exists : (exprs : Exprs) (a : CodeAttribute) → AttributeNodesExist exprs a → IfSome (if_given a) (λ i. i < length exprs.nodes)
+pub if_node_exists : (exprs : Exprs) (a : ReadAttribute) → AttributeNodesExist exprs a → IfSome (if_given a) (λ i. i < length exprs.nodes)
 if_node_exists exprs (attributes.TypedPrompt k c) h = if_there exprs c h
 if_node_exists exprs (attributes.TypedDefault k d) h = if_there exprs d.condition h.1
 if_node_exists exprs (attributes.Prompt c) h = if_there exprs c h
@@ -144,7 +145,7 @@ by_test true x y u v e f = e
 by_test false x y u v e f = f
 
 -- the joined condition of an attribute is the same after the arena grew
-pub condition_on : (old new : Exprs) (ds vs : List Expr) (a : CodeAttribute) → Grows old new → AttributeNodesExist old a
+pub condition_on : (old new : Exprs) (ds vs : List Expr) (a : ReadAttribute) → Grows old new → AttributeNodesExist old a
     → condition_view new ds vs a ≡ condition_view old ds vs a
 condition_on old new ds vs a g h =
     let e = conjunct_on old new g (if_given a) (if_node_exists old a h) in

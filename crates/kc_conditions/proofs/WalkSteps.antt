@@ -1,17 +1,18 @@
 -- Steps of a walk through the groups.
-use Rattle.std.proofs.Common.{inl, inr, length-drop, drop-cons, add-one}
+use Rattle.std.proofs.Common.{inl, inr, length-drop, drop-cons, add-one, Result, Ok, Err, OnOk}
 use Rattle.std.proofs.lemmas.List.{reverse-append, take-append-le, drop-append-le}
 use Rattle.std.proofs.Math.Seq.{drop-append_seam}
 use Rattle.kc_conditions.proofs.Common.{◌≡◌, ℕ, suc, ◌+◌, ◌-◌, ◌<◌, ◌≤◌, Bool, true, false, cond, List, [], ◌∷◌, ◌++◌, length, get_or, take, drop, map, reverse, Option, Some, None, refl, ap, sym, subst, ◌∙◌, arith, append-nil, length-append, All, IfSome, slice_get, slice_range, take_all}
 use Rattle.kc_conditions.proofs.Common.{is_linux_6_12, Language, Exprs, Represents, node_expr, Grows, Expr, AttributeNodesExist, is_prompt, LineNodesExist, RepresentsHead, line_in, node_held, node_same, grows_same, choice, condition, Group, of_head, open_blocks, conjunction_of, visible_conjunct}
 use Rattle.kc_conditions.proofs.Common.{dependencies_of, context, group_in_context, Conjoins, conjunct, conjunct_views, AreJoined, AreAppended, condition_view, line_condition, first_prompt, RepresentsPrompt, GroupHeadNodesExist, or_yes, RepresentsEnclosing, RepresentsConditions}
-use Rattle.kc_conditions.proofs.Common.{RepresentsAllConditions, HasWalked, Dependencies, Visibles, EnclosingConditions, EntryConditions, GroupConditions, grows_on, option_to_list, filter_map, attribute_in, CodeAttribute, CodeLine}
-use Rattle.kc_statements.specs.declared.statement.Attribute.TheVariants as attributes
+use Rattle.kc_conditions.proofs.Common.{RepresentsAllConditions, HasWalked, Dependencies, Visibles, EnclosingConditions, EntryConditions, GroupConditions, grows_on, option_to_list, filter_map, attribute_in, ReadAttribute, CodeLine}
+use Rattle.kc_tree_model.specs.declared.statement.Attribute.TheVariants as attributes
 use Rattle.kc_parser.specs.declared.listing.GroupHead.{GroupHead as CodeHead}
 use Rattle.kc_parser.specs.declared.listing.GroupHead.TheVariants as codes
 use Rattle.kc_statements.proofs.GrownArenas.{attribute_same}
 use Rattle.kc_tree_model.specs.Trees as tree
-use Rattle.kc_tree_model.specs.Statements.{Attribute, menu, source, depends_of, visible_of, prompt_of}
+use Rattle.kc_tree_model.specs.Statements.{Attribute, depends_of, visible_of, prompt_of}
+use Rattle.kc_tree_model.specs.declared.statement.Head.TheVariants.{Menu as menu, Source as source}
 use Rattle.kc_tree_model.specs.Blocks.{Line, Side, GroupHead, opening, closing, inside, side_of}
 use Rattle.kc_tree_model.specs.Conditions.{attribute_values, shown_condition, inside_menu, inside_choice, inner_context_of_group_head, Context}
 use Rattle.kc_tree_model.specs.Contents.{menu_end_of}
@@ -20,6 +21,10 @@ use Rattle.kc_conditions.specs.between.Firsts.{RepresentsInside, is_end}
 use Rattle.kc_conditions.specs.between.Walks.{condition_among, condition_at, RepresentsEnd, RepresentsEnclosings, innermost_enclosing}
 use Rattle.kc_conditions.specs.declared.group_walk.GroupWalk.{GroupWalk}
 use Rattle.kc_conditions.proofs.Growth.{parts_given, conjoins_on, joined_on, represent_on, held_on, represents_all, condition_on}
+
+pub on_ok : {A E : Type 0} (r : Result A E) (P Q : Type 0) → (P → Q) → OnOk r P → OnOk r Q
+on_ok (Ok x) P Q f h = f h
+on_ok (Err e) P Q f h = tt
 
 -- an attribute that is no prompt is passed over in the search for the first prompt
 pub first_step : (lines : List CodeLine) (conditions : List ℕ) (i : ℕ) (d : CodeLine) → i < length lines → length conditions ≡ length lines
@@ -126,7 +131,7 @@ outer_shown language exprs texts y (a ∷ outer) [] h = absurd h
 outer_shown language exprs texts y (a ∷ outer) (g ∷ gs) h = h.1
 
 -- the condition of an attribute, by the code and by the definition
-condition_one : (exprs : Exprs) (ds vs : List Expr) (a : CodeAttribute) → condition_view exprs ds vs a ≡ condition_among ds vs (attribute_in exprs a)
+condition_one : (exprs : Exprs) (ds vs : List Expr) (a : ReadAttribute) → condition_view exprs ds vs a ≡ condition_among ds vs (attribute_in exprs a)
 condition_one exprs ds vs (attributes.Typed k) = refl
 condition_one exprs ds vs x = refl
 
@@ -343,7 +348,7 @@ what_on old new names texts x w g h = h
 abbrev prompts_among : List Expr → List Expr → List Line → List Expr
 prompts_among ds vs lines = map (λ c. conjunction_of (ds ++ (visible_conjunct vs ++ option_to_list c))) (filter_map (λ (l : Line). prompt_of l.attribute) lines)
 
-prompt_one : (old far : Exprs) (ds vs : List Expr) (n : ℕ) (a : CodeAttribute) (o : ℕ) (os : List ℕ) (ls : List CodeLine) (rest : List Line)
+prompt_one : (old far : Exprs) (ds vs : List Expr) (n : ℕ) (a : ReadAttribute) (o : ℕ) (os : List ℕ) (ls : List CodeLine) (rest : List Line)
     → o < length far.nodes → node_expr far o ≡ condition_view old ds vs a
     → RepresentsPrompt far (first_prompt ls os) (slice_get (prompts_among ds vs rest) 0)
     → RepresentsPrompt far (first_prompt (record { number = n; attribute = a } ∷ ls) (o ∷ os))

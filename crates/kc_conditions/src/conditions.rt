@@ -8,12 +8,13 @@ ghost use Rattle.kc_parser.specs.between.ListingView.{LineNodesExist};
 ghost use Rattle.kc_tree_model.specs.Conditions.{conjunction_of};
 ghost use Rattle.kc_conditions.specs.checker.Conjunctions.{Conjoins, conjunct};
 ghost use Rattle.kc_conditions.specs.checker.Conjuncts.{conjunct_views, condition_view, AreJoined, AreAppended};
-ghost use Rattle.kc_statements.specs.declared.statement.Conjuncts.TheVariants.{Dependencies, Visibles};
+ghost use Rattle.kc_tree_model.specs.declared.statement.Conjuncts.TheVariants.{Dependencies, Visibles};
 
 use kc_expr::{Arena, ExprId};
 use kc_parser::Line;
-use kc_statements::{Attribute, Conjuncts};
+use kc_statements::ReadAttribute;
 use kc_tokens::ExprFault;
+use kc_tree_model::Conjuncts;
 
 /// The joined conditions inside an open block, and the index of the title if it is a menu. `None` is the empty conjunction.
 #[derive(Clone, Copy)]
@@ -106,7 +107,7 @@ fn condition_of(
     arena: &mut Arena,
     yes: ExprId,
     entry: &EntryConditions,
-    attribute: &Attribute,
+    attribute: &ReadAttribute,
 ) -> Result<ExprId, ExprFault>
     requires dependencies { IfSome entry.now.dependencies (λ i. i < length arena.old.nodes) }
     requires shown { IfSome entry.now.shown (λ i. i < length arena.old.nodes) }

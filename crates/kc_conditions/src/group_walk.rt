@@ -8,7 +8,8 @@ ghost use Rattle.kc_expr.specs.Expr.{Expr, alone, constant, shown};
 ghost use Rattle.kc_parser.specs.between.ListingView.{LineNodesExist, RepresentsHead, line_in};
 ghost use Rattle.kc_tree_model.specs.Blocks.{Group as ModelGroup, of_head};
 ghost use Rattle.kc_tree_model.specs.Conditions.{conjunction_of, context, attribute_values, dependencies_of, prompts_of};
-ghost use Rattle.kc_tree_model.specs.Statements.{choice, condition as condition_head, visible_of};
+ghost use Rattle.kc_tree_model.specs.Statements.{visible_of};
+ghost use Rattle.kc_tree_model.specs.declared.statement.Head.TheVariants.{Choice as choice, Condition as condition_head};
 ghost use Rattle.kc_conditions.specs.checker.Conjuncts.{AreJoined};
 ghost use Rattle.kc_conditions.specs.between.Firsts.{first_prompt, RepresentsPrompt, RepresentsInside, is_end, GroupHeadNodesExist};
 ghost use Rattle.kc_conditions.specs.between.Walks.{RepresentsEnclosing, HasWalked, innermost_enclosing, or_yes};
@@ -185,7 +186,7 @@ fn yes_and_no(arena: &mut Arena) -> Result<(ExprId, ExprId), ExprFault>
 }
 
 impl GroupWalk {
-    /// A walk before the first group of a listing, with the expressions `y` and `n` added to its arena, and with room for so many
+    /// A walk before the first group of a listing, with the expressions `y` and `n` added to its arena, and with capacity for so many
     /// groups and attribute lines.
     pub(crate) fn new(
         alloc: Global,

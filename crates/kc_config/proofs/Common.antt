@@ -8,11 +8,11 @@ pub use Rattle.std.specs.Option.{option_or}
 pub use Rattle.std.specs.Ordering.{nat_cmp}
 pub use Rattle.std.specs.Prelude.{Contains, filter, is_none, slice_get}
 pub use Rattle.kc_config.specs.ConfigStates.{Configured, tree_in}
-pub use Rattle.kc_config.specs.checker.Configs.{clears_of, overs}
+pub use Rattle.kc_config.specs.checker.Configs.{clears_of, merged_assigns}
 pub use Rattle.kc_dotconfig.proofs.Insertions.{length_changed, none_length}
 pub use Rattle.kc_dotconfig.specs.Fragments.{FitsTree, changes_of, users_of}
 pub use Rattle.kc_dotconfig.specs.checker.UserValueOrder.{units_of}
-pub use Rattle.kc_dotconfig_model.specs.ConfigFiles.{empty_assignment, over, overlay}
+pub use Rattle.kc_dotconfig_model.specs.ConfigFiles.{empty_assignment, merged_user, merged_users}
 pub use Rattle.kc_dotconfig_model.specs.MissedAssignments.{is_missed}
 pub use Rattle.kc_rules.specs.between.SettledViews.{tree_of_settled}
 pub use Rattle.kc_rules_model.specs.Dependencies.{dependencies}

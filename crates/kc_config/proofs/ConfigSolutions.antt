@@ -1,6 +1,6 @@
 -- The state of a configuration after a change.
-use Rattle.kc_config.proofs.Common.{◌≡◌, inl, inr, ℕ, ◌<◌, IsTrue, List, [], ◌++◌, length, Option, Some, None, refl, sym, ◌∙◌, ap, subst, arith, Contains, filter, is_none, changed_users, user_of, FitsUsers, UserValue, user_fits, tree_of_settled, empty_assignment, overlay, Configured, tree_in}
-use Rattle.kc_config.proofs.Common.{FitsTree, changes_of, users_of, units_of, clears_of, overs}
+use Rattle.kc_config.proofs.Common.{◌≡◌, inl, inr, ℕ, ◌<◌, IsTrue, List, [], ◌++◌, length, Option, Some, None, refl, sym, ◌∙◌, ap, subst, arith, Contains, filter, is_none, changed_users, user_of, FitsUsers, UserValue, user_fits, tree_of_settled, empty_assignment, merged_users, Configured, tree_in}
+use Rattle.kc_config.proofs.Common.{FitsTree, changes_of, users_of, units_of, clears_of, merged_assigns}
 use Rattle.std.specs.Prelude.{replicate}
 use Rattle.kc_solver.specs.Solutions.{UniquelySolves, FitsValues}
 use Rattle.kc_rules_model.specs.Rule.{rule}
@@ -11,7 +11,7 @@ use Rattle.kc_rules.specs.declared.rules.Settled.{Settled}
 use Rattle.kc_rules.specs.between.SettledViews.{profile_of}
 use Rattle.kc_config.specs.ConfigStates.{IsSolved}
 use Rattle.kc_config.specs.checker.Configs.{IsSoundConfig}
-use Rattle.kc_config.proofs.MergedValues.{units_overs, lies_over}
+use Rattle.kc_config.proofs.MergedValues.{merged_units, changes_merged}
 use Rattle.kc_config.proofs.UserValueUnits.{changed_both, cleared, given_or_had, none_held, units_within, in_front, in_back, in_either, in_filter, of_filter}
 
 pub solved_by : (old new : Configured) → IsSolved old → new.system ≡ old.system
@@ -53,7 +53,7 @@ none_kept settled new valued solved same users none = record {
 -- a configuration stays sound if user values are added and their units, where they had none, are added to the listed ones
 pub merged_kept : (settled : Settled) (old new : Configured) (valued more : List ℕ) (es : List (ℕ × UserValue)) → IsSoundConfig settled old valued
     → FitsTree (tree_in old) es → IsSolved new → new.system ≡ old.system
-    → new.users ≡ changed_users (changes_of (overs old.users es)) old.users → more ≡ valued ++ filter (λ u. is_none (user_of old.users u)) (units_of es)
+    → new.users ≡ changed_users (changes_of (merged_assigns old.users es)) old.users → more ≡ valued ++ filter (λ u. is_none (user_of old.users u)) (units_of es)
     → IsSoundConfig settled new more
 merged_kept settled old new valued more es kept fits solved same users is = record {
   same = same ∙ kept.same;
@@ -61,10 +61,10 @@ merged_kept settled old new valued more es kept fits solved same users is = reco
   covers = λ u x e. subst (λ l. Contains l u) (sym is) (covers u x (ap (λ l. user_of l u) (sym users) ∙ e));
   within = λ u c. subst (λ s. u < length (tree_of_settled s).units) (sym same) (below u (subst (λ l. Contains l u) is c));
 } where
-  covers : (u : ℕ) (x : UserValue) → user_of (changed_users (changes_of (overs old.users es)) old.users) u ≡ Some x
+  covers : (u : ℕ) (x : UserValue) → user_of (changed_users (changes_of (merged_assigns old.users es)) old.users) u ≡ Some x
       → Contains (valued ++ filter (λ u. is_none (user_of old.users u)) (units_of es)) u
-  covers u x e = elim (given_or_had (overs old.users es) old.users u x e) [
-    | inl given ↦ by (user_of old.users u) refl (subst (λ l. Contains l u) (units_overs old.users es) given)
+  covers u x e = elim (given_or_had (merged_assigns old.users es) old.users u x e) [
+    | inl given ↦ by (user_of old.users u) refl (subst (λ l. Contains l u) (merged_units old.users es) given)
     | inr had ↦ in_front valued (filter (λ u. is_none (user_of old.users u)) (units_of es)) u (kept.covers u had.0 had.1)
   ] where
     by : (o : Option UserValue) → user_of old.users u ≡ o → Contains (units_of es) u
@@ -112,7 +112,7 @@ replaced_users settled old valued es users kept is =
     is ∙ changed_both (clears_of valued) (changes_of es) old.users
     ∙ ap (changed_users (changes_of es)) (cleared valued old.users kept.covers ∙ ap (λ n. replicate n None) kept.solved.fits.0)
 
-pub merged_users : (settled : Settled) (old : Configured) (valued : List ℕ) (es : List (ℕ × UserValue)) (users : List (Option UserValue))
+pub users_merged : (settled : Settled) (old : Configured) (valued : List ℕ) (es : List (ℕ × UserValue)) (users : List (Option UserValue))
     → IsSoundConfig settled old valued → FitsTree (tree_in old) es
-    → users ≡ changed_users (changes_of (overs old.users es)) old.users → users ≡ overlay (users_of (tree_in old) es) old.users
-merged_users settled old valued es users kept fits is = is ∙ lies_over (tree_in old) es old.users fits kept.solved.fits.0
+    → users ≡ changed_users (changes_of (merged_assigns old.users es)) old.users → users ≡ merged_users (users_of (tree_in old) es) old.users
+users_merged settled old valued es users kept fits is = is ∙ changes_merged (tree_in old) es old.users fits kept.solved.fits.0

@@ -2,11 +2,11 @@
 use Rattle.std.proofs.Common.{◌≢◌, ◌⊎◌, Bool, IfSome}
 use Rattle.std.specs.Prelude.{slice_set, slice_index_or, replicate}
 use Rattle.kc_config.proofs.Common.{◌≡◌, inl, inr, ℕ, zero, suc, ◌<◌, true, false, cond, IsTrue, List, [], ◌∷◌, ◌++◌, length, Option, Some, None, refl, sym, ◌∙◌, ap, subst, arith, slice_get, Contains, filter, cases_eq, length-set, Tree, changed_users, FitsChanges, user_of, FitsUsers, UserValue}
-use Rattle.kc_config.proofs.Common.{user_fits, empty_assignment, overlay, FitsTree, changes_of, users_of, length_changed, none_length, units_of, clears_of}
+use Rattle.kc_config.proofs.Common.{user_fits, empty_assignment, merged_users, FitsTree, changes_of, users_of, length_changed, none_length, units_of, clears_of}
 use Rattle.std.proofs.lemmas.List.{get_or-set_other}
 use Rattle.kc_solver.proofs.Lists.{none_fits}
 use Rattle.kc_solver.proofs.UserChanges.{changed_fits}
-use Rattle.kc_dotconfig_model.proofs.Overlays.{over_none}
+use Rattle.kc_dotconfig_model.proofs.MergedUsers.{over_none}
 
 pub changed_both : (a b : List (ℕ × Option UserValue)) (users : List (Option UserValue)) → changed_users (a ++ b) users
     ≡ changed_users b (changed_users a users)
@@ -78,15 +78,15 @@ cleared (w ∷ units) users covers = cleared units (slice_set users w None) rest
   ]
 
 -- the assignment of a list's user values alone is its own overlay over the empty assignment
-over_empty : (users : List (Option UserValue)) → overlay users (replicate (length users) None) ≡ users
+over_empty : (users : List (Option UserValue)) → merged_users users (replicate (length users) None) ≡ users
 over_empty [] = refl
 over_empty (None ∷ users) = ap (λ l. None ∷ l) (over_empty users)
-over_empty (Some x ∷ users) = ap (λ y. Some y ∷ overlay users (replicate (length users) None)) (over_none x) ∙ ap (λ l. Some x ∷ l) (over_empty users)
+over_empty (Some x ∷ users) = ap (λ y. Some y ∷ merged_users users (replicate (length users) None)) (over_none x) ∙ ap (λ l. Some x ∷ l) (over_empty users)
 
-pub lies_alone : (tree : Tree) (es : List (ℕ × UserValue)) → users_of tree es ≡ overlay (users_of tree es) (empty_assignment tree)
+pub lies_alone : (tree : Tree) (es : List (ℕ × UserValue)) → users_of tree es ≡ merged_users (users_of tree es) (empty_assignment tree)
 lies_alone tree es =
     sym (over_empty (users_of tree es))
-    ∙ ap (λ n. overlay (users_of tree es) (replicate n None)) (length_changed es (empty_assignment tree) ∙ none_length (length tree.units))
+    ∙ ap (λ n. merged_users (users_of tree es) (replicate n None)) (length_changed es (empty_assignment tree) ∙ none_length (length tree.units))
 
 -- fitting user values are fitting changes
 same_pair : (p q : ℕ × Option UserValue) → Some p ≡ Some q → p ≡ q

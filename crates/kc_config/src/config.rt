@@ -6,13 +6,13 @@ ghost use Rattle.kc_tree_model.specs.TreeLookup.{symbol_named};
 ghost use Rattle.kc_rules_model.specs.Dependencies.{dependencies};
 ghost use Rattle.kc_rules_model.specs.SymbolValues.{value_of_symbol};
 ghost use Rattle.kc_rules.specs.between.SettledViews.{tree_of_settled, value_view, value_of_ref};
-ghost use Rattle.kc_dotconfig_model.specs.ConfigFiles.{empty_assignment, overlay};
+ghost use Rattle.kc_dotconfig_model.specs.ConfigFiles.{empty_assignment, merged_users};
 ghost use Rattle.kc_dotconfig_model.specs.MissedAssignments.{missed};
 ghost use Rattle.kc_dotconfig.specs.Fragments.{FitsTree, users_of};
 ghost use Rattle.kc_config.specs.ConfigStates.{tree_in, IsSolved};
 
 use super::changes::{merge_units, push_cleared, push_users, units_assigned, users_assigned};
-use super::merged_values::push_overs;
+use super::merged_values::push_merged;
 use super::missed_assignments::missed_symbols;
 use kc_dotconfig::Fragment;
 use kc_rules::{Settled, Steps};
@@ -126,7 +126,7 @@ impl<'a> Config<'a> {
     pub fn merge(&mut self, fragment: &Fragment) -> Result<ChangedUnits, AllocError>
         requires fits { FitsTree (tree_in self.old) fragment.now.assigns.items }
         ensures settled { self.new.system ≡ self.old.system }
-        ensures users { OnOk result (self.new.users ≡ overlay (users_of (tree_in self.old) fragment.now.assigns.items) self.old.users) }
+        ensures users { OnOk result (self.new.users ≡ merged_users (users_of (tree_in self.old) fragment.now.assigns.items) self.old.users) }
         ensures solved { IsSolved self.new }
         ensures changed { IfOk result (λ report. IsListOf (length (tree_in self.old).units) (IsChanged self.old.values self.new.values) report.changed.items) }
         ensures evaluated { IfOk result (λ report. IsCountOf (length (tree_in self.old).units) (IsTouched (dependencies (tree_in self.old)) self.old.users self.new.users self.old.values self.new.values) report.evaluated) }
@@ -134,7 +134,7 @@ impl<'a> Config<'a> {
     {
         let mut changes = Vec::with_capacity(self.alloc, fragment.assigns.len())?;
         let users = self.session.users();
-        push_overs(self.alloc, &mut changes, users, &fragment.assigns)?;
+        push_merged(self.alloc, &mut changes, users, &fragment.assigns)?;
         let count = self.valued.len();
         match merge_units(&mut self.valued, self.session.users(), &fragment.assigns) {
             Ok(()) => {}

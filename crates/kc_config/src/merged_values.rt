@@ -3,11 +3,11 @@ ghost use Rattle.std.specs.Prelude.{◌≡◌, ◌++◌, ℕ, IfOk, OnOk};
 ghost use Rattle.std.specs.Option.{option_copied};
 ghost use Rattle.std.specs.BTreeSet.{contains};
 ghost use Rattle.std.specs.Ordering.{nat_cmp};
-ghost use Rattle.kc_rules_model.specs.MemberLines.{is_listed, laid_over};
+ghost use Rattle.kc_rules_model.specs.MemberLines.{is_listed, merged_lines};
 ghost use Rattle.kc_solver.specs.Solutions.{user_of};
-ghost use Rattle.kc_dotconfig_model.specs.ConfigFiles.{over};
+ghost use Rattle.kc_dotconfig_model.specs.ConfigFiles.{merged_user};
 ghost use Rattle.kc_dotconfig.specs.Fragments.{changes_of};
-ghost use Rattle.kc_config.specs.checker.Configs.{overs};
+ghost use Rattle.kc_config.specs.checker.Configs.{merged_assigns};
 
 use kc_rules::Settled;
 use kc_rules_model::{MemberLine, MemberLines, UserValue};
@@ -30,12 +30,12 @@ fn listed_members(alloc: Global, lines: &[MemberLine]) -> Result<BTreeSet<u32>, 
 }
 
 /// Assignments of members of a choice, overridden by later ones of the same members.
-fn laid_over(
+fn merged_lines(
     alloc: Global,
     later: &[MemberLine],
     earlier: &[MemberLine],
 ) -> Result<MemberLines, AllocError>
-    ensures { IfOk result (λ lines. lines ≡ laid_over later.now earlier.now) }
+    ensures { IfOk result (λ lines. lines ≡ merged_lines later.now earlier.now) }
 {
     let members = listed_members(alloc, later)?;
     let mut lines = Vec::with_capacity(alloc, later.len())?;
@@ -50,16 +50,16 @@ fn laid_over(
 
 /// A user value over an earlier one of the same unit, if there is one: assignments of members override those of the same members, any other
 /// user value replaces the earlier one.
-pub(crate) fn user_over(
+pub(crate) fn merged_user(
     alloc: Global,
     later: &UserValue,
     earlier: Option<&UserValue>,
 ) -> Result<UserValue, AllocError>
-    ensures { IfOk result (λ x. x ≡ over later.now (option_copied earlier.entry)) }
+    ensures { IfOk result (λ x. x ≡ merged_user later.now (option_copied earlier.entry)) }
 {
     match (later, earlier) {
         (UserValue::Lines(later), Some(UserValue::Lines(earlier))) => {
-            let lines = laid_over(alloc, later.as_slice(), earlier.as_slice())?;
+            let lines = merged_lines(alloc, later.as_slice(), earlier.as_slice())?;
             Ok(UserValue::Lines(lines))
         }
         (UserValue::Lines(_), Some(earlier)) => Settled::copy_user(alloc, earlier),
@@ -78,16 +78,16 @@ pub fn user_at(users: &[Option<UserValue>], unit: u32) -> Option<&UserValue>
 }
 
 /// Appends to `changes` those that set the units of `assigns` to their user values over those in `users`.
-pub(crate) fn push_overs(
+pub(crate) fn push_merged(
     alloc: Global,
     changes: &mut Vec<(u32, Option<UserValue>)>,
     users: &[Option<UserValue>],
     assigns: &[(u32, UserValue)],
 ) -> Result<(), AllocError>
-    ensures { OnOk result (changes.new.items ≡ changes.old.items ++ changes_of (overs users.now assigns.now)) }
+    ensures { OnOk result (changes.new.items ≡ changes.old.items ++ changes_of (merged_assigns users.now assigns.now)) }
 {
     for (unit, user) in assigns {
-        let merged = user_over(alloc, user, user_at(users, *unit))?;
+        let merged = merged_user(alloc, user, user_at(users, *unit))?;
         changes.push((*unit, Some(merged)))?;
     }
     Ok(())

@@ -23,7 +23,7 @@ pub use Rattle.kc_dotconfig.specs.checker.UserValueOrder.{AreAbove, AreBelow, Is
 pub use Rattle.kc_dotconfig.specs.declared.accumulator.Accumulator.{Accumulator}
 pub use Rattle.kc_dotconfig.specs.declared.meanings.Meaning.{Meaning}
 pub use Rattle.kc_dotconfig_model.proofs.Cuts.{split}
-pub use Rattle.kc_dotconfig_model.specs.ConfigFiles.{FileMeans, empty_assignment, file_assignment, over}
+pub use Rattle.kc_dotconfig_model.specs.ConfigFiles.{FileMeans, empty_assignment, file_assignment, merged_user}
 pub use Rattle.kc_dotconfig_model.specs.ConfigLines.{IsMalformed, LineMeaning, Means, assigns, assigns_escaped, notice, silent, unchosen}
 pub use Rattle.kc_dotconfig_model.specs.Formats.{FileFormat}
 pub use Rattle.kc_dotconfig_model.specs.LoadFaults.{IsFirstFault, complete}

@@ -1,12 +1,12 @@
 -- Gathered assignments of members.
 use Rattle.std.proofs.Common.{◌||◌, filter}
 use Rattle.kc_dotconfig.proofs.Common.{◌≡◌, ◌≢◌, ◌⊎◌, inl, inr, ℕ, suc, ◌<◌, ◌≤◌, Bool, true, false, not, ◌==◌, cond, List, [], ◌∷◌, ◌++◌, length, Option, Some, None, refl, sym, ◌∙◌, ap, arith, Vec, is_some, slice_set, option_or, lookup, is_at, insert_entry, nat_cmp, match_ordering, nat_cmp_is}
-use Rattle.kc_dotconfig.proofs.Common.{Ordering, Less, Equal, Greater, cases_eq, false≢true, get_or-set_same, get_or-set_other, length-set, changed_users, user_of, MemberLine, UserValue, is_listed, over, kept_last, changes_of, AreAbove, IsAscending, AreBelow, lines_user, value_in, lines_in, held_in}
+use Rattle.kc_dotconfig.proofs.Common.{Ordering, Less, Equal, Greater, cases_eq, false≢true, get_or-set_same, get_or-set_other, length-set, changed_users, user_of, MemberLine, UserValue, is_listed, merged_user, kept_last, changes_of, AreAbove, IsAscending, AreBelow, lines_user, value_in, lines_in, held_in}
 use Rattle.kc_dotconfig.proofs.Common.{with_unit, joined, split}
 use Rattle.std.specs.Option.{option_map}
 use Rattle.std.specs.Ordering.{is_eq}
 use Rattle.kc_rules_model.specs.declared.values.UserValue.TheVariants.{Lines as LinesUser}
-use Rattle.kc_rules_model.specs.MemberLines.{laid_over}
+use Rattle.kc_rules_model.specs.MemberLines.{merged_lines}
 
 -- a list with one more assignment lists the member of this one too
 listed_push : (lines : List MemberLine) (l : MemberLine) (s : ℕ) → is_listed (lines ++ l ∷ []) s ≡ (is_listed lines s || (l.member == s))
@@ -20,14 +20,14 @@ listed_push (k ∷ lines) l s = ap (λ t. (k.member == s) || t) (listed_push lin
   assoc false b c = refl
 
 -- one more assignment overrides those kept
-pub kept_push : (lines : List MemberLine) (l : MemberLine) → kept_last (lines ++ l ∷ []) ≡ laid_over (l ∷ []) (kept_last lines)
+pub kept_push : (lines : List MemberLine) (l : MemberLine) → kept_last (lines ++ l ∷ []) ≡ merged_lines (l ∷ []) (kept_last lines)
 kept_push [] l = refl
 kept_push (k ∷ lines) l =
     ap (λ b. cond b (kept_last (lines ++ l ∷ [])) (k ∷ kept_last (lines ++ l ∷ []))) (listed_push lines l k.member)
     ∙ ap (λ r. cond (is_listed lines k.member || (l.member == k.member)) r (k ∷ r)) (kept_push lines l)
     ∙ go (kept_last lines) (is_listed lines k.member) (l.member == k.member) refl where
       go : (kept : List MemberLine) (a b : Bool) → (l.member == k.member) ≡ b
-          → cond (a || b) (laid_over (l ∷ []) kept) (k ∷ laid_over (l ∷ []) kept) ≡ laid_over (l ∷ []) (cond a kept (k ∷ kept))
+          → cond (a || b) (merged_lines (l ∷ []) kept) (k ∷ merged_lines (l ∷ []) kept) ≡ merged_lines (l ∷ []) (cond a kept (k ∷ kept))
       go kept true b e = refl
       go kept false b e = at (filter (λ (x : MemberLine). not (is_listed (l ∷ []) x.member)) kept) b e where
         at : (others : List MemberLine) (b : Bool) → (l.member == k.member) ≡ b
@@ -36,7 +36,7 @@ kept_push (k ∷ lines) l =
         at others false e = sym (ap (λ t. cond (not (t || false)) (k ∷ others) others ++ l ∷ []) e)
 
 -- an assignment of a member over those of a unit
-pub lines_over : (lines : List MemberLine) (l : MemberLine) → lines_user (lines ++ l ∷ []) ≡ over (LinesUser (l ∷ [])) (Some (lines_user lines))
+pub lines_over : (lines : List MemberLine) (l : MemberLine) → lines_user (lines ++ l ∷ []) ≡ merged_user (LinesUser (l ∷ [])) (Some (lines_user lines))
 lines_over lines l = ap (λ x. LinesUser x) (kept_push lines l)
 
 -- what is at a unit in a list of pairs after an insertion

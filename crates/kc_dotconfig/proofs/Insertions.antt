@@ -1,7 +1,7 @@
 -- A user value inserted into a sorted list is a change of the assignment.
 use Rattle.kc_dotconfig.proofs.Common.{◌≡◌, ◌≢◌, inl, inr, Bool, true, false, cond, ◌==◌, eq-eqb, ℕ, zero, suc, ◌+◌, ◌<◌, List, [], ◌∷◌, ◌++◌, length, length-append, map, Option, Some, None, refl, sym, ◌∙◌, ap, subst, arith, Vec, slice_set, is_some, option_or, nat_cmp_is, nat_cmp, match_ordering}
 use Rattle.kc_dotconfig.proofs.Common.{Ordering, Less, Equal, Greater, insert_entry, cases_eq, ne_eqb, get_or-set_same, get_or-set_other, length-set, user_of, changed_users, MemberLine, UserValue, changes_of, users_of, notice_pair, IsGathered, AreAbove, IsAscending, AreBelow, value_in, lines_in}
-use Rattle.kc_dotconfig.proofs.Common.{lines_more, lines_user, held_in, with_unit, joined, IsPlain, Tree, NoticeKind, Escape, Accumulator, LineMeaning, assigns, assigns_escaped, unchosen, notice, silent, over, empty_assignment, file_assignment, choice_line_of, append-nil, split}
+use Rattle.kc_dotconfig.proofs.Common.{lines_more, lines_user, held_in, with_unit, joined, IsPlain, Tree, NoticeKind, Escape, Accumulator, LineMeaning, assigns, assigns_escaped, unchosen, notice, silent, merged_user, empty_assignment, file_assignment, choice_line_of, append-nil, split}
 use Rattle.std.specs.Prelude.{replicate}
 use Rattle.std.specs.Option.{option_map}
 use Rattle.std.proofs.lemmas.List.{set_comm}
@@ -104,7 +104,7 @@ chosen_after meanings g h s before counted after =
 length_over : (meanings : List LineMeaning) (users : List (Option UserValue)) → length (assigned_over meanings users) ≡ length users
 length_over [] users = refl
 length_over (assigns u x ∷ meanings) users =
-    length_over meanings (slice_set users u (Some (over x (user_of users u)))) ∙ length-set users u (Some (over x (user_of users u)))
+    length_over meanings (slice_set users u (Some (merged_user x (user_of users u)))) ∙ length-set users u (Some (merged_user x (user_of users u)))
 length_over (assigns_escaped u text ∷ meanings) users =
     length_over meanings (slice_set users u (Some (TextUser text))) ∙ length-set users u (Some (TextUser text))
 length_over (unchosen u s ∷ meanings) users = length_over meanings users
@@ -123,13 +123,13 @@ none_of_unit zero u = refl
 none_of_unit (suc n) zero = refl
 none_of_unit (suc n) (suc u) = none_of_unit n u
 
-plain_over : (x : UserValue) (o : Option UserValue) → IsPlain x → over x o ≡ x
+plain_over : (x : UserValue) (o : Option UserValue) → IsPlain x → merged_user x o ≡ x
 plain_over (TriUser t) o plain = refl
 plain_over (TextUser text) o plain = refl
 plain_over (MemberUser s) o plain = refl
 plain_over (LinesUser lines) o plain = absurd plain
 
-over_plain : (lines : List MemberLine) (x : UserValue) → IsPlain x → over (LinesUser lines) (Some x) ≡ x
+over_plain : (lines : List MemberLine) (x : UserValue) → IsPlain x → merged_user (LinesUser lines) (Some x) ≡ x
 over_plain lines (TriUser t) plain = refl
 over_plain lines (TextUser text) plain = refl
 over_plain lines (MemberUser s) plain = refl
@@ -137,19 +137,19 @@ over_plain lines (LinesUser earlier) plain = absurd plain
 
 -- the user value of a unit after one more line that assigns one
 module _ (tree : Tree) (meanings : List LineMeaning) (w : ℕ) (x : UserValue) (u : ℕ) where
-  after_same : u ≡ w → u < length tree.units → user_of (file_assignment tree (meanings ++ assigns w x ∷ [])) u ≡ Some (over x (user_of (file_assignment tree meanings) u))
+  after_same : u ≡ w → u < length tree.units → user_of (file_assignment tree (meanings ++ assigns w x ∷ [])) u ≡ Some (merged_user x (user_of (file_assignment tree meanings) u))
   after_same same inside =
       let file = file_assignment tree meanings in
       let long = file_length tree meanings in
       ap (λ l. user_of l u) (over_more meanings (assigns w x) (empty_assignment tree))
-      ∙ ap (λ k. user_of (slice_set file k (Some (over x (user_of file k)))) u) (sym same)
-      ∙ get_or-set_same file u (Some (over x (user_of file u))) None (omega arith)
+      ∙ ap (λ k. user_of (slice_set file k (Some (merged_user x (user_of file k)))) u) (sym same)
+      ∙ get_or-set_same file u (Some (merged_user x (user_of file u))) None (omega arith)
 
   after_other : u ≢ w → user_of (file_assignment tree (meanings ++ assigns w x ∷ [])) u ≡ user_of (file_assignment tree meanings) u
   after_other other =
       let file = file_assignment tree meanings in
       ap (λ l. user_of l u) (over_more meanings (assigns w x) (empty_assignment tree))
-      ∙ get_or-set_other file w u (Some (over x (user_of file w))) None other
+      ∙ get_or-set_other file w u (Some (merged_user x (user_of file w))) None other
 
 same_held : (g h : Accumulator) (u : ℕ) → h.assigns ≡ g.assigns → h.members.entries ≡ g.members.entries
     → held_in g.assigns g.members.entries u ≡ held_in h.assigns h.members.entries u
@@ -191,7 +191,7 @@ gathers_user tree meanings g h w x within unlisted is entries members notices ch
 
 -- one more assignment of a member over what is held of its unit
 one_more : (held : Option UserValue) (lines : Option (List MemberLine)) (l : MemberLine) → ((x : UserValue) → held ≡ Some x → IsPlain x)
-    → Some (over (LinesUser (l ∷ [])) (option_or held (option_map lines_user lines))) ≡ option_or held (option_map lines_user (lines_more lines l))
+    → Some (merged_user (LinesUser (l ∷ [])) (option_or held (option_map lines_user lines))) ≡ option_or held (option_map lines_user (lines_more lines l))
 one_more (Some x) lines l plain = ap Some (over_plain (l ∷ []) x (plain x refl))
 one_more None None l plain = refl
 one_more None (Some lines) l plain = ap Some (sym (lines_over lines l))
@@ -210,7 +210,7 @@ gathers_line tree meanings g h w l within is entries members notices chosen line
         let more : lines_in h.members.entries u ≡ lines_more (lines_in g.members.entries u) l = members u
         ∙ ap (λ b. cond b (lines_more (lines_in g.members.entries u) l) (lines_in g.members.entries u)) (eq-eqb u w same) in
         after_same tree meanings w (LinesUser (l ∷ [])) u same inside
-        ∙ ap (λ o. Some (over (LinesUser (l ∷ [])) o)) (is.users u inside)
+        ∙ ap (λ o. Some (merged_user (LinesUser (l ∷ [])) o)) (is.users u inside)
         ∙ one_more (value_in g.assigns u) (lines_in g.members.entries u) l (is.plain u)
         ∙ sym (ap (λ es. held_in es h.members.entries u) entries ∙ ap (λ o. option_or (value_in g.assigns u) (option_map lines_user o)) more)
     | inr other ↦

@@ -10,7 +10,7 @@ use Rattle.kc_value.specs.Number.{number_of_text}
 use Rattle.kc_tree_model.specs.Trees.{Tree, Symbol}
 use Rattle.kc_tree_model.specs.TreeLookup.{IsConsistent, symbol_named}
 use Rattle.kc_tree_model.proofs.Lookups.{found_by_name}
-use Rattle.kc_rules_model.specs.Kinds.{is_y}
+use Rattle.kc_value.specs.Tri.{is_y}
 use Rattle.kc_dotconfig.specs.declared.meanings.Meaning.{Meaning}
 use Rattle.kc_dotconfig.specs.between.MeaningViews.{meaning_view, IsWithin}
 use Rattle.kc_rules_model.specs.declared.values.UserValue.TheVariants.{Text as TextUser, Lines as LinesUser}

@@ -2,7 +2,7 @@
 use Rattle.kc_dotconfig_model.proofs.Common.{◌≡◌, ◌⊎◌, inl, inr, ℕ, suc, ◌<◌, Bool, true, false, cond, List, [], ◌∷◌, ◌++◌, Option, Some, None, length, get_or, refl, sym, ap, ◌∙◌, subst, arith, slice_get, slice_set, is_some, bytes_eq, AllZip, position_or_len, cases_eq, ltb-true, get_or-set_same}
 use Rattle.kc_dotconfig_model.proofs.Common.{get_or-set_other, length-set, bytes_eq-Decides, Tri, N, Text, number_of_text, Tree, Symbol, IsConsistent, unit_of, symbol_named, user_of, UserValue, member_user, Language, is_linux_6_12, is_tri_kind, unit_is, index_if_found, Strings, NoticeKind}
 use Rattle.kc_dotconfig_model.proofs.Common.{UnknownSymbol, NotOfType, FileFormat, IsStringSpelling, LineMeaning, assigns, assigns_escaped, unchosen, notice, silent, unchosen_meaning, has_escape_notice, text_meaning, unset_meaning, ValueMeans, tri, chosen, not_chosen, quoted, number, no_int, no_hex}
-use Rattle.kc_dotconfig_model.proofs.Common.{Means, value, unset, empty, comment, without_white_end, over, assigned_over}
+use Rattle.kc_dotconfig_model.proofs.Common.{Means, value, unset, empty, comment, without_white_end, merged_user, assigned_over}
 use Rattle.std.proofs.lemmas.List.Sums.{passes_at_first}
 use Rattle.std.proofs.lemmas.Option.{get_or_from_slice_get}
 use Rattle.kc_tree_model.specs.declared.ids.Unit.TheVariants.{Symbol as of_symbol}
@@ -30,7 +30,7 @@ one_further format tree first lines u means h =
     record { number = suc h.number; line = h.line; at = h.at; meaning = h.meaning; has_meaning = h.has_meaning; assigned = h.assigned }
 
 -- a text that is a user value over another one is either of these
-text_over : (y : UserValue) (o : Option UserValue) (means : List ℕ) → over y o ≡ TextUser means → (y ≡ TextUser means) ⊎ (o ≡ Some (TextUser means))
+text_over : (y : UserValue) (o : Option UserValue) (means : List ℕ) → merged_user y o ≡ TextUser means → (y ≡ TextUser means) ⊎ (o ≡ Some (TextUser means))
 text_over (TextUser t) o means e = inl e
 text_over (LinesUser l) (Some (TextUser t)) means e = inr (ap Some e)
 text_over _ _ means e = cc
@@ -70,7 +70,7 @@ assigning_line format tree (line ∷ lines) (assigns_escaped w text ∷ meanings
     (assigning_line format tree lines meanings (slice_set held w (Some (TextUser text))) u means reads.1 (omega arith) has)
     (λ same value. let own : text ≡ means = cc in inr (inr (ap (λ k. assigns_escaped k text) (sym same) ∙ ap (assigns_escaped u) own)))
 assigning_line format tree (line ∷ lines) (assigns w y ∷ meanings) held u means reads inside has =
-    let z = over y (user_of held w) in
+    let z = merged_user y (user_of held w) in
     let len = length-set held w (Some z) in
     here_or_before format tree line lines (assigns w y) held u means w z reads.0 inside
     (assigning_line format tree lines meanings (slice_set held w (Some z)) u means reads.1 (omega arith) has) (λ same value.

@@ -2,7 +2,7 @@
 use Rattle.std.proofs.Common.{eq-eqb, eqb-true, map}
 use Rattle.kc_dotconfig_model.proofs.Common.{◌≡◌, ◌≢◌, ◌⊎◌, inl, inr, ℕ, ◌+◌, ◌<◌, Bool, true, false, not, ◌&&◌, ◌==◌, cond, List, [], ◌∷◌, ◌++◌, Option, Some, None, length, refl, sym, ◌∙◌, ap, subst, arith, is_some, slice_get, slice_set, AllZip, AllByRecursion, list_all, option_or, option_and_then}
 use Rattle.kc_dotconfig_model.proofs.Common.{cases_eq, false≢true, get_or-set_same, get_or-set_other, filter-append, slice_get_within, Language, Linux, V6_12, is_linux_6_12, Tree, Choice, IsConsistent, user_of, MemberLine, UnitValue, UserValue, last_y, is_shown, is_visible_member, default_member}
-use Rattle.kc_dotconfig_model.proofs.Common.{unit_user_fits, choice_user_fits, is_member, ChoiceLine, FileFormat, LineMeaning, assigns, assigns_escaped, unchosen, notice, silent, FileMeans, has_utf8_lines, file_lines, assigned, assigned_over, file_assignment, overlay, empty_assignment, over}
+use Rattle.kc_dotconfig_model.proofs.Common.{unit_user_fits, choice_user_fits, is_member, ChoiceLine, FileFormat, LineMeaning, assigns, assigns_escaped, unchosen, notice, silent, FileMeans, has_utf8_lines, file_lines, assigned, assigned_over, file_assignment, merged_users, empty_assignment, merged_user}
 use Rattle.kc_dotconfig_model.proofs.Common.{given_by, other_member, own_member, IsGivenN, IsHiddenLast}
 use Rattle.std.specs.Option.{option_map}
 use Rattle.std.proofs.lemmas.Bool.{ne_eqb}
@@ -16,11 +16,11 @@ use Rattle.kc_rules_model.specs.MemberLines.{selected_by_lines}
 use Rattle.kc_rules_model.specs.Rule.{rule, rule_of_unit, rule_of_choice, shown_choice_rule, assigned_lines}
 use Rattle.kc_rules_model.specs.Shapes.{user_fits}
 use Rattle.kc_rules_model.specs.SymbolValues.{member_of}
-use Rattle.kc_dotconfig_model.specs.ConfigFiles.{overlaid_by, files_assignment}
+use Rattle.kc_dotconfig_model.specs.ConfigFiles.{merged_files, files_assignment}
 use Rattle.kc_dotconfig_model.specs.OtherChoices.{has_no_version, choice_line_of, choice_lines_from, placed_from, lines_of, noticed_line, other_line, other_line_of_unit}
 use Rattle.kc_dotconfig_model.specs.OtherChoiceLaws.{member_since, lines_in_files, IsUnitOfChoice, IsOtherSince, ChoicesFollowLines, NoticesAreWhereValuesDiffer, DifferingValuesHaveReasons}
 use Rattle.kc_dotconfig_model.proofs.FittingFiles.{SayingFits, lines_lack, sayings_fit, none_held, none_length}
-use Rattle.kc_dotconfig_model.proofs.Overlays.{assigned_length, file_length, file_over}
+use Rattle.kc_dotconfig_model.proofs.MergedUsers.{assigned_length, file_length, file_over}
 use Rattle.kc_dotconfig_model.proofs.OtherLines.{have_reasons, have_lines}
 
 -- the user value that lines of members give the choice whose unit is `u`: the member last assigned `y`
@@ -101,11 +101,11 @@ module _ (tree : Tree) (before : is_linux_6_12 tree.language ≡ false) (u c : �
       set_here users w s inside
       ∙ ap (λ o. option_or o (user_of users u)) (sym (last_one u (f, record { unit = w; given = record { member = s; is_y = true }; line = n })))
   one_line f n (assigns w (TriUser t)) users fits inside =
-      set_there users w (TriUser t) (no_tri (TriUser t) refl) fits (Some (over (TriUser t) (user_of users w)))
+      set_there users w (TriUser t) (no_tri (TriUser t) refl) fits (Some (merged_user (TriUser t) (user_of users w)))
   one_line f n (assigns w (TextUser text)) users fits inside =
-      set_there users w (TextUser text) (no_tri (TextUser text) refl) fits (Some (over (TextUser text) (user_of users w)))
+      set_there users w (TextUser text) (no_tri (TextUser text) refl) fits (Some (merged_user (TextUser text) (user_of users w)))
   one_line f n (assigns w (LinesUser lines)) users fits inside =
-      set_there users w (LinesUser lines) (no_tri (LinesUser lines) (not_lines lines)) fits (Some (over (LinesUser lines) (user_of users w))) where
+      set_there users w (LinesUser lines) (no_tri (LinesUser lines) (not_lines lines)) fits (Some (merged_user (LinesUser lines) (user_of users w))) where
         not_lines : (lines : List MemberLine) → choice_user_fits tree.language (slice_get tree.choices c) (LinesUser lines) ≡ false
         not_lines lines = ap (λ b. b && list_all (λ (l : MemberLine). is_member (slice_get tree.choices c) l.member) lines) before
   one_line f n (assigns_escaped w text) users fits inside =
@@ -138,14 +138,14 @@ module _ (tree : Tree) (before : is_linux_6_12 tree.language ≡ false) (u c : �
   -- and after several files
   many_files : (f : ℕ) (files : List (List LineMeaning)) (users : List (Option UserValue)) → AllByRecursion (AllByRecursion (SayingFits tree)) files
       → length users ≡ length tree.units
-      → user_of (overlaid_by tree users files) u ≡ option_or (last_of u (placed_from f (map (choice_lines_from 1) files))) (user_of users u)
+      → user_of (merged_files tree users files) u ≡ option_or (last_of u (placed_from f (map (choice_lines_from 1) files))) (user_of users u)
   many_files f [] users fits count = refl
   many_files f (meanings ∷ files) users fits count =
       let inside : u < length users = (let within = slice_get_within tree.units u (of_choice c) unit in omega arith) in
       let first : List (ℕ × ChoiceLine) = placed f (choice_lines_from 1 meanings) in
       let rest = placed_from (f + 1) (map (choice_lines_from 1) files) in
-      let laid : overlay (file_assignment tree meanings) users ≡ assigned_over meanings users = sym (file_over tree meanings users count) in
-      many_files (f + 1) files (overlay (file_assignment tree meanings) users) fits.1 (ap length laid ∙ file_length meanings users ∙ count)
+      let laid : merged_users (file_assignment tree meanings) users ≡ assigned_over meanings users = sym (file_over tree meanings users count) in
+      many_files (f + 1) files (merged_users (file_assignment tree meanings) users) fits.1 (ap length laid ∙ file_length meanings users ∙ count)
       ∙ ap (λ own. option_or (last_of u rest) (user_of own u)) laid
       ∙ ap (option_or (last_of u rest)) (one_file f 1 meanings users fits.0 inside)
       ∙ or_assoc (last_of u rest) (last_of u first) (user_of users u)

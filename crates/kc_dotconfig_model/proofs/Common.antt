@@ -16,7 +16,7 @@ pub use Rattle.std.specs.List.{AllByRecursion, AllZip, list_all, onto_first, pos
 pub use Rattle.std.specs.Option.{option_and_then, option_or}
 pub use Rattle.std.specs.Prelude.{bytes_eq, codes, is_some, nat_lt, option_map, replicate, slice_get, slice_set}
 pub use Rattle.std.specs.Str.{IsCharBoundary, IsUtf8, is_utf8}
-pub use Rattle.kc_dotconfig_model.specs.ConfigFiles.{FileMeans, assigned, assigned_over, empty_assignment, file_assignment, file_lines, has_utf8_lines, over, overlay}
+pub use Rattle.kc_dotconfig_model.specs.ConfigFiles.{FileMeans, assigned, assigned_over, empty_assignment, file_assignment, file_lines, has_utf8_lines, merged_user, merged_users}
 pub use Rattle.kc_dotconfig_model.specs.ConfigLines.{BeginsWithHash, IsMalformed, IsUnsetLine, IsValueLine, LineMeaning, Means, ValueMeans, assigns, assigns_escaped, chosen, comment, empty, has_escape_notice, is_name_not_set, is_unset_text, no_hex, no_int, not_chosen, notice, number, quoted, silent}
 pub use Rattle.kc_dotconfig_model.specs.ConfigLines.{text_meaning, tri, tri_of_text, unchosen, unchosen_meaning, unset, unset_meaning, value}
 pub use Rattle.kc_dotconfig_model.specs.Formats.{FileFormat, IsStringSpelling, between_quotes, has_other_escape}
@@ -34,7 +34,7 @@ pub use Rattle.kc_dotconfig_model.specs.declared.format.Strings.TheVariants.{Esc
 pub use Rattle.kc_dotconfig_model.specs.declared.notice.NoticeKind.{NoticeKind}
 pub use Rattle.kc_dotconfig_model.specs.declared.notice.NoticeKind.TheVariants.{NotOfType, UnknownSymbol}
 pub use Rattle.kc_rules_model.proofs.RowTrees.{sets, tree_a, tree_pick}
-pub use Rattle.kc_rules_model.specs.MemberLines.{is_listed, laid_over, last_y}
+pub use Rattle.kc_rules_model.specs.MemberLines.{is_listed, merged_lines, last_y}
 pub use Rattle.kc_rules_model.specs.Rule.{default_member, is_shown, is_visible_member, member_user}
 pub use Rattle.kc_rules_model.specs.Shapes.{choice_user_fits, is_member, unit_user_fits}
 pub use Rattle.kc_rules_model.specs.declared.values.MemberLine.{MemberLine}
@@ -53,7 +53,7 @@ pub use Rattle.kc_tree_model.specs.Trees.{Choice, Symbol, Tree}
 pub use Rattle.kc_value.specs.Kinds.{is_tri_kind}
 pub use Rattle.kc_value.specs.Lines.{HasWholeLines, has_no_byte, newline_count}
 pub use Rattle.kc_value.specs.Number.{number_of_text}
-pub use Rattle.kc_value.specs.QuotedTexts.{IsBody, IsQuoted, none, pair, plain}
+pub use Rattle.kc_value.specs.QuotedTexts.{IsBetweenQuotes, IsQuoted, none, pair, plain}
 pub use Rattle.kc_value.specs.declared.limits.TheConstants.{MAX_CONFIG_BYTES, MAX_CONFIG_LINES, MAX_LINE_BYTES}
 pub use Rattle.kc_value.specs.declared.tri.Tri.{Tri}
 pub use Rattle.kc_value.specs.declared.tri.Tri.TheVariants.{M, N, Y}

@@ -1,5 +1,5 @@
 -- A string's spelling has no other escapes than those that are written exactly if it is the written one.
-use Rattle.kc_dotconfig_model.proofs.Common.{◌≡◌, ℕ, Bool, true, false, not, ◌||◌, ◌==◌, cond, List, [], ◌∷◌, ◌++◌, refl, sym, ap, ◌∙◌, IsBody, none, plain, pair, Language, Linux, Strings, Escaped, Raw, has_other_escape, has_escape_notice}
+use Rattle.kc_dotconfig_model.proofs.Common.{◌≡◌, ℕ, Bool, true, false, not, ◌||◌, ◌==◌, cond, List, [], ◌∷◌, ◌++◌, refl, sym, ap, ◌∙◌, IsBetweenQuotes, none, plain, pair, Language, Linux, Strings, Escaped, Raw, has_other_escape, has_escape_notice}
 use Rattle.std.specs.List.{flat_map}
 use Rattle.std.proofs.lemmas.Bool.{or_parts}
 use Rattle.kc_value.specs.QuotedTexts.{quoted, escaped_byte}
@@ -27,7 +27,7 @@ spelling_unnoticed (Linux version) Raw text = refl
 spelling_unnoticed (Linux version) Escaped text = quoted_has_none text
 
 -- bytes between quotes without other escapes are those that are written
-written_body : {body means : List ℕ} → IsBody 34 body means → has_other_escape false (body ++ 34 ∷ []) ≡ false → body ≡ flat_map escaped_byte means
+written_body : {body means : List ℕ} → IsBetweenQuotes 34 body means → has_other_escape false (body ++ 34 ∷ []) ≡ false → body ≡ flat_map escaped_byte means
 written_body none e = refl
 written_body (plain {c = c} {bs = bs} {cs = cs} quote escape rest) e =
     let same = written_body rest (sym (ap (λ b. has_other_escape b (bs ++ 34 ∷ [])) escape) ∙ e) in

@@ -3,7 +3,7 @@ use Rattle.kc_dotconfig_model.proofs.Common.{◌≡◌, inl, inr, ℕ, ◌≤◌
 use Rattle.kc_rules_model.specs.declared.values.UserValue.TheVariants.{Tri as TriUser}
 use Rattle.kc_dotconfig_model.specs.between.LineMeanings.{line_meaning}
 use Rattle.kc_dotconfig_model.proofs.LineLaws.{line_read}
-use Rattle.kc_dotconfig_model.proofs.TrimmedLines.{low_utf8}
+use Rattle.kc_rules_model.proofs.FittingValues.{low_utf8}
 use Rattle.kc_dotconfig_model.proofs.FirstFaults.{failed_reads}
 use Rattle.kc_dotconfig_model.proofs.FaultsAtCuts.{clean, malformed, held}
 

@@ -1,6 +1,6 @@
 -- The meanings and the assignments of small files.
 use Rattle.kc_dotconfig_model.proofs.Common.{◌≡◌, ℕ, List, [], ◌∷◌, Option, Some, None, refl, codes, N, Y, Tree, UserValue, sets, tree_a, tree_pick, Linux, V6_12, NoticeKind, UnknownSymbol, NotOfType, Escaped, Raw, FileFormat, LineMeaning, assigns, notice, silent, file_assignment, assigned_over}
-use Rattle.kc_dotconfig_model.proofs.Common.{overlay, file_meanings}
+use Rattle.kc_dotconfig_model.proofs.Common.{merged_users, file_meanings}
 use Rattle.std.specs.Option.{option_map}
 use Rattle.kc_rules_model.specs.declared.values.UserValue.TheVariants.{Tri as TriUser, Member as MemberUser}
 use Rattle.kc_rules_model.proofs.RowTrees.{writes, tree_string}
@@ -106,5 +106,5 @@ names_without_prefix = (refl, refl, refl, refl, refl, refl, refl, refl, refl, re
 
 -- a later file over an earlier one
 later_files_win : (assigned_over (assigns 0 (TriUser N) ∷ []) (file_assignment tree_a (assigns 0 (TriUser Y) ∷ [])) ≡ sets N ∷ [])
-    × (overlay (sets N ∷ []) (sets Y ∷ []) ≡ sets N ∷ []) × (overlay (None ∷ []) (sets Y ∷ []) ≡ sets Y ∷ [])
+    × (merged_users (sets N ∷ []) (sets Y ∷ []) ≡ sets N ∷ []) × (merged_users (None ∷ []) (sets Y ∷ []) ≡ sets Y ∷ [])
 later_files_win = (refl, refl, refl)

@@ -2,9 +2,9 @@
 use Rattle.std.proofs.Common.{IsTrue, IfSome, drop_at}
 use Rattle.kc_dotconfig_model.proofs.Common.{◌≡◌, ◌≢◌, inl, inr, ℕ, zero, suc, ◌+◌, ◌<◌, Bool, true, false, not, ◌||◌, ◌&&◌, ◌==◌, cond, filter, List, [], ◌∷◌, ◌++◌, Option, Some, None, length, take, drop, get_or, append_assoc, length-append, refl, sym, ◌∙◌, ap, subst, arith, slice_get, slice_set}
 use Rattle.kc_dotconfig_model.proofs.Common.{is_some, replicate, codes, bytes_eq, AllZip, AllByRecursion, list_all, onto_first, IsUtf8, is_utf8, IsCharBoundary-after_ascii, IsUtf8-from_is_utf8, is_utf8-from_IsUtf8, Strings, Escaped, Raw, FileFormat, IsStringSpelling, cases_eq, cases_lt, false≢true}
-use Rattle.kc_dotconfig_model.proofs.Common.{and_parts, and_from, not-true, get_or-set_same, get_or-set_other, length-set, list_all-append, Tri, N, Y, Kind, Tristate, Int, Hex, IsBody, none, plain, pair, IsQuoted, Tree, Symbol, IsConsistent, unit_of, user_of, UserValue, MemberLine, is_listed}
-use Rattle.kc_dotconfig_model.proofs.Common.{laid_over, member_user, is_linux_6_12, is_tri_kind, number_of_text, unit_user_fits, choice_user_fits, is_member, unit_is, has_no_byte, LineMeaning, assigns, assigns_escaped, unchosen, silent, tri_of_text, unchosen_meaning, has_escape_notice, text_meaning}
-use Rattle.kc_dotconfig_model.proofs.Common.{ValueMeans, tri, chosen, not_chosen, quoted, number, unset_meaning, Means, value, unset, without_white_end, file_lines, over, assigned_over, empty_assignment}
+use Rattle.kc_dotconfig_model.proofs.Common.{and_parts, and_from, not-true, get_or-set_same, get_or-set_other, length-set, list_all-append, Tri, N, Y, Kind, Tristate, Int, Hex, IsBetweenQuotes, none, plain, pair, IsQuoted, Tree, Symbol, IsConsistent, unit_of, user_of, UserValue, MemberLine, is_listed}
+use Rattle.kc_dotconfig_model.proofs.Common.{merged_lines, member_user, is_linux_6_12, is_tri_kind, number_of_text, unit_user_fits, choice_user_fits, is_member, unit_is, has_no_byte, LineMeaning, assigns, assigns_escaped, unchosen, silent, tri_of_text, unchosen_meaning, has_escape_notice, text_meaning}
+use Rattle.kc_dotconfig_model.proofs.Common.{ValueMeans, tri, chosen, not_chosen, quoted, number, unset_meaning, Means, value, unset, without_white_end, file_lines, merged_user, assigned_over, empty_assignment}
 use Rattle.std.proofs.Math.Seq.{get_or-append_seam}
 use Rattle.std.proofs.lemmas.Str.{IsUtf8-drop}
 use Rattle.kc_value.proofs.UnquotedUtf8.{ascii_alone, utf8_after, utf8_before, unquoted_utf8}
@@ -15,7 +15,7 @@ use Rattle.kc_tree_model.specs.declared.ids.Unit.{Unit as TreeUnit}
 use Rattle.kc_tree_model.specs.declared.ids.Unit.TheVariants.{Symbol as of_symbol, Choice as of_choice}
 use Rattle.kc_solver.specs.Solutions.{FitsUsers}
 use Rattle.kc_rules_model.specs.declared.values.UserValue.TheVariants.{Tri as TriUser, Text as TextUser, Member as MemberUser, Lines as LinesUser}
-use Rattle.kc_rules_model.specs.Kinds.{is_m}
+use Rattle.kc_value.specs.Tri.{is_m}
 use Rattle.kc_rules_model.specs.Shapes.{user_fits, symbol_user_fits, tri_fits, user_text_fits}
 use Rattle.kc_value.specs.Lines.{has_newline}
 use Rattle.kc_dotconfig_model.specs.FileLaws.{FilesFit}
@@ -48,7 +48,7 @@ number_fits Int text e = (e, λ same. cc)
 number_fits Hex text e = (e, λ same. cc)
 number_fits _ text e = absurd (false≢true e)
 
-body_one_line : (body means : List ℕ) → IsBody 34 body means → has_no_byte 10 body ≡ true → has_newline means ≡ false
+body_one_line : (body means : List ℕ) → IsBetweenQuotes 34 body means → has_no_byte 10 body ≡ true → has_newline means ≡ false
 body_one_line body means none one = refl
 body_one_line body means (plain {c = c} {bs = bs} {cs = cs} q e rest) one =
     let parts = and_parts (not (c == 10)) (has_no_byte 10 bs) one in ap (λ b. b || has_newline cs) (not-true (c == 10) parts.0)
@@ -170,7 +170,7 @@ module _ (tree : Tree) (sound : IsConsistent tree) (s : ℕ) (symbol : Symbol) (
   unset_fits None e false small = subst (λ b. SayingFits tree (cond b (assigns (unit_of tree s) (TriUser N)) silent)) (sym small) tt
 
 module _ (tree : Tree) where
-  -- assignments of members that are laid over others fit where both do
+  -- assignments of members that are merged with others fit where both do
   all_kept : (q p : MemberLine → Bool) (lines : List MemberLine) → list_all q lines ≡ true → list_all q (filter p lines) ≡ true
   all_kept q p [] all = refl
   all_kept q p (l ∷ lines) all = go (p l) (all_kept q p lines (and_parts (q l) (list_all q lines) all).1) where
@@ -178,14 +178,14 @@ module _ (tree : Tree) where
     go true rest = and_from (q l) (list_all q (filter p lines)) (and_parts (q l) (list_all q lines) all).0 rest
     go false rest = rest
 
-  laid_over_fits : (o : Option TreeUnit) (later earlier : List MemberLine) → unit_user_fits tree o (LinesUser later) ≡ true
-      → unit_user_fits tree o (LinesUser earlier) ≡ true → unit_user_fits tree o (LinesUser (laid_over later earlier)) ≡ true
-  laid_over_fits None later earlier a b = absurd (false≢true a)
-  laid_over_fits (Some (of_symbol s)) later earlier a b = go (slice_get tree.symbols s) a where
-    go : (o : Option Symbol) → symbol_user_fits o (LinesUser later) ≡ true → symbol_user_fits o (LinesUser (laid_over later earlier)) ≡ true
+  merged_lines_fit : (o : Option TreeUnit) (later earlier : List MemberLine) → unit_user_fits tree o (LinesUser later) ≡ true
+      → unit_user_fits tree o (LinesUser earlier) ≡ true → unit_user_fits tree o (LinesUser (merged_lines later earlier)) ≡ true
+  merged_lines_fit None later earlier a b = absurd (false≢true a)
+  merged_lines_fit (Some (of_symbol s)) later earlier a b = go (slice_get tree.symbols s) a where
+    go : (o : Option Symbol) → symbol_user_fits o (LinesUser later) ≡ true → symbol_user_fits o (LinesUser (merged_lines later earlier)) ≡ true
     go None a = absurd (false≢true a)
     go (Some symbol) a = absurd (false≢true a)
-  laid_over_fits (Some (of_choice c)) later earlier a b =
+  merged_lines_fit (Some (of_choice c)) later earlier a b =
       let q : MemberLine → Bool = λ l. is_member (slice_get tree.choices c) l.member in
       let p : MemberLine → Bool = λ l. not (is_listed later l.member) in
       let first = and_parts (is_linux_6_12 tree.language) (list_all q later) a in
@@ -194,13 +194,13 @@ module _ (tree : Tree) where
       (list_all-append q (filter p earlier) later ∙ and_from (list_all q (filter p earlier)) (list_all q later) (all_kept q p earlier second.1) first.1)
 
   -- a user value over an earlier one fits where both do
-  pub over_user_fits : (u : ℕ) (x : UserValue) (o : Option UserValue) → user_fits tree u x ≡ true → IfSome o (λ y. IsTrue (user_fits tree u y)) → user_fits tree u (over x o) ≡ true
+  pub over_user_fits : (u : ℕ) (x : UserValue) (o : Option UserValue) → user_fits tree u x ≡ true → IfSome o (λ y. IsTrue (user_fits tree u y)) → user_fits tree u (merged_user x o) ≡ true
   unfolding user_fits
   over_user_fits u (LinesUser l) None fits held = fits
   over_user_fits u (LinesUser l) (Some (TriUser t)) fits held = held
   over_user_fits u (LinesUser l) (Some (TextUser t)) fits held = held
   over_user_fits u (LinesUser l) (Some (MemberUser s)) fits held = held
-  over_user_fits u (LinesUser l) (Some (LinesUser k)) fits held = laid_over_fits (slice_get tree.units u) l k fits held
+  over_user_fits u (LinesUser l) (Some (LinesUser k)) fits held = merged_lines_fit (slice_get tree.units u) l k fits held
   over_user_fits u _ o fits held = fits
 
   pub held_fits : (users : List (Option UserValue)) (u : ℕ) → FitsUsers (length tree.units) (λ w y. IsTrue (user_fits tree w y)) users
@@ -270,7 +270,7 @@ module _ (format : FileFormat) (tree : Tree) (sound : IsConsistent tree) where
   over_fits : (meanings : List LineMeaning) (users : List (Option UserValue)) → FitsUsers (length tree.units) (λ w y. IsTrue (user_fits tree w y)) users
       → AllByRecursion (SayingFits tree) meanings → FitsUsers (length tree.units) (λ w y. IsTrue (user_fits tree w y)) (assigned_over meanings users)
   over_fits [] users fitting all = fitting
-  over_fits (assigns u x ∷ meanings) users fitting all = over_fits meanings (slice_set users u (Some (over x (user_of users u)))) (set_fits users u (over x (user_of users u)) fitting (over_user_fits tree u x (user_of users u) all.0 (held_fits tree users u fitting))) all.1
+  over_fits (assigns u x ∷ meanings) users fitting all = over_fits meanings (slice_set users u (Some (merged_user x (user_of users u)))) (set_fits users u (merged_user x (user_of users u)) fitting (over_user_fits tree u x (user_of users u) all.0 (held_fits tree users u fitting))) all.1
   over_fits (assigns_escaped u text ∷ meanings) users fitting all = over_fits meanings (slice_set users u (Some (TextUser text))) (set_fits users u (TextUser text) fitting all.0) all.1
   over_fits (_ ∷ meanings) users fitting all = over_fits meanings users fitting all.1
 

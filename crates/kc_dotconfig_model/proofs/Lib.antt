@@ -4,7 +4,7 @@ pub mod ValueLaws
 pub mod LineForms
 pub mod LineLaws
 pub mod UnsetTexts
-pub mod Overlays
+pub mod MergedUsers
 pub mod Escapes
 pub mod FittingFiles
 pub mod AcceptedFiles

@@ -1,18 +1,18 @@
 -- What lines of a choice select by the rules from Linux 6.10 on, beside what they select by those before.
 use Rattle.std.proofs.Common.{eq-eqb, eqb-true}
 use Rattle.kc_dotconfig_model.proofs.Common.{◌≡◌, ◌≢◌, ◌⊎◌, inl, inr, ℕ, Bool, true, false, not, ◌&&◌, ◌||◌, ◌==◌, cond, filter, find, List, [], ◌∷◌, ◌++◌, Option, Some, None, refl, sym, ◌∙◌, ap, is_some, option_or, option_and_then, false≢true, and_parts, or_right, Tree, Choice, MemberLine}
-use Rattle.kc_dotconfig_model.proofs.Common.{UnitValue, is_listed, laid_over, last_y, is_shown, is_visible_member, default_member, ChoiceLine, given_by, other_member, own_member, IsGivenN, IsHiddenLast}
+use Rattle.kc_dotconfig_model.proofs.Common.{UnitValue, is_listed, merged_lines, last_y, is_shown, is_visible_member, default_member, ChoiceLine, given_by, other_member, own_member, IsGivenN, IsHiddenLast}
 use Rattle.std.specs.Option.{option_map}
 use Rattle.std.proofs.lemmas.List.Folds.{list_any-append}
 use Rattle.kc_tree_model.specs.Trees.{MemberDefault}
 use Rattle.kc_rules_model.specs.declared.values.UserValue.TheVariants.{Member as MemberUser}
-use Rattle.kc_rules_model.specs.Kinds.{is_n}
+use Rattle.kc_value.specs.Tri.{is_n}
 use Rattle.kc_rules_model.specs.SymbolValues.{condition}
 use Rattle.kc_rules_model.specs.MemberLines.{first_listed, selected_without_y}
 use Rattle.kc_rules_model.specs.Rule.{assigned_member}
 use Rattle.kc_dotconfig_model.specs.MissedAssignments.{is_given_n}
 use Rattle.kc_dotconfig_model.specs.OtherChoices.{kept_last, last_line, last_n_line}
-use Rattle.kc_dotconfig_model.specs.OtherChoiceLaws.{OtherChoicesHaveReasons, OtherChoicesHaveLines, FilesAreLaidOver}
+use Rattle.kc_dotconfig_model.specs.OtherChoiceLaws.{OtherChoicesHaveReasons, OtherChoicesHaveLines, FilesAreMerged}
 
 -- the members of the kept lines are those of all lines
 kept_listed : (lines : List MemberLine) (s : ℕ) → is_listed (kept_last lines) s ≡ is_listed lines s
@@ -26,18 +26,18 @@ kept_listed (l ∷ lines) s = go (is_listed lines l.member) refl (kept_listed li
     same false _ = refl
     same true is = ap (is_listed lines) (sym (eqb-true l.member s is)) ∙ e
 
-pub files_laid_over : FilesAreLaidOver
-files_laid_over [] later = refl
-files_laid_over (k ∷ earlier) later =
+pub files_merged : FilesAreMerged
+files_merged [] later = refl
+files_merged (k ∷ earlier) later =
     ap (λ b. cond b (kept_last (earlier ++ later)) (k ∷ kept_last (earlier ++ later))) (list_any-append (λ (l : MemberLine). l.member == k.member) earlier later)
-    ∙ ap (λ r. cond (is_listed earlier k.member || is_listed later k.member) r (k ∷ r)) (files_laid_over earlier later)
+    ∙ ap (λ r. cond (is_listed earlier k.member || is_listed later k.member) r (k ∷ r)) (files_merged earlier later)
     ∙ go (is_listed earlier k.member) (is_listed later k.member) (kept_listed later k.member) where
       others : List MemberLine
       others = filter (λ (l : MemberLine). not (is_listed (kept_last later) l.member)) (kept_last earlier)
 
       go : (a b : Bool) → is_listed (kept_last later) k.member ≡ b
           → cond (a || b) (others ++ kept_last later) (k ∷ others ++ kept_last later)
-          ≡ laid_over (kept_last later) (cond a (kept_last earlier) (k ∷ kept_last earlier))
+          ≡ merged_lines (kept_last later) (cond a (kept_last earlier) (k ∷ kept_last earlier))
       go true b e = refl
       go false true e = sym (ap (λ t. cond (not t) (k ∷ others) others ++ kept_last later) e)
       go false false e = sym (ap (λ t. cond (not t) (k ∷ others) others ++ kept_last later) e)

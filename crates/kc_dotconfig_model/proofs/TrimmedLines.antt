@@ -1,13 +1,13 @@
 -- Lines of UTF-8 without the white bytes at their end.
 use Rattle.std.proofs.Common.{IsUtf8}
-use Rattle.kc_dotconfig_model.proofs.Common.{◌≡◌, inl, inr, ℕ, ◌-◌, ◌<◌, ◌≤◌, true, List, [], ◌∷◌, length, get_or, reverse, sym, ap, ◌∙◌, subst, arith, nat_lt, IsCharBoundary, list_all, suffix_len, and_parts, cases_lt, ltb-true, lt-ltb, length-take-le, suffix_len-le-length, IsUtf8-nil}
+use Rattle.kc_dotconfig_model.proofs.Common.{◌≡◌, inl, inr, ℕ, ◌-◌, ◌<◌, ◌≤◌, true, List, length, get_or, reverse, sym, ap, ◌∙◌, subst, arith, nat_lt, IsCharBoundary, list_all, suffix_len, cases_lt, lt-ltb, length-take-le, suffix_len-le-length}
 use Rattle.kc_dotconfig_model.proofs.Common.{is_white_byte, is_name_byte, without_white_end}
 use Rattle.std.proofs.lemmas.Bool.Decides.{nat_tests}
 use Rattle.std.proofs.lemmas.List.{get_or-reverse}
 use Rattle.std.proofs.lemmas.List.Sums.{prefix_len_passes}
 use Rattle.std.proofs.lemmas.Str.{IsUtf8-take, IsCharBoundary-end, IsCharBoundary-before_ascii}
+use Rattle.kc_rules_model.proofs.FittingValues.{low_utf8}
 use Rattle.kc_rules_model.proofs.Ink.{all_weaker}
-use Rattle.kc_value.proofs.UnquotedUtf8.{ascii_then}
 
 -- a white byte is below 128
 white_low : (b : ℕ) → is_white_byte b ≡ true → b < 128
@@ -16,12 +16,6 @@ white_low b white = grind (arith, nat_tests)
 -- so is a byte of a name
 name_low : (b : ℕ) → is_name_byte b ≡ true → nat_lt b 128 ≡ true
 name_low b named = let low : b < 128 = grind (arith, nat_tests) in lt-ltb b 128 low
-
--- a text whose bytes are all below 128 is UTF-8
-pub low_utf8 : (text : List ℕ) → list_all (λ b. nat_lt b 128) text ≡ true → IsUtf8 text
-low_utf8 [] all = IsUtf8-nil
-low_utf8 (b ∷ text) all =
-    let parts = and_parts (nat_lt b 128) (list_all (λ c. nat_lt c 128) text) all in ascii_then b text (ltb-true b 128 parts.0) (low_utf8 text parts.1)
 
 -- a name, whose bytes are letters, digits and `_`, is UTF-8
 pub name_utf8 : (name : List ℕ) → list_all is_name_byte name ≡ true → IsUtf8 name

@@ -1,12 +1,12 @@
 -- The text after `=` has the meaning that `value_meaning` returns, and no other.
 use Rattle.std.proofs.Common.{ℤ}
-use Rattle.kc_dotconfig_model.proofs.Common.{◌≡◌, ◌≢◌, ℕ, Bool, true, false, ◌==◌, cond, List, [], ◌∷◌, ◌++◌, Option, Some, None, refl, sym, ◌∙◌, ap, subst, is_some, option_map, false≢true, eqb-true, Tri, N, M, Y, Kind, Tristate, Text, Int, Hex, IsBody, none, plain, pair, IsQuoted, Tree, Symbol}
+use Rattle.kc_dotconfig_model.proofs.Common.{◌≡◌, ◌≢◌, ℕ, Bool, true, false, ◌==◌, cond, List, [], ◌∷◌, ◌++◌, Option, Some, None, refl, sym, ◌∙◌, ap, subst, is_some, option_map, false≢true, eqb-true, Tri, N, M, Y, Kind, Tristate, Text, Int, Hex, IsBetweenQuotes, none, plain, pair, IsQuoted, Tree, Symbol}
 use Rattle.kc_dotconfig_model.proofs.Common.{unit_of, member_user, Language, is_tri_kind, number_of_text, NotOfType, Strings, Escaped, Raw, between_quotes, IsStringSpelling, LineMeaning, assigns, notice, silent, tri_of_text, unchosen_meaning, ValueMeans, tri, chosen, not_chosen, quoted, number}
 use Rattle.kc_dotconfig_model.proofs.Common.{no_int, no_hex, value_meaning}
 use Rattle.kc_value.specs.declared.value.Kind.TheVariants.{Bool as Boolean}
 use Rattle.kc_value.specs.Number.{int_text, hex_text}
 use Rattle.kc_rules_model.specs.declared.values.UserValue.TheVariants.{Text as TextUser}
-use Rattle.kc_rules_model.specs.Kinds.{is_y}
+use Rattle.kc_value.specs.Tri.{is_y}
 use Rattle.kc_dotconfig_model.specs.ConfigLines.{no_tri, no_text, no_number}
 use Rattle.kc_dotconfig_model.specs.between.LineMeanings.{ended, unquoted_rest, unquoted, before_quote, raw_text, string_text, tri_meaning, string_meaning, without_number, number_meaning, meaning_of_kind}
 
@@ -14,7 +14,7 @@ use Rattle.kc_dotconfig_model.specs.between.LineMeanings.{ended, unquoted_rest, 
 record IsRest (rest means : List ℕ) : Type 0 where
   body : List ℕ
   whole : rest ≡ body ++ 34 ∷ []
-  is_body : IsBody 34 body means
+  is_between_quotes : IsBetweenQuotes 34 body means
 
 some_mapped : (c : ℕ) (o : Option (List ℕ)) (means : List ℕ) → option_map (λ text. c ∷ text) o ≡ Some means
     → (text : List ℕ) × (o ≡ Some text) × (means ≡ c ∷ text)
@@ -27,20 +27,20 @@ at_end (x ∷ rest) means e = cc
 
 one_more : (c : ℕ) (rest text means : List ℕ) → (c == 34) ≡ false → (c == 92) ≡ false → means ≡ c ∷ text → IsRest rest text → IsRest (c ∷ rest) means
 one_more c rest text means not_quote not_escape same r =
-    record { body = c ∷ r.body; whole = ap (λ l. c ∷ l) r.whole; is_body = subst (IsBody 34 (c ∷ r.body)) (sym same) (plain not_quote not_escape r.is_body) }
+    record { body = c ∷ r.body; whole = ap (λ l. c ∷ l) r.whole; is_between_quotes = subst (IsBetweenQuotes 34 (c ∷ r.body)) (sym same) (plain not_quote not_escape r.is_between_quotes) }
 
 pair_more : (c d : ℕ) (rest text means : List ℕ) → (c == 92) ≡ true → means ≡ d ∷ text → IsRest rest text → IsRest (c ∷ d ∷ rest) means
 pair_more c d rest text means escape same r =
     record {
       body = c ∷ d ∷ r.body;
       whole = ap (λ l. c ∷ d ∷ l) r.whole;
-      is_body = subst (λ b. IsBody 34 (b ∷ d ∷ r.body) means) (sym (eqb-true c 92 escape)) (subst (IsBody 34 (92 ∷ d ∷ r.body)) (sym same) (pair r.is_body));
+      is_between_quotes = subst (λ b. IsBetweenQuotes 34 (b ∷ d ∷ r.body) means) (sym (eqb-true c 92 escape)) (subst (IsBetweenQuotes 34 (92 ∷ d ∷ r.body)) (sym same) (pair r.is_between_quotes));
     }
 
 just_quote : (c : ℕ) (rest means : List ℕ) → (c == 34) ≡ true → ended rest ≡ Some means → IsRest (c ∷ rest) means
 just_quote c rest means quote e =
     let o = at_end rest means e in
-    record { body = []; whole = ap (λ b. b ∷ rest) (eqb-true c 34 quote) ∙ ap (λ l. 34 ∷ l) o.0; is_body = subst (IsBody 34 []) (sym o.1) none }
+    record { body = []; whole = ap (λ b. b ∷ rest) (eqb-true c 34 quote) ∙ ap (λ l. 34 ∷ l) o.0; is_between_quotes = subst (IsBetweenQuotes 34 []) (sym o.1) none }
 
 unquoted_sound : (rest means : List ℕ) → unquoted_rest false rest ≡ Some means → IsRest rest means
 unquoted_sound [] means e = cc
@@ -60,7 +60,7 @@ unquoted_sound (c ∷ d ∷ rest) means e = go (c == 34) (c == 92) refl refl e (
   go false false quote escape e one two =
       let o = some_mapped c (unquoted_rest false (d ∷ rest)) means e in one_more c (d ∷ rest) o.0 means quote escape o.2 (one o.0 o.1)
 
-unquoted_complete : (body means : List ℕ) → IsBody 34 body means → unquoted_rest false (body ++ 34 ∷ []) ≡ Some means
+unquoted_complete : (body means : List ℕ) → IsBetweenQuotes 34 body means → unquoted_rest false (body ++ 34 ∷ []) ≡ Some means
 unquoted_complete body means none = refl
 unquoted_complete body means (plain {c = c} {bs = bs} {cs = cs} quote escape rest) =
     ap (λ q. cond q (ended (bs ++ 34 ∷ [])) (cond (c == 92) (unquoted_rest true (bs ++ 34 ∷ []))
@@ -74,7 +74,7 @@ pub unquoted_means : (text means : List ℕ) → unquoted text ≡ Some means �
 unquoted_means [] means e = cc
 unquoted_means (c ∷ rest) means e = go (c == 34) refl e where
   go : (t : Bool) → (c == 34) ≡ t → cond t (unquoted_rest false rest) None ≡ Some means → IsQuoted (c ∷ rest) means
-  go true quote e = let r = unquoted_sound rest means e in (r.body, ap (λ b. b ∷ rest) (eqb-true c 34 quote) ∙ ap (λ l. 34 ∷ l) r.whole, r.is_body)
+  go true quote e = let r = unquoted_sound rest means e in (r.body, ap (λ b. b ∷ rest) (eqb-true c 34 quote) ∙ ap (λ l. 34 ∷ l) r.whole, r.is_between_quotes)
   go false quote e = cc
 
 pub means_unquoted : (text means : List ℕ) → IsQuoted text means → unquoted text ≡ Some means
@@ -205,9 +205,9 @@ value_meaning_is strings tree s symbol text meaning (not_chosen c _ t within mea
     of_tri_kind tree.language strings symbol.kind (unit_of tree s) s symbol.choice text (is_tri_meant symbol.kind text t meant)
     ∙ ap (λ o. tri_meaning tree.language (unit_of tree s) s symbol.choice o) meant ∙ ap (λ k. tri_meaning tree.language (unit_of tree s) s k (Some t)) within
     ∙ ap (λ b. cond b (assigns (unit_of tree s) (member_user tree.language s)) (unchosen_meaning tree.language (unit_of tree s) s)) (not_y t other)
-value_meaning_is strings tree s symbol text meaning (quoted _ means is is_body) =
+value_meaning_is strings tree s symbol text meaning (quoted _ means is is_between_quotes) =
     ap (λ k. meaning_of_kind tree.language strings k (unit_of tree s) s symbol.choice text) is
-    ∙ ap (string_meaning tree.language strings (unit_of tree s) text) (string_read strings text means is_body)
+    ∙ ap (string_meaning tree.language strings (unit_of tree s) text) (string_read strings text means is_between_quotes)
 value_meaning_is strings tree s symbol text meaning (number _ some) =
     let kinds = number_kind symbol.kind text some in
     of_number_kind tree.language strings symbol.kind (unit_of tree s) s symbol.choice text kinds.0 kinds.1

@@ -8,7 +8,7 @@ use Rattle.kc_solver.specs.Solutions.{user_of}
 use Rattle.kc_rules_model.specs.declared.values.UserValue.{UserValue}
 use Rattle.kc_rules_model.specs.declared.values.UserValue.TheVariants.{Tri as TriUser, Text as TextUser, Member as MemberUser, Lines as LinesUser}
 use Rattle.kc_rules_model.specs.declared.values.MemberLine.{MemberLine}
-use Rattle.kc_rules_model.specs.MemberLines.{laid_over}
+use Rattle.kc_rules_model.specs.MemberLines.{merged_lines}
 use Rattle.kc_dotconfig_model.specs.Formats.{FileFormat}
 use Rattle.kc_dotconfig_model.specs.declared.notice.NoticeKind.{NoticeKind}
 use Rattle.kc_dotconfig_model.specs.declared.notice.NoticeKind.TheVariants.{Escape}
@@ -28,31 +28,31 @@ abbrev pub FileMeans : FileFormat → Tree → List ℕ → List LineMeaning →
 FileMeans format tree bytes meanings =
     AllZip (λ line meaning. Means format tree (without_white_end line) meaning) (file_lines bytes) meanings
 
--- assignments of members over an earlier user value: laid over it, if that too is assignments of members; over another user
+-- assignments of members over an earlier user value: merged with it, if that too is assignments of members; over another user
 -- value, which no unit with assignments of members has, they change nothing
-abbrev pub lines_over : List MemberLine → UserValue → UserValue
-lines_over later (LinesUser earlier) = LinesUser (laid_over later earlier)
-lines_over later (TriUser t) = TriUser t
-lines_over later (TextUser text) = TextUser text
-lines_over later (MemberUser s) = MemberUser s
+abbrev pub user_with_lines : List MemberLine → UserValue → UserValue
+user_with_lines later (LinesUser earlier) = LinesUser (merged_lines later earlier)
+user_with_lines later (TriUser t) = TriUser t
+user_with_lines later (TextUser text) = TextUser text
+user_with_lines later (MemberUser s) = MemberUser s
 
--- a user value over an earlier one of the same unit, if there is one: it replaces it, but assignments of members are laid over it
-abbrev pub over : UserValue → Option UserValue → UserValue
-over (LinesUser later) (Some earlier) = lines_over later earlier
-over (LinesUser later) None = LinesUser later
-over (TriUser t) earlier = TriUser t
-over (TextUser text) earlier = TextUser text
-over (MemberUser s) earlier = MemberUser s
+-- a user value over an earlier one of the same unit, if there is one: it replaces it, but assignments of members are merged with it
+abbrev pub merged_user : UserValue → Option UserValue → UserValue
+merged_user (LinesUser later) (Some earlier) = user_with_lines later earlier
+merged_user (LinesUser later) None = LinesUser later
+merged_user (TriUser t) earlier = TriUser t
+merged_user (TextUser text) earlier = TextUser text
+merged_user (MemberUser s) earlier = MemberUser s
 
 -- the assignment of user values after a line of a configuration file, from the assignment before the line
 abbrev pub assigned : LineMeaning → List (Option UserValue) → List (Option UserValue)
-assigned (assigns u x) users = slice_set users u (Some (over x (user_of users u)))
+assigned (assigns u x) users = slice_set users u (Some (merged_user x (user_of users u)))
 assigned (assigns_escaped u text) users = slice_set users u (Some (TextUser text))
 assigned (unchosen u s) users = users
 assigned (notice kind) users = users
 assigned silent users = users
 
--- the assignment of user values after the lines of a file, each over the assignment before it (`over`)
+-- the assignment of user values after the lines of a file, each over the assignment before it (`merged_user`)
 abbrev pub assigned_over : List LineMeaning → List (Option UserValue) → List (Option UserValue)
 assigned_over [] users = users
 assigned_over (meaning ∷ meanings) users = assigned_over meanings (assigned meaning users)
@@ -65,22 +65,22 @@ empty_assignment tree = replicate (length tree.units) None
 abbrev pub file_assignment : Tree → List LineMeaning → List (Option UserValue)
 file_assignment tree meanings = assigned_over meanings (empty_assignment tree)
 
--- the first assignment laid over the second: a unit has the user value of the first over that of the second (`over`), or that of
+-- the first assignment merged with the second: a unit has the user value of the first over that of the second (`merged_user`), or that of
 -- the second if the first has none for it
-abbrev pub overlay : List (Option UserValue) → List (Option UserValue) → List (Option UserValue)
-overlay [] users = users
-overlay (y ∷ later) [] = []
-overlay (None ∷ later) (x ∷ users) = x ∷ overlay later users
-overlay (Some y ∷ later) (x ∷ users) = Some (over y x) ∷ overlay later users
+abbrev pub merged_users : List (Option UserValue) → List (Option UserValue) → List (Option UserValue)
+merged_users [] users = users
+merged_users (y ∷ later) [] = []
+merged_users (None ∷ later) (x ∷ users) = x ∷ merged_users later users
+merged_users (Some y ∷ later) (x ∷ users) = Some (merged_user y x) ∷ merged_users later users
 
 -- an assignment, overridden by those of several configuration files, one after another
-abbrev pub overlaid_by : Tree → List (Option UserValue) → List (List LineMeaning) → List (Option UserValue)
-overlaid_by tree users [] = users
-overlaid_by tree users (meanings ∷ others) = overlaid_by tree (overlay (file_assignment tree meanings) users) others
+abbrev pub merged_files : Tree → List (Option UserValue) → List (List LineMeaning) → List (Option UserValue)
+merged_files tree users [] = users
+merged_files tree users (meanings ∷ others) = merged_files tree (merged_users (file_assignment tree meanings) users) others
 
 -- the assignment of several configuration files, each of which overrides those before it
 abbrev pub files_assignment : Tree → List (List LineMeaning) → List (Option UserValue)
-files_assignment tree meanings = overlaid_by tree (empty_assignment tree) meanings
+files_assignment tree meanings = merged_files tree (empty_assignment tree) meanings
 
 -- the notices among the meanings of a file's lines, with the numbers of their lines, where the first line has the number `n`
 abbrev pub notices_from : ℕ → List LineMeaning → List (ℕ × NoticeKind)

@@ -15,7 +15,7 @@ use Rattle.kc_dotconfig_model.specs.declared.fault.LoadKind.TheVariants.{Read}
 use Rattle.kc_dotconfig_model.specs.PrefixGrammar.{is_prefix, is_name_prefix}
 use Rattle.kc_dotconfig_model.specs.ConfigLines.{LineMeaning, Means, IsValueLine, IsUnsetLine, is_unset_text, has_escape_notice}
 use Rattle.kc_tree_model.specs.LogicalLines.{without_white_end}
-use Rattle.kc_dotconfig_model.specs.ConfigFiles.{file_lines, has_utf8_lines, FileMeans, assigned_over, file_assignment, overlay}
+use Rattle.kc_dotconfig_model.specs.ConfigFiles.{file_lines, has_utf8_lines, FileMeans, assigned_over, file_assignment, merged_users}
 use Rattle.kc_value.specs.declared.limits.TheConstants.{MAX_CONFIG_BYTES, MAX_CONFIG_LINES, MAX_LINE_BYTES}
 use Rattle.kc_value.specs.Lines.{has_no_byte, newline_count}
 use Rattle.kc_dotconfig_model.specs.LoadFaults.{InputEnd, complete, cut_short, OccursAt, IsFirstFault, IsAccepted}
@@ -46,10 +46,10 @@ abbrev pub FilesHaveOneMeaning : Type 0
 FilesHaveOneMeaning = (format : FileFormat) (tree : Tree) (bytes : List ℕ) (a b : List LineMeaning) → is_name_prefix format.prefix ≡ true
     → FileMeans format tree bytes a → FileMeans format tree bytes b → a ≡ b
 
--- reading a configuration file over an assignment gives the same as laying the file's own assignment over it
-abbrev pub FilesLieOverAssignments : Type 0
-FilesLieOverAssignments = (tree : Tree) (meanings : List LineMeaning) (users : List (Option UserValue))
-    → length users ≡ length tree.units → assigned_over meanings users ≡ overlay (file_assignment tree meanings) users
+-- reading a configuration file over an assignment gives the same as merging the file's own assignment with it
+abbrev pub FilesAreMergedWithAssignments : Type 0
+FilesAreMergedWithAssignments = (tree : Tree) (meanings : List LineMeaning) (users : List (Option UserValue))
+    → length users ≡ length tree.units → assigned_over meanings users ≡ merged_users (file_assignment tree meanings) users
 
 -- the user values that a configuration file of UTF-8 lines assigns fit their units, over a consistent tree
 abbrev pub FilesFit : Type 0

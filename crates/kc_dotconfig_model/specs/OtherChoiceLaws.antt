@@ -14,7 +14,7 @@ use Rattle.kc_rules_model.specs.declared.values.UnitValue.{UnitValue}
 use Rattle.kc_rules_model.specs.declared.values.UnitValue.TheVariants.{Member as MemberValue}
 use Rattle.kc_rules_model.specs.declared.values.UserValue.TheVariants.{Member as MemberUser, Lines as LinesUser}
 use Rattle.kc_rules_model.specs.declared.values.MemberLine.{MemberLine}
-use Rattle.kc_rules_model.specs.MemberLines.{laid_over, last_y}
+use Rattle.kc_rules_model.specs.MemberLines.{merged_lines, last_y}
 use Rattle.kc_rules_model.specs.SymbolValues.{member_of}
 use Rattle.kc_rules_model.specs.Rule.{rule, is_shown, is_visible_member, shown_choice_rule, choice_rule}
 use Rattle.kc_dotconfig_model.specs.declared.choice_line.ChoiceLine.{ChoiceLine}
@@ -57,9 +57,9 @@ OtherChoicesHaveLines = (tree : Tree) (values : List UnitValue) (choice : Choice
     → own_member tree values choice lines ≢ other_member tree values choice lines
     → is_some (noticed_line (own_member tree values choice lines) (other_member tree values choice lines) lines) ≡ true
 
--- law: what lines one after another give to members is what the later ones give, laid over what the earlier ones give
-abbrev pub FilesAreLaidOver : Type 0
-FilesAreLaidOver = (earlier later : List MemberLine) → kept_last (earlier ++ later) ≡ laid_over (kept_last later) (kept_last earlier)
+-- law: what lines one after another give to members is what the later ones give, merged with what the earlier ones give
+abbrev pub FilesAreMerged : Type 0
+FilesAreMerged = (earlier later : List MemberLine) → kept_last (earlier ++ later) ≡ merged_lines (kept_last later) (kept_last earlier)
 
 -- the lines of members in files whose lines have these meanings, each with the number of its file
 abbrev pub lines_in_files : List (List LineMeaning) → List (ℕ × ChoiceLine)

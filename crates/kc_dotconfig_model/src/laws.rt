@@ -1,7 +1,7 @@
 //! Laws of configuration files and their lines.
 ghost use Rattle.kc_dotconfig_model.specs.between.LineMeaningLaws.{LinesAreRead, FilesAreRead};
-ghost use Rattle.kc_dotconfig_model.specs.OtherChoiceLaws.{FilesAreLaidOver, OtherChoicesHaveReasons, OtherChoicesHaveLines, ChoicesFollowLines, NoticesAreWhereValuesDiffer, DifferingValuesHaveReasons};
-ghost use Rattle.kc_dotconfig_model.specs.FileLaws.{PrefixedLinesHaveValues, UnsetTextsAreRead, EscapesAreNoticed, LinesHaveOneMeaning, FilesHaveOneMeaning, FilesLieOverAssignments, FilesFit, AcceptedFilesAreRead, OneFaultIsFirst, FaultyFilesAreRefused, FailedReadsAreReported, AcceptedFilesHaveGoodLines, EachFileIsJudged, EachCutFileIsJudged};
+ghost use Rattle.kc_dotconfig_model.specs.OtherChoiceLaws.{FilesAreMerged, OtherChoicesHaveReasons, OtherChoicesHaveLines, ChoicesFollowLines, NoticesAreWhereValuesDiffer, DifferingValuesHaveReasons};
+ghost use Rattle.kc_dotconfig_model.specs.FileLaws.{PrefixedLinesHaveValues, UnsetTextsAreRead, EscapesAreNoticed, LinesHaveOneMeaning, FilesHaveOneMeaning, FilesAreMergedWithAssignments, FilesFit, AcceptedFilesAreRead, OneFaultIsFirst, FaultyFilesAreRefused, FailedReadsAreReported, AcceptedFilesHaveGoodLines, EachFileIsJudged, EachCutFileIsJudged};
 
 /// With a prefix each line of the prefix, a name, `=` and a text gives the name that text; without one a comment doesn't.
 pub fn prefixed_lines_have_values()
@@ -34,9 +34,9 @@ pub fn files_are_read()
     ensures { FilesAreRead }
 {}
 
-/// Reading a configuration file over an assignment gives the same as laying the file's own assignment over it.
-pub fn files_lie_over_assignments()
-    ensures { FilesLieOverAssignments }
+/// Reading a configuration file over an assignment gives the same as merging the file's own assignment with it.
+pub fn files_are_merged_with_assignments()
+    ensures { FilesAreMergedWithAssignments }
 {}
 
 /// The user values that a file of UTF-8 assigns fit their units, over a consistent tree.
@@ -79,11 +79,11 @@ pub fn each_file_is_judged()
 /// Where the rules from Linux 6.10 on select another member of a choice than those before, the last line of the member that those
 /// before select gives it `n`, or the member last assigned `y` isn't visible and a visible one is assigned `y` before it; so the
 /// notice has a line. What the members of a choice are given by lines one after another is what files with these lines give them,
-/// each laid over those before it.
+/// each merged with those before it.
 pub fn other_choices_have_reasons()
     ensures reasons { OtherChoicesHaveReasons }
     ensures lines { OtherChoicesHaveLines }
-    ensures files { FilesAreLaidOver }
+    ensures files { FilesAreMerged }
 {}
 
 /// Over a tree with other rules than those of Linux 6.12, the value that files give a choice is the member that the rules before Linux

@@ -15,9 +15,9 @@ pub use format::{Format, Strings};
 pub use laws::{
     accepted_files_are_read, accepted_files_have_good_lines, choices_follow_lines,
     each_file_is_judged, escapes_are_noticed, failed_reads_are_reported, faulty_files_are_refused,
-    files_are_read, files_fit, files_lie_over_assignments, lines_are_read, lines_have_one_meaning,
-    one_fault_is_first, other_choices_have_reasons, prefixed_lines_have_values,
-    unset_texts_are_read,
+    files_are_merged_with_assignments, files_are_read, files_fit, lines_are_read,
+    lines_have_one_meaning, one_fault_is_first, other_choices_have_reasons,
+    prefixed_lines_have_values, unset_texts_are_read,
 };
 pub use line_parts::{
     between_quotes, has_other_escape, is_comment, is_unset_text, trimmed, unset_name, value_parts,

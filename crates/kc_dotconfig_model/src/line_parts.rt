@@ -9,18 +9,13 @@ ghost use Rattle.kc_dotconfig_model.specs.between.Prefixes.{prefix_bytes};
 ghost use Rattle.kc_dotconfig_model.specs.between.LineMeanings.{after_front, named_before, value_parts, unset_name, begins_with_hash};
 
 use super::prefix::Prefix;
-use kc_tokens::is_white;
+use kc_tokens::{is_white, white_end};
 
 /// A line without the white-space bytes at its end.
 pub fn trimmed(line: &str) -> &str
     ensures { result.now ≡ without_white_end line.now }
 {
-    let bytes = line.as_bytes();
-    let mut end = bytes.len();
-    while end > 0 && is_white(bytes[end - 1]) {
-        end -= 1;
-    }
-    &line[..end]
+    &line[..white_end(line.as_bytes())]
 }
 
 /// The text after the ASCII prefix `front`; `None` if the text doesn't begin with it.

@@ -8,7 +8,7 @@ pub use Rattle.kc_evaluation.specs.checker.RuleParts.{active_default_of}
 pub use Rattle.kc_evaluation.specs.checker.ValuationView.{valuation_exprs, valuation_tree, valuation_values}
 pub use Rattle.kc_expr.specs.Expr.{Expr}
 pub use Rattle.kc_expr.specs.between.Arena.{node_expr}
-pub use Rattle.kc_rules_model.specs.Kinds.{largest}
+pub use Rattle.kc_value.specs.Tri.{largest, tri_or}
 pub use Rattle.kc_rules_model.specs.MemberLines.{is_listed, last_y}
 pub use Rattle.kc_rules_model.specs.Rule.{is_visible_member}
 pub use Rattle.kc_rules_model.specs.SymbolValues.{environment}
@@ -16,4 +16,3 @@ pub use Rattle.kc_rules_model.specs.declared.values.MemberLine.{MemberLine}
 pub use Rattle.kc_rules_model.specs.declared.values.UnitValue.{UnitValue}
 pub use Rattle.kc_tree.specs.between.Views.{default_view, symbol_view}
 pub use Rattle.kc_tree_model.specs.Trees.{Tree}
-pub use Rattle.kc_value.specs.Tri.{tri_or}

@@ -6,7 +6,6 @@ ghost use Rattle.kc_rules_model.specs.Rule.{is_shown, is_visible_member, default
 ghost use Rattle.kc_evaluation.specs.checker.Choices.{shown_choice_rule_of};
 ghost use Rattle.kc_evaluation.specs.checker.ValuationView.{valuation_tree, valuation_exprs, valuation_values};
 
-use super::symbol_values::is_n;
 use super::tristate_rules::is_visible;
 use super::valuation::Valuation;
 use kc_tree::{Choice, MemberDefault, Sym};
@@ -18,7 +17,7 @@ pub fn is_shown(under: &Valuation<'_>, choice: &Choice<'_>) -> bool
 {
     match choice.prompt {
         None => false,
-        Some(id) => !is_n(under.condition(id)),
+        Some(id) => !under.condition(id).is_n(),
     }
 }
 
@@ -36,7 +35,7 @@ fn is_default_open(under: &Valuation<'_>, default: MemberDefault) -> bool
     requires condition { default.condition < length (valuation_exprs under.now).nodes }
     ensures value { result ≡ is_open (valuation_tree under.now) (valuation_values under.now) (member_default_view (valuation_exprs under.now) default) }
 {
-    !is_n(under.condition(default.condition)) && is_member_visible(under, default.member)
+    !under.condition(default.condition).is_n() && is_member_visible(under, default.member)
 }
 
 /// The member of a choice's first default whose condition isn't `n` and whose member is visible; `None` without such a default.

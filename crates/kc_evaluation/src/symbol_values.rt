@@ -3,9 +3,8 @@ ghost use Rattle.std.specs.Prelude.{◌≡◌, ◌<◌, length, Some, is_none, n
 ghost use Rattle.std.specs.Option.{option_copied};
 ghost use Rattle.kc_value.specs.Tri.{rank};
 ghost use Rattle.kc_expr.specs.between.Arena.{node_expr};
-ghost use Rattle.kc_expr.specs.Expr.{letter, symbol_tri};
+ghost use Rattle.kc_expr.specs.Expr.{symbol_tri};
 ghost use Rattle.kc_expr.specs.Lookup.{symbol_value_of};
-ghost use Rattle.kc_rules_model.specs.Kinds.{is_n};
 ghost use Rattle.kc_rules_model.specs.SymbolValues.{value_of_symbol, tri_of, text_of, member_of, tri_if_selected, condition, tri_symbol_value};
 ghost use Rattle.kc_rules_model.specs.Rule.{expression_text, modules_value};
 ghost use Rattle.kc_evaluation.specs.checker.SymbolValueViews.{symbol_value_at};
@@ -16,27 +15,6 @@ use kc_expr::{ExprId, Looked, Lookup, NameId, Operand};
 use kc_rules_model::UnitValue;
 use kc_tree::Sym;
 use kc_value::{Kind, Tri};
-
-/// The letter of a tristate: `n`, `m` or `y`.
-pub fn letter_of(value: Tri) -> &'static str
-    ensures { result.now ≡ letter value }
-{
-    match value {
-        Tri::N => "n",
-        Tri::M => "m",
-        Tri::Y => "y",
-    }
-}
-
-/// Whether a tristate is `n`.
-pub fn is_n(value: Tri) -> bool
-    ensures { result ≡ is_n value }
-{
-    match value {
-        Tri::N => true,
-        Tri::M | Tri::Y => false,
-    }
-}
 
 /// Whether the first is below the second.
 pub fn is_below(a: Tri, b: Tri) -> bool
@@ -105,7 +83,7 @@ fn tri_value_ref(kind: Kind, tri: Tri) -> Looked<'static>
     Looked {
         kind,
         tri,
-        text: letter_of(tri),
+        text: tri.letter(),
     }
 }
 
@@ -169,7 +147,7 @@ impl<'a> Valuation<'a> {
         let arena = self.rules.tree.arena();
         match &arena.operand(id) {
             None => "",
-            Some(Operand::Tri(t)) => letter_of(*t),
+            Some(Operand::Tri(t)) => t.letter(),
             Some(Operand::Quoted(text)) => *text,
             Some(Operand::Name(name)) => match self.look(*name) {
                 None => arena.name(*name),

@@ -9,7 +9,6 @@ ghost use Rattle.kc_rules_model.specs.Rule.{bound, is_within, is_upside_down, bo
 ghost use Rattle.kc_evaluation.specs.checker.Texts.{IsNumber, active_value_of, active_range_of, string_rule_of, visible_number_of, number_rule_of};
 ghost use Rattle.kc_evaluation.specs.checker.ValuationView.{valuation_tree, valuation_exprs, valuation_values};
 
-use super::symbol_values::is_n;
 use super::tristate_rules::is_visible;
 use super::valuation::Valuation;
 use kc_expr::ExprId;
@@ -24,7 +23,7 @@ pub fn active_default(under: &Valuation<'_>, defaults: &[Default]) -> Option<Exp
     ensures there { IfSome result (λ i. i < length (valuation_exprs under.now).nodes) }
 {
     for default in defaults {
-        if !is_n(under.condition(default.condition)) {
+        if !under.condition(default.condition).is_n() {
             return Some(default.value);
         }
     }
@@ -88,7 +87,7 @@ pub fn active_range(under: &Valuation<'_>, ranges: &[Range]) -> Option<Range>
     ensures there { IfSome result (λ r. (r.low < length (valuation_exprs under.now).nodes) × (r.high < length (valuation_exprs under.now).nodes)) }
 {
     for range in ranges {
-        if !is_n(under.condition(range.condition)) {
+        if !under.condition(range.condition).is_n() {
             return Some(*range);
         }
     }

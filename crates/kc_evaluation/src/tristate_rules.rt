@@ -4,14 +4,13 @@ ghost use Rattle.std.specs.List.{list_any};
 ghost use Rattle.kc_expr.specs.between.Arena.{Exprs, node_expr};
 ghost use Rattle.kc_tree.specs.between.Views.{symbol_view, reverse_dependency_view as kept_force, default_view, SymbolFits};
 ghost use Rattle.kc_dependencies.specs.checker.StoredRules.{AreNodes, AreReverseDependencies, AreDefaults};
-ghost use Rattle.kc_rules_model.specs.Kinds.{is_n, largest};
-ghost use Rattle.kc_value.specs.Tri.{y_for_m};
+ghost use Rattle.kc_value.specs.Tri.{largest, y_for_m};
 ghost use Rattle.kc_rules_model.specs.Rule.{conditions, reverse_dependency_value, reverse_dependency_limit, promoted, is_from_environment, counted_prompts, visibility, is_visible, default_tri, implied_effect, unassigned_value, base, leaves_no_m};
 ghost use Rattle.kc_rules_model.specs.Reports.{allowed, is_unmet_symbol};
 ghost use Rattle.kc_evaluation.specs.checker.RuleParts.{active_default_of, tri_rule_of};
 ghost use Rattle.kc_evaluation.specs.checker.ValuationView.{valuation_tree, valuation_exprs, valuation_values};
 
-use super::symbol_values::{is_below, is_n};
+use super::symbol_values::is_below;
 use super::valuation::Valuation;
 use kc_expr::ExprId;
 use kc_rules_model::Profile;
@@ -59,16 +58,6 @@ pub fn reverse_limit(under: &Valuation<'_>, all: &[ReverseDependency]) -> Tri
     most
 }
 
-/// A tristate, with `y` in place of `m`.
-pub fn y_for_m(value: Tri) -> Tri
-    ensures { result ≡ y_for_m value }
-{
-    match value {
-        Tri::N => Tri::N,
-        Tri::M | Tri::Y => Tri::Y,
-    }
-}
-
 /// A value for a symbol of this type, with `y` in place of `m` for a bool, and for a tristate while `MODULES` is `n`.
 pub(crate) fn promoted(under: &Valuation<'_>, kind: Kind, value: Tri) -> Tri
     ensures { result ≡ promoted (valuation_tree under.now) (valuation_values under.now) kind value }
@@ -79,7 +68,7 @@ pub(crate) fn promoted(under: &Valuation<'_>, kind: Kind, value: Tri) -> Tri
     match kind {
         Kind::Bool => Tri::Y,
         Kind::Tristate => {
-            if is_n(under.modules()) {
+            if under.modules().is_n() {
                 Tri::Y
             } else {
                 Tri::M
@@ -128,7 +117,7 @@ pub fn is_visible(under: &Valuation<'_>, symbol: &Symbol<'_>) -> bool
     requires fits { SymbolFits (valuation_exprs under.now) (length (valuation_tree under.now).symbols) symbol.now }
     ensures value { result ≡ is_visible (valuation_tree under.now) (valuation_values under.now) (symbol_view (valuation_exprs under.now) symbol.now) }
 {
-    !is_n(prompted(under, symbol))
+    !prompted(under, symbol).is_n()
 }
 
 /// The value of a bool's or tristate's first default whose condition isn't `n`, limited to the condition; `n` without one.
@@ -139,7 +128,7 @@ pub fn default_value(under: &Valuation<'_>, defaults: &[Default]) -> Tri
 {
     for default in defaults {
         let condition = under.condition(default.condition);
-        if !is_n(condition) {
+        if !condition.is_n() {
             return condition.and(under.condition(default.value));
         }
     }
@@ -152,7 +141,7 @@ pub fn implied_effect(under: &Valuation<'_>, symbol: &Symbol<'_>) -> Tri
     ensures value { result ≡ implied_effect (valuation_tree under.now) (valuation_values under.now) (symbol_view (valuation_exprs under.now) symbol.now) }
 {
     let implied = reverse_limit(under, symbol.impliers);
-    if is_n(implied) || is_n(largest(under, symbol.direct)) {
+    if implied.is_n() || largest(under, symbol.direct).is_n() {
         Tri::N
     } else {
         implied
@@ -168,7 +157,7 @@ pub(crate) fn unassigned_value(under: &Valuation<'_>, profile: Profile, symbol: 
     match profile {
         Profile::Present => {
             let implied = reverse_limit(under, symbol.impliers);
-            if is_n(implied) {
+            if implied.is_n() {
                 default
             } else {
                 default.or(implied).and(largest(under, symbol.direct))
@@ -185,7 +174,7 @@ pub fn base(under: &Valuation<'_>, profile: Profile, symbol: &Symbol<'_>, user: 
 {
     if let Some(assigned) = user {
         let visibility = visibility(under, symbol);
-        if !is_n(visibility) {
+        if !visibility.is_n() {
             return assigned.and(visibility);
         }
     }
@@ -232,7 +221,7 @@ fn allowed(under: &Valuation<'_>, symbol: &Symbol<'_>) -> Tri
 {
     let direct = largest(under, symbol.direct);
     match (under.rules.tree.language(), symbol.kind) {
-        (Language::Linux(_), Kind::Bool) => y_for_m(direct),
+        (Language::Linux(_), Kind::Bool) => direct.y_for_m(),
         _ => direct,
     }
 }

@@ -1,7 +1,7 @@
 -- Lines that the reader accepts are lines on which the expansion doesn't act.
 use Rattle.kc_expansion.proofs.Common.{◌≡◌, ◌⊎◌, inl, inr, ℕ, Bool, true, false, ◌&&◌, ◌||◌, cond, List, [], ◌∷◌, ◌++◌, length, map, Option, Some, None, Result, Ok, Err, refl, sym, ap, ◌∙◌, subst, arith, ◌==◌, nat_lt, bytes_eq, codes, is_some, is_none, list_all, list_any, is_utf8, first_so}
 use Rattle.kc_expansion.proofs.Common.{second_so, nat_list_eq_equiv, MAX_LINE_BYTES, MAX_TEXT_BYTES, Language, ExprFault, TokenKind, Word, Quoted, quoted_text, is_operand_kind, Lexeme, lexemes_from, read_cut, TreeKind, TooDeep, TooMany, Keyword, keywords, keyword_in_table, is_word_kind, keyword_of}
-use Rattle.kc_expansion.proofs.Common.{LogicalLine, is_help_word, is_help, is_help_or_fault, begins_help, source, path_of_head, Statement, head, attribute, Group, is_in_list, path_to_read, LineToken, line_tokens, WrittenToken, written_as, environment_asked, LineForm, form_of, without_gaps}
+use Rattle.kc_expansion.proofs.Common.{LogicalLine, is_help_word, is_help, is_help_or_fault, begins_help, source, path_of_head, Statement, head, attribute, Group, is_in_list, path_to_read, LineToken, line_tokens, WrittenToken, written_as, environment_asked, LineForm, form_of, without_trivia}
 use Rattle.kc_expansion.proofs.Common.{is_help_line, is_pattern, tokens_as_they_are, neither_first, neither_second, same_text, plain_items}
 use Rattle.std.specs.Prelude.{not}
 use Rattle.kc_value.specs.declared.value.Kind.{Kind}
@@ -10,7 +10,9 @@ use Rattle.kc_expr.specs.Grammar.{operand_of_lexeme}
 use Rattle.kc_tree_model.specs.declared.fault.TreeKind.TheVariants.{Malformed, LeftOut, Misplaced, StrayEnd, LineTooLong, NotUtf8}
 use Rattle.kc_tree_model.specs.declared.keyword.Keyword.TheVariants as words
 use Rattle.kc_tree_model.specs.Keywords.{is_quoted_kind, is_the_word, is_name}
-use Rattle.kc_tree_model.specs.Statements.{Head, config, choice, menu, condition, comment, mainmenu, ends, DefaultAttribute, environment_default, TargetAttribute, Attribute, typed_prompt, typed_default, prompt, default, depends, select, imply, range, visible, help, modules, optional}
+use Rattle.kc_tree_model.specs.Statements.{Head, DefaultAttribute, environment_default, TargetAttribute, Attribute}
+use Rattle.kc_tree_model.specs.declared.statement.Head.TheVariants.{Config as config, Choice as choice, Menu as menu, Condition as condition, Comment as comment, Mainmenu as mainmenu, Ends as ends}
+use Rattle.kc_tree_model.specs.declared.statement.Attribute.TheVariants.{TypedPrompt as typed_prompt, TypedDefault as typed_default, Prompt as prompt, Default as default, Depends as depends, Select as select, Imply as imply, Range as range, Visible as visible, Help as help, Modules as modules, Optional as optional}
 use Rattle.kc_tree_model.specs.Forms.{leading_expr, ◌>>=◌, statement_of, config_line, titled_line, source_line, path_of, is_glob, prompt_line, type_line, default_line, target_line, range_of_operands, range_line, condition_line, environment_of_operand, environment_line, option_line, no_more, last_condition, optional_if}
 use Rattle.kc_tree_model.specs.Placement.{first_is, is_strict, is_allowed, is_left_out_option, is_left_out, is_stray_end, is_glob_path}
 use Rattle.kc_tree_model.specs.Limits.{is_too_deep, is_too_many}
@@ -21,17 +23,17 @@ use Rattle.kc_macros_model.specs.declared.token_sort.TokenSort.TheVariants as so
 use Rattle.kc_macros_model.specs.WrittenTokens.{is_keyword, inner_keywords}
 use Rattle.kc_macros_model.specs.Assignments.{AssignedText}
 use Rattle.kc_macros_model.specs.EnvironmentLines.{solid_tokens, asked_after_env, asked_after_option, asked_by}
-use Rattle.kc_macros_model.specs.LineForms.{plain, bare_prompt, prompt_words, source_words, help_words, is_word, is_path, is_bare_prompt, form_of_pair}
+use Rattle.kc_macros_model.specs.LineForms.{plain, bare_prompt, prompt_words, source_words, help_words, is_word, is_path, is_bare_prompt, form_of_two_words}
 use Rattle.kc_macros_model.specs.PlainLines.{is_kept_token, token_as_it_is, is_assignment, is_plain_form, plain_path, is_one_of, is_copied}
 use Rattle.kc_macros_model.proofs.PlainTokens.{no_plain_dollar, run_kept}
 use Rattle.kc_expansion.specs.TreeLaws.{is_sourced_by, AcceptedLinesStay}
 use Rattle.kc_expansion.proofs.HelpWordLemmas.{is_help_text, help_keyword}
-use Rattle.kc_expansion.proofs.ReaderTokens.{AreRead, none_read, gap_read, word_read, quoted_read, operator_read, long_operator_read, cut_tokens}
+use Rattle.kc_expansion.proofs.ReaderTokens.{AreRead, none_read, trivia_read, word_read, quoted_read, operator_read, long_operator_read, cut_tokens}
 
 -- nothing is left to expand in the tokens
 tokens_kept : {ps : List Lexeme} {ts : List LineToken} → AreRead ps ts → list_all is_kept_token ts ≡ true
 tokens_kept none_read = refl
-tokens_kept (gap_read r) = tokens_kept r
+tokens_kept (trivia_read r) = tokens_kept r
 tokens_kept (word_read {p = p} {ts = ts} e h r) = ap (λ b. b && list_all is_kept_token ts) (run_kept p.text h) ∙ tokens_kept r
 tokens_kept (quoted_read {ts = ts} quote s e h m r) = ap (λ b. b && list_all is_kept_token ts) h ∙ tokens_kept r
 tokens_kept (operator_read c e r) = tokens_kept r
@@ -72,7 +74,7 @@ no_assigned true o h = refl
 no_assigned false o h = let z : ⊥ = cc in absurd z
 
 no_assignment : {ps : List Lexeme} {ts : List LineToken} → AreRead ps ts → begins_with_keyword ps ≡ true → is_assignment ts ≡ false
-no_assignment (gap_read r) h = no_assignment r h
+no_assignment (trivia_read r) h = no_assignment r h
 no_assignment (word_read {p = p} {ts = ts} e d r) h =
     no_assigned (is_keyword p.text) _ (second_so (is_word_kind p.kind) (is_keyword p.text) h)
 no_assignment x h = refl
@@ -89,14 +91,14 @@ data AreWritten : List Lexeme → List WrittenToken → Type 0 where
   long_operator_written : {p : Lexeme} {ps : List Lexeme} {ts : List WrittenToken} (c d : ℕ) → is_operand_kind p.kind ≡ false → AreWritten ps ts
       → AreWritten (p ∷ ps) (written_as sorts.Other (c ∷ []) [] ∷ (written_as sorts.Other (d ∷ []) [] ∷ ts))
 
-as_written : {ps : List Lexeme} {ts : List LineToken} → AreRead ps ts → AreWritten ps (without_gaps (map token_as_it_is ts))
+as_written : {ps : List Lexeme} {ts : List LineToken} → AreRead ps ts → AreWritten ps (without_trivia (map token_as_it_is ts))
 as_written none_read = none_written
-as_written (gap_read r) = as_written r
+as_written (trivia_read r) = as_written r
 as_written (word_read {p = p} {ps = ps} {ts = ts} e h r) =
-    subst (λ b. AreWritten (p ∷ ps) (without_gaps (cond b (written_as sorts.Other p.text []) (written_as sorts.Word p.text p.text) ∷ map token_as_it_is ts)))
+    subst (λ b. AreWritten (p ∷ ps) (without_trivia (cond b (written_as sorts.Other p.text []) (written_as sorts.Word p.text p.text) ∷ map token_as_it_is ts)))
     (sym (no_plain_dollar (plain_items false p.text h))) (word_written e (as_written r))
 as_written (quoted_read {p = p} {ps = ps} {ts = ts} quote s e h m r) =
-    subst (λ t. AreWritten (p ∷ ps) (written_as sorts.Quoted (quote ∷ (s ++ quote ∷ [])) t ∷ without_gaps (map token_as_it_is ts))) (sym m)
+    subst (λ t. AreWritten (p ∷ ps) (written_as sorts.Quoted (quote ∷ (s ++ quote ∷ [])) t ∷ without_trivia (map token_as_it_is ts))) (sym m)
     (quoted_written (quote ∷ (s ++ quote ∷ [])) e (as_written r))
 as_written (operator_read c e r) = operator_written c e (as_written r)
 as_written (long_operator_read c d e r) = long_operator_written c d e (as_written r)
@@ -520,7 +522,7 @@ module _ (language : Language) (read : List Group) (p : Lexeme) (k : Keyword) (i
 
   pair_plain : (q : Lexeme) (qs : List Lexeme) (u : WrittenToken) (us : List WrittenToken) (s : Statement) → AreWritten (q ∷ qs) (u ∷ us)
       → is_left_out language read k (q ∷ qs) ≡ false → statement_of k (q ∷ qs) ≡ Ok s
-      → path_to_read (Some s) ≡ None → is_plain_form (form_of_pair p.text u) ≡ true
+      → path_to_read (Some s) ≡ None → is_plain_form (form_of_two_words p.text u) ≡ true
   pair_plain q qs u us s r kept h none =
       four_tests (is_in_list p.text source_words && is_path u) (bytes_eq p.text (codes "choice") && is_word u)
       (bytes_eq p.text (codes "option") && bytes_eq u.bytes (codes "defconfig_list"))
@@ -535,7 +537,7 @@ module _ (language : Language) (read : List Group) (p : Lexeme) (k : Keyword) (i
   rest_plain [] (u ∷ us) s r kept h none = absurd (nothing_written r)
   rest_plain (q ∷ qs) [] s r kept h none = refl
   rest_plain (q ∷ qs) (u ∷ []) s r kept h none =
-      ap (λ b. is_plain_form (cond b (bare_prompt u.bytes) (form_of_pair p.text u))) (no_prompt q qs u [] s r h) ∙ pair_plain q qs u [] s r kept h none
+      ap (λ b. is_plain_form (cond b (bare_prompt u.bytes) (form_of_two_words p.text u))) (no_prompt q qs u [] s r h) ∙ pair_plain q qs u [] s r kept h none
   rest_plain (q ∷ qs) (u ∷ (v ∷ us)) s r kept h none = ap (λ b. is_plain_form (cond b (bare_prompt u.bytes) plain)) (no_prompt q qs u (v ∷ us) s r h)
 
 no_operator_path : (q : Lexeme) (path : List ℕ) (kind : TokenKind) → is_operand_kind kind ≡ false
@@ -632,7 +634,7 @@ quoted_no_operator k e h = let z : false ≡ true = h in cc
 
 after_env : {ps : List Lexeme} {ts : List LineToken} → AreRead ps ts → first_is (λ q. is_quoted_kind q.kind) ps ≡ true → asked_after_env (solid_tokens ts) ≡ None
 after_env none_read h = refl
-after_env (gap_read r) h = after_env r h
+after_env (trivia_read r) h = after_env r h
 after_env (word_read e n r) h = refl
 after_env (quoted_read quote s e k m r) h = refl
 after_env (operator_read {p = p} c e r) h = absurd (quoted_no_operator p.kind e h)
@@ -650,7 +652,7 @@ module _ (language : Language) where
   bare_is_quoted false false h = let z : ⊥ = cc in absurd z
 
   after_option : {ps : List Lexeme} {ts : List LineToken} → AreRead ps ts → is_left_out_option language ps ≡ false → asked_after_option (solid_tokens ts) ≡ None
-  after_option (gap_read r) h = after_option r h
+  after_option (trivia_read r) h = after_option r h
   after_option (word_read {p = q} {ps = qs} {ts = us} e n r) h = by_test (bytes_eq q.text (codes "env")) refl
     where
       by_test : (b : Bool) → bytes_eq q.text (codes "env") ≡ b → cond b (asked_after_env (solid_tokens us)) None ≡ None
@@ -676,11 +678,11 @@ module _ (language : Language) where
 
   nothing_asked : {ts : List LineToken} → AreRead [] ts → asked_by (solid_tokens ts) ≡ None
   nothing_asked none_read = refl
-  nothing_asked (gap_read r) = nothing_asked r
+  nothing_asked (trivia_read r) = nothing_asked r
 
   statement_asks : (read : List Group) {p : Lexeme} {ps : List Lexeme} (s : Statement) → IsStatement language read p ps s → {ts : List LineToken}
       → AreRead (p ∷ ps) ts → asked_by (solid_tokens ts) ≡ None
-  statement_asks read s is (gap_read r) = statement_asks read s is r
+  statement_asks read s is (trivia_read r) = statement_asks read s is r
   statement_asks read s is (word_read {p = p} {ps = ps} {ts = ts} e n r) = by_test (bytes_eq p.text (codes "option")) refl
     where
       by_test : (b : Bool) → bytes_eq p.text (codes "option") ≡ b → cond b (asked_after_option (solid_tokens ts)) None ≡ None

@@ -1,32 +1,34 @@
 -- Trees that the reader accepts are given back by the expansion: both read the same files in the same order.
-use Rattle.kc_expansion.proofs.Common.{◌≡◌, ℕ, zero, suc, ◌+◌, Bool, true, false, ◌&&◌, ◌||◌, cond, List, [], ◌∷◌, ◌++◌, length, take, drop, map, reverse, Option, Some, None, Result, Ok, Err, refl, sym, ap, ◌∙◌, subst, arith, nat_lt, nat_le, bytes_eq, codes, filter_map, is_some, is_none, sum_by}
-use Rattle.kc_expansion.proofs.Common.{list_any, cons_option, is_utf8, nat_list_eq_equiv, MAX_FILES, MAX_TREE_BYTES, MAX_OPEN_FILES, MAX_TEXT_BYTES, MAX_WORK, MAX_LINE_BYTES, TreeKind, SourceLoop, TooDeep, TooMany, TreeFault, Block, file_at, index_of_file, PhysicalLine, LogicalLine}
-use Rattle.kc_expansion.proofs.Common.{split_at_newlines, without_return, is_continued, joined_bytes, continuation_count, begins_help, source, Statement, head, attribute, path_of_head, Group, Position, file_end, innermost, sourced_path, is_in_list, without_repeats, FileSource, size_in, open_files}
-use Rattle.kc_expansion.proofs.Common.{files_read, with_group, with_statement, path_to_read, at_file_end, continue_after_file, continue_after_source, continue_after_statement, continue_after_line, read_lines, read_root, environment_asked, meant_line, MacroKind, Place, read_file, Program, returns}
+use Rattle.kc_expansion.proofs.Common.{◌≡◌, ℕ, zero, suc, ◌+◌, ◌<◌, Bool, true, false, ◌&&◌, ◌||◌, cond, List, [], ◌∷◌, ◌++◌, length, take, drop, map, reverse, Option, Some, None, Result, Ok, Err, refl, sym, ap, ◌∙◌, subst, arith, nat_lt, bytes_eq, codes, filter_map, is_some, is_none, sum_by}
+use Rattle.kc_expansion.proofs.Common.{list_any, cons_option, is_utf8, nat_list_eq_equiv, MAX_TREE_BYTES, MAX_OPEN_FILES, MAX_TEXT_BYTES, MAX_WORK, MAX_LINE_BYTES, TreeKind, TooMany, TreeFault, Block, file_at, index_of_file, PhysicalLine, LogicalLine}
+use Rattle.kc_expansion.proofs.Common.{split_at_newlines, without_return, is_continued, joined_bytes, continuation_count, begins_help, source, Statement, head, attribute, Group, Position, file_end, innermost, sourced_path, is_in_list, without_repeats, FileSource, size_in, open_files}
+use Rattle.kc_expansion.proofs.Common.{files_read, with_group, with_statement, path_to_read, at_file_end, continue_after_file, continue_after_source, continue_after_statement, continue_after_line, read_lines, read_root, environment_asked, meant_line, Place, read_file, Program, returns}
 use Rattle.kc_expansion.proofs.Common.{fails, stops, does, ◌>>=◌, line_tokens, WrittenToken, written_as, line_content, sources, line_bytes, is_help_line, tokens_as_they_are, ExpandedFile, ReadingState, initial_state, Progress, progress, WrittenLine, written_line, counted, has_key, key_of}
 use Rattle.kc_expansion.proofs.Common.{stored_file, place, one_file, SourceReader, source_line, pattern_read, path_read, source_followed, short_line, content_written, line_written, bytes_of_lines, lines_written, help_after, lines_read, contents_read, sourced_read, source_read, root_read, World}
 use Rattle.kc_expansion.proofs.Common.{returned, Outcome, outcome, questions_or_fault, without_answer, same_text, split_bytes, text_of_key, IsFileOf, neither_first}
 use Rattle.std.specs.Prelude.{not, decimal}
 use Rattle.std.specs.Option.{option_or}
 use Rattle.std.specs.List.{All}
-use Rattle.std.proofs.lemmas.Bool.{leb-false}
 use Rattle.std.proofs.lemmas.List.{drop-map}
 use Rattle.std.proofs.lemmas.List.Elements.{All-cons, All-nil}
 use Rattle.std.proofs.lemmas.List.Folds.{list_any-append}
 use Rattle.std.proofs.lemmas.List.Sums.{sum_by-cons}
-use Rattle.kc_tree_model.specs.declared.fault.TreeKind.TheVariants.{MissingFile}
 use Rattle.kc_tree_model.specs.TreeFiles.{Files}
 use Rattle.kc_tree_model.specs.LogicalLines.{help_line_count, logical_lines_from, lines_of}
-use Rattle.kc_tree_model.specs.Statements.{block_of_head}
-use Rattle.kc_tree_model.specs.Blocks.{GroupHead, of_head, from_head, open_blocks}
+use Rattle.kc_tree_model.specs.Blocks.{of_head, open_blocks}
 use Rattle.kc_tree_model.specs.Limits.{source_fault as reader_fault}
+use Rattle.kc_tree_model.specs.SourceFaults.{fault_of_source}
+use Rattle.kc_tree_model.specs.declared.source_faults.TheConstants.{TREE_KINDS}
+use Rattle.kc_tree_model.proofs.SourceFaults.{faultless, faultless_for}
+use Rattle.kc_macros_model.specs.declared.source_kinds.TheConstants.{MACRO_KINDS}
 use Rattle.kc_tree_model.specs.TreeReading.{Outcome as Reading, statement_on_line, read_file as read_whole_file, reading}
 use Rattle.kc_tree_model.specs.TreeFaults.{first_tree_fault}
 use Rattle.kc_tree_model.specs.MoreFiles.{AreAmong}
 use Rattle.kc_tree_model.proofs.NestedTrees.OpenTrees.{EndsMatch, ends_first}
 use Rattle.kc_tree_model.proofs.NestedTrees.LineFits.{Fits, line_fits}
 use Rattle.kc_tree_model.proofs.NestedTrees.OpenBlocks.{popped}
-use Rattle.kc_tree_model.proofs.NestedTrees.ReadingNests.{AllBlocks, Since, Closes, Reads, after_given, file_closes}
+use Rattle.kc_tree_model.proofs.NestedTrees.FileCoverage.{no_files}
+use Rattle.kc_tree_model.proofs.NestedTrees.ReadingNests.{Since, Closes, Reads, after_given, file_closes}
 use Rattle.kc_macros_model.proofs.EnvironmentLines.{meant_same}
 use Rattle.kc_macros_model.specs.declared.fault.MacroKind.TheVariants as kinds
 use Rattle.kc_macros_model.specs.Expansion.{fault}
@@ -64,7 +66,7 @@ gives_more w Q P (does (read_file path) n) h k = gives_more w Q P (n (w.bytes pa
 gives_more w Q P (does x n) h k = absurd h
 
 -- what such a program comes to
-record IsQuiet {A : Type 0} (P : A → Type 0) (left : ℕ) (o : Outcome A) : Type 0 where
+record TellsNothing {A : Type 0} (P : A → Type 0) (left : ℕ) (o : Outcome A) : Type 0 where
   notices : o.notices ≡ []
   questions : o.questions ≡ []
   work : o.left ≡ left
@@ -73,12 +75,12 @@ record IsQuiet {A : Type 0} (P : A → Type 0) (left : ℕ) (o : Outcome A) : Ty
   holds : P value
 
 module _ {A : Type 0} (w : World) (P : A → Type 0) where
-  quiet_outcome : (all_answered : Bool) (left : ℕ) (p : Program A) → Gives w P p → IsQuiet P left (outcome all_answered w left p)
-  quiet_outcome all left (returns x) h = record { notices = refl; questions = refl; work = refl; value = x; ending = refl; holds = h }
-  quiet_outcome all left (fails g) h = absurd h
-  quiet_outcome all left stops h = absurd h
-  quiet_outcome true left (does (read_file path) k) h =
-      let q = quiet_outcome true left (k (w.bytes path)) h in record {
+  silent_outcome : (all_answered : Bool) (left : ℕ) (p : Program A) → Gives w P p → TellsNothing P left (outcome all_answered w left p)
+  silent_outcome all left (returns x) h = record { notices = refl; questions = refl; work = refl; value = x; ending = refl; holds = h }
+  silent_outcome all left (fails g) h = absurd h
+  silent_outcome all left stops h = absurd h
+  silent_outcome true left (does (read_file path) k) h =
+      let q = silent_outcome true left (k (w.bytes path)) h in record {
         notices = q.notices;
         questions = q.questions;
         work = q.work;
@@ -86,8 +88,8 @@ module _ {A : Type 0} (w : World) (P : A → Type 0) where
         ending = q.ending;
         holds = q.holds;
       }
-  quiet_outcome false left (does (read_file path) k) h =
-      let q = quiet_outcome false left (k (w.bytes path)) h in record {
+  silent_outcome false left (does (read_file path) k) h =
+      let q = silent_outcome false left (k (w.bytes path)) h in record {
         notices = q.notices;
         questions = q.questions;
         work = q.work;
@@ -95,7 +97,7 @@ module _ {A : Type 0} (w : World) (P : A → Type 0) where
         ending = q.ending;
         holds = q.holds;
       }
-  quiet_outcome all left (does x k) h = absurd h
+  silent_outcome all left (does x k) h = absurd h
 
 -- tests
 swap : (a p o : Bool) → (a || (p || o)) ≡ (p || (a || o))
@@ -105,23 +107,6 @@ swap false p o = refl
 
 more_of : (a p o r f : Bool) → (a || o) ≡ (r || f) → (a || (p || o)) ≡ (r || (p || f))
 more_of a p o r f e = swap a p o ∙ ap (λ b. p || b) e ∙ swap p r f
-
-past_kind : (b : Bool) (k : TreeKind) (o : Option TreeKind) → cond b (Some k) o ≡ None → (b ≡ false) × (o ≡ None)
-past_kind true k o h = let z : ⊥ = cc in absurd z
-past_kind false k o h = (refl, h)
-
-not_false : (b : Bool) → not b ≡ false → b ≡ true
-not_false true h = refl
-not_false false h = let z : ⊥ = cc in absurd z
-
--- blocks of a file are no files
-no_file : (g : GroupHead) (b : Block) → from_head block_of_head g ≡ Some b → from_head path_of_head g ≡ None
-no_file (of_head (source path)) b e = let z : ⊥ = cc in absurd z
-no_file g b e = refl
-
-no_files : (gs hs : List Group) → AllBlocks gs → filter_map sourced_path (gs ++ hs) ≡ filter_map sourced_path hs
-no_files [] hs own = refl
-no_files (g ∷ gs) hs own = ap (λ o. cons_option o (filter_map sourced_path (gs ++ hs))) (no_file g.head own.0.0 own.0.1) ∙ no_files gs hs own.1
 
 -- the files that are open stay so while a file is read
 same_open : (r : FileSource) (start read : List Group) → Since start read → open_files r read ≡ open_files r start
@@ -158,26 +143,27 @@ record HasRoom (r : FileSource) (read : List Group) (path : List ℕ) : Type 0 w
   bytes : List ℕ
   there : r.bytes path ≡ Some bytes
   closed : is_in_list path (open_files r read) ≡ false
-  few_open : nat_le MAX_OPEN_FILES (length (open_files r read)) ≡ false
-  few : nat_le MAX_FILES (length (files_read r read)) ≡ false
-  small : nat_lt MAX_TREE_BYTES (sum_by (size_in r) (files_read r read) + length bytes) ≡ false
+  few_open : length (open_files r read) < MAX_OPEN_FILES
+  no_fault : fault_of_source TREE_KINDS (is_in_list path (open_files r read)) true (length (open_files r read)) (length (files_read r read))
+      (sum_by (size_in r) (files_read r read) + length bytes) ≡ None
 
 has_room : (r : FileSource) (read : List Group) (path : List ℕ) → reader_fault r read path ≡ None → HasRoom r read path
 unfolding reader_fault
-has_room r read path h =
-    let a = past_kind (is_in_list path (open_files r read)) SourceLoop _ h in
-    let b = past_kind (not (is_some (r.bytes path))) MissingFile _ a.1 in
-    let c = past_kind (nat_le MAX_OPEN_FILES (length (open_files r read))) TooDeep _ b.1 in
-    let d = past_kind (nat_le MAX_FILES (length (files_read r read))) TooMany _ c.1 in
-    let e = past_kind (nat_lt MAX_TREE_BYTES (sum_by (size_in r) (files_read r read) + size_in r path)) TooMany _ d.1 in
-    by_bytes (r.bytes path) refl (not_false (is_some (r.bytes path)) b.0) a.0 c.0 d.0 e.0
+has_room r read path h = by_bytes (r.bytes path) refl h
   where
-    by_bytes : (o : Option (List ℕ)) → r.bytes path ≡ o → is_some o ≡ true → is_in_list path (open_files r read) ≡ false
-        → nat_le MAX_OPEN_FILES (length (open_files r read)) ≡ false → nat_le MAX_FILES (length (files_read r read)) ≡ false
-        → nat_lt MAX_TREE_BYTES (sum_by (size_in r) (files_read r read) + length (elim o as (λ _. List ℕ) [ None ↦ [] | Some bytes ↦ bytes ])) ≡ false
+    by_bytes : (o : Option (List ℕ)) → r.bytes path ≡ o
+        → fault_of_source TREE_KINDS (is_in_list path (open_files r read)) (is_some o) (length (open_files r read)) (length (files_read r read))
+        (sum_by (size_in r) (files_read r read) + length (elim o as (λ _. List ℕ) [ None ↦ [] | Some bytes ↦ bytes ])) ≡ None
         → HasRoom r read path
-    by_bytes None e there a c d s = let z : ⊥ = cc in absurd z
-    by_bytes (Some bytes) e there a c d s = record { bytes = bytes; there = e; closed = a; few_open = c; few = d; small = s }
+    by_bytes None e k =
+        let f = faultless TREE_KINDS (is_in_list path (open_files r read)) false (length (open_files r read)) (length (files_read r read))
+        (sum_by (size_in r) (files_read r read) + 0) k in
+        let there = f.there in
+        absurd (let z : ⊥ = cc in z)
+    by_bytes (Some bytes) e k =
+        let f = faultless TREE_KINDS (is_in_list path (open_files r read)) true (length (open_files r read)) (length (files_read r read))
+        (sum_by (size_in r) (files_read r read) + length bytes) k in
+        record { bytes = bytes; there = e; closed = f.closed; few_open = f.few_open; no_fault = k }
 
 module _ (w : World) (r : FileSource) (among : AreAmong r.bytes w.bytes) where
   -- a file with its own bytes, under its path
@@ -555,17 +541,11 @@ module _ (w : World) (r : FileSource) (among : AreAmong r.bytes w.bytes) where
       → AreOpen start opened → Follows read opened s → source_fault opened s path (Some room.bytes) ≡ None
   no_fault start read opened path s room since same_paths f =
       let same = same_open r start read since in
-      let a : is_in_list path opened ≡ false = same_paths.listed path ∙ sym (ap (is_in_list path) same) ∙ room.closed in
-      let b : nat_le MAX_OPEN_FILES (length opened) ≡ false = ap (nat_le MAX_OPEN_FILES) (same_paths.count ∙ sym (ap length same)) ∙ room.few_open in
-      let c : nat_le MAX_FILES s.files ≡ false = ap (nat_le MAX_FILES) f.files ∙ room.few in
-      let d : nat_lt MAX_TREE_BYTES (s.bytes + length room.bytes) ≡ false = ap (λ n. nat_lt MAX_TREE_BYTES (n + length room.bytes)) f.bytes ∙ room.small in
-      no_test (is_in_list path opened) (nat_le MAX_OPEN_FILES (length opened)) (nat_le MAX_FILES s.files)
-      (nat_lt MAX_TREE_BYTES (s.bytes + length room.bytes)) _ _ _ a b c d
-    where
-      no_test : (a b c d : Bool) (x y z : MacroKind) → a ≡ false → b ≡ false → c ≡ false → d ≡ false
-          → cond a (Some x) (cond b (Some y) (cond (c || d) (Some z) None)) ≡ None
-      no_test false false false false x y z ha hb hc hd = refl
-      no_test a b c d x y z ha hb hc hd = let n : ⊥ = cc in absurd n
+      let a : is_in_list path opened ≡ is_in_list path (open_files r read) = same_paths.listed path ∙ sym (ap (is_in_list path) same) in
+      let b : length opened ≡ length (open_files r read) = same_paths.count ∙ sym (ap length same) in
+      rw (a, b, f.files, f.bytes)
+      (faultless_for TREE_KINDS MACRO_KINDS (is_in_list path (open_files r read)) true (length (open_files r read)) (length (files_read r read))
+      (sum_by (size_in r) (files_read r read) + length room.bytes) room.no_fault)
 
   -- the state where a source begins
   source_begins : (start read : List Group) (opened : List (List ℕ)) (position : Position) (path : List ℕ) (s : ReadingState) (room : HasRoom r read path)
@@ -600,8 +580,7 @@ module _ (w : World) (r : FileSource) (among : AreAmong r.bytes w.bytes) where
       → ReadsBoth start opened (read_whole_file n r) (source_read (suc n) r.root opened)
   reads_both zero start opened full same_paths at position path read s since f e h =
       let room = has_room r read path e in
-      let less = leb-false MAX_OPEN_FILES (length (open_files r read)) room.few_open in
-      absurd (omega (arith, less, full, same_paths.count, ap length (same_open r start read since)))
+      absurd (omega (arith, room.few_open, full, same_paths.count, ap length (same_open r start read since)))
   reads_both (suc n) start opened full same_paths at position path read s since f e h =
       let room = has_room r read path e in
       let inner : Reading = read_whole_file (suc n) r path (group_at position path read ∷ read) in
@@ -714,7 +693,7 @@ pub accepted_trees_stay : AcceptedTreesStay
 unfolding expansion
 accepted_trees_stay w files root h among =
     let r = origin w files root among in
-    let q = quiet_outcome w (IsTree w r among (reading files root).read) true MAX_WORK (tree_read root) (tree_read_gives w files root among h) in
+    let q = silent_outcome w (IsTree w r among (reading files root).read) true MAX_WORK (tree_read root) (tree_read_gives w files root among h) in
     record {
       notices = q.notices;
       questions = q.questions;
@@ -731,6 +710,6 @@ pub accepted_trees_want_nothing : AcceptedTreesWantNothing
 unfolding wanted
 accepted_trees_want_nothing w files root h among =
     let r = origin w files root among in
-    let q = quiet_outcome w (IsTree w r among (reading files root).read) false MAX_WORK (tree_read root) (tree_read_gives w files root among h) in
+    let q = silent_outcome w (IsTree w r among (reading files root).read) false MAX_WORK (tree_read root) (tree_read_gives w files root among h) in
     ap (λ qs. questions_or_fault (without_answer w (without_repeats (reverse qs))) (outcome false w MAX_WORK (tree_read root)).ending) q.questions
     ∙ ap (questions_or_fault []) q.ending

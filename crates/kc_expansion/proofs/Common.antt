@@ -23,8 +23,8 @@ pub use Rattle.kc_expansion.specs.checker.HelpWords.{is_end}
 pub use Rattle.kc_expansion.specs.checker.LineViews.{IsHelpPassed, is_first_continued}
 pub use Rattle.kc_expansion.specs.checker.ProgramSteps.{Leads}
 pub use Rattle.kc_expansion.specs.checker.ReadingViews.{IsWrittenTo, MayBeRead, MayNotBeRead, after_text, assigned_or_fault, fault_at, file_run_of, lines_left, lists_left, reader_for, reader_of, state_of, with_lines}
-pub use Rattle.kc_expansion.specs.checker.SameLines.{Stays}
-pub use Rattle.kc_expansion.specs.checker.Sizes.{size_fault}
+pub use Rattle.kc_expansion.specs.checker.CopiedLines.{IsCopiedLine}
+pub use Rattle.kc_expansion.specs.checker.Sizes.{size_read}
 pub use Rattle.kc_expansion.specs.checker.WrittenViews.{text_up_to}
 pub use Rattle.kc_expansion.specs.declared.line_places.LineStart.{LineStart}
 pub use Rattle.kc_expansion.specs.declared.read_counts.ReadCounts.{ReadCounts}
@@ -52,7 +52,7 @@ pub use Rattle.kc_macros_model.proofs.PlainTokens.{plain_items}
 pub use Rattle.kc_macros_model.specs.AnswerFiles.{RecordedAnswers}
 pub use Rattle.kc_macros_model.specs.Assignments.{line_content}
 pub use Rattle.kc_macros_model.specs.EnvironmentLines.{environment_asked, meant_line}
-pub use Rattle.kc_macros_model.specs.LineForms.{LineForm, SourceSort, form_of, is_help_line, is_undecided, line_bytes, sources, without_gaps}
+pub use Rattle.kc_macros_model.specs.LineForms.{LineForm, SourceSort, form_of, is_help_line, is_undecided, line_bytes, sources, without_trivia}
 pub use Rattle.kc_macros_model.specs.LineTokens.{LineToken, line_tokens}
 pub use Rattle.kc_macros_model.specs.PathPatterns.{is_pattern}
 pub use Rattle.kc_macros_model.specs.PlainLines.{tokens_as_they_are}
@@ -78,12 +78,14 @@ pub use Rattle.kc_tree_model.specs.Blocks.{Group, Position, file_end, innermost,
 pub use Rattle.kc_tree_model.specs.Keywords.{is_word_kind, keyword_in_table, keyword_of, keywords}
 pub use Rattle.kc_tree_model.specs.Limits.{FileSource, files_read, is_in_list, open_files, size_in, without_repeats}
 pub use Rattle.kc_tree_model.specs.LogicalLines.{LogicalLine, PhysicalLine, begins_help, continuation_count, is_continued, is_help, is_help_or_fault, is_help_word, joined_bytes, physical_lines, split_at_newlines, without_return}
-pub use Rattle.kc_tree_model.specs.Statements.{Statement, attribute, head, path_of_head, source}
+pub use Rattle.kc_tree_model.specs.Statements.{Statement, path_of_head}
+pub use Rattle.kc_tree_model.specs.declared.statement.Head.TheVariants.{Source as source}
+pub use Rattle.kc_tree_model.specs.declared.statement.Statement.TheVariants.{Attribute as attribute, Head as head}
 pub use Rattle.kc_tree_model.specs.TreeFiles.{file_at, index_of_file}
 pub use Rattle.kc_tree_model.specs.TreeReading.{at_file_end, continue_after_file, continue_after_line, continue_after_source, continue_after_statement, path_to_read, read_lines, read_root, with_group, with_statement}
 pub use Rattle.kc_tree_model.specs.declared.fault.TreeFault.{TreeFault}
 pub use Rattle.kc_tree_model.specs.declared.fault.TreeKind.{TreeKind}
-pub use Rattle.kc_tree_model.specs.declared.fault.TreeKind.TheVariants.{SourceLoop, TooDeep, TooMany}
+pub use Rattle.kc_tree_model.specs.declared.fault.TreeKind.TheVariants.{TooDeep, TooMany}
 pub use Rattle.kc_tree_model.specs.declared.keyword.Block.{Block}
 pub use Rattle.kc_tree_model.specs.declared.keyword.Keyword.{Keyword}
 pub use Rattle.kc_value.specs.FileContents.{FileContent}

@@ -1,6 +1,6 @@
 -- The lines of a file that is read, one after another.
 use Rattle.kc_expansion.proofs.Common.{◌≡◌, ℕ, ◌+◌, ◌<◌, ◌≤◌, ◌++◌, Bool, List, Some, false, length, take, drop, refl, ap, ◌∙◌, subst, arith, ◌-◌, split_at_newlines, physical_lines, returned, Program, returns, ReadingState, WrittenLine, progress, written_line, SourceReader, place, short_line}
-use Rattle.kc_expansion.proofs.Common.{source_followed, line_written, lines_written, Stop, tokens_of, source_sort_of, place_of, ends, end_of_stop, IsLogicalAt, FileRun, lines_from, Leads, is_first_continued, IsHelpPassed, IsWrittenTo, Stays, text_up_to, LineStart, WrittenFile}
+use Rattle.kc_expansion.proofs.Common.{source_followed, line_written, lines_written, Stop, tokens_of, source_sort_of, place_of, ends, end_of_stop, IsLogicalAt, FileRun, lines_from, Leads, is_first_continued, IsHelpPassed, IsWrittenTo, IsCopiedLine, text_up_to, LineStart, WrittenFile}
 use Rattle.std.specs.Cow.{cow_slice_items}
 use Rattle.kc_expansion.specs.between.Reads.{Reads}
 use Rattle.kc_expansion.specs.checker.FileLines.{IsFileLine, line_of_file, PassesLine, MeetsSource, IsMet}
@@ -49,7 +49,7 @@ module _ (sub : SourceReader) (file : List ℕ) {bytes : List ℕ} {start : Line
   }
 
   -- where a line stays, the reading goes on after the line and its help text
-  pub stays_here : {a : FileRun} {shown : List ℕ} → shown ≡ own → {help : Bool} → Stays shown help → {past : LineStart}
+  pub stays_here : {a : FileRun} {shown : List ℕ} → shown ≡ own → {help : Bool} → IsCopiedLine shown help → {past : LineStart}
       → IsHelpPassed bytes line.after help past → PassesLine a a sub file bytes start s before s before past
   stays_here d {help = help} y passed =
       let joined = is_first_continued (physical_lines (drop start.at bytes)) in

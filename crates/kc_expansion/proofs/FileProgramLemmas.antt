@@ -4,8 +4,7 @@ use Rattle.kc_expansion.proofs.Common.{RunState, after_outcome, FailsWith, RunEn
 use Rattle.kc_expansion.proofs.Common.{stays_same, grows_same}
 use Rattle.kc_macros_model.specs.Worlds.{ended}
 use Rattle.kc_macros.specs.declared.stop.Stop.TheVariants as kinds
-use Rattle.kc_macros.proofs.RunLemmas.{in_world, same_answers}
-use Rattle.kc_expansion.proofs.JoinedRuns.{in_world_then, in_world_failed, in_world_stopped}
+use Rattle.kc_macros.proofs.RunLemmas.{in_world, in_world_then, in_world_failed, in_world_stopped, same_answers}
 use Rattle.kc_files.specs.between.FileRuns.{Comes}
 use Rattle.kc_expansion.specs.between.Reads.{reached, Reads}
 use Rattle.kc_expansion.specs.checker.ProgramSteps.{outcome_in, MeetIn, Steps}

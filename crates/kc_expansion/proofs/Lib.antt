@@ -6,7 +6,6 @@ pub mod ChoiceLemmas
 pub mod LinePlaceLemmas
 pub mod LineStepLemmas
 pub mod SourceReadLemmas
-pub mod JoinedRuns
 pub mod LinesLeftLemmas
 pub mod WorldLemmas
 pub mod ExpansionLemmas

@@ -1,7 +1,7 @@
 -- The first step of a line, by its tokens.
 use Rattle.kc_expansion.proofs.Common.{◌≡◌, ℕ, ◌<◌, ◌≤◌, Bool, true, false, not, ◌||◌, List, [], ◌∷◌, length, Some, refl, sym, ap, ◌∙◌, arith, nat_lt, codes, is_utf8, nat_tests, begins_help, MAX_TEXT_BYTES, Place, Program, returns, fails, stops, ◌>>=◌, meant_line, line_tokens, WrittenToken}
 use Rattle.kc_expansion.proofs.Common.{line_content, SourceSort, LineForm, sources, form_of, is_help_line, is_undecided, ReadingState, progress, WrittenLine, written_line, SourceReader, short_line, form_written, content_written, line_written, source_followed, stopped, returned, Stop, RunState, ends}
-use Rattle.kc_expansion.proofs.Common.{end_of_stop, Runs, TreeContents, KnownFiles, FileRun, file_run, cut_short, Leads, Stays, fault_at, assigned_or_fault, grouped, stays_same, grows_same}
+use Rattle.kc_expansion.proofs.Common.{end_of_stop, Runs, TreeContents, KnownFiles, FileRun, file_run, cut_short, Leads, IsCopiedLine, fault_at, assigned_or_fault, grouped, stays_same, grows_same}
 use Rattle.kc_macros_model.specs.declared.fault.MacroKind.TheVariants.{LineTooLong}
 use Rattle.kc_macros_model.specs.Variables.{Value, with_variable}
 use Rattle.kc_macros_model.specs.Assignments.{LineContent, assigns, assigned, variable_assigned}
@@ -10,7 +10,7 @@ use Rattle.kc_macros.specs.declared.stop.Stop.TheVariants as kinds
 use Rattle.kc_expansion.specs.between.Reads.{Reads}
 use Rattle.kc_macros.specs.declared.assignments.Assignment.{Assignment}
 use Rattle.kc_expansion.specs.checker.ReadingViews.{IsNoPath}
-use Rattle.kc_macro_lines.proofs.QuietLemmas.{narrow_is_utf8}
+use Rattle.kc_macro_lines.proofs.NothingToExpandLemmas.{narrow_is_utf8}
 use Rattle.kc_expansion.proofs.FileProgramLemmas.{leads_same, leads_then, leads_on, reads_on, reads_early, reads_by_run, reads_stop}
 
 module _ (at : Place) (help : Bool) (text : List ℕ) (s : ReadingState) where
@@ -74,12 +74,12 @@ usual sub at continued s =
       | false ↦ line_content at s.bindings true (line_tokens 0 (meant_line text)) >>= content_written sub at continued s
     ]) (narrow_is_utf8 text refl)
 
-pub usual_help : (text : List ℕ) → text ≡ 9 ∷ codes "help" → Stays text true
+pub usual_help : (text : List ℕ) → text ≡ 9 ∷ codes "help" → IsCopiedLine text true
 usual_help text e = rw e (record { written = usual })
 
 -- a line that is too long or isn't UTF-8 stays
 pub refused_stays : (text : List ℕ) (help : Bool) → (nat_lt MAX_TEXT_BYTES (length text) || not (is_utf8 text)) ≡ true → help ≡ begins_help text
-    → Stays text help
+    → IsCopiedLine text help
 refused_stays text help h e = record {
   written = λ sub at continued s. refused_line sub at continued text s h
       ∙ ap (λ b. returns (written_line text b s)) (sym e);

@@ -1,11 +1,11 @@
 -- The tokens that the reader has of a line, and those that the expansion has of it.
 use Rattle.std.proofs.Common.{◌-◌, length-append}
-use Rattle.std.specs.Prelude.{pred, not}
-use Rattle.kc_expansion.proofs.Common.{◌≡◌, ℕ, suc, ◌+◌, ◌<◌, Bool, true, false, ◌&&◌, ◌||◌, cond, List, [], ◌∷◌, ◌++◌, length, take, get_or, refl, sym, ap, ◌∙◌, subst, append_assoc, arith, ◌==◌, nat_lt, nat_le, list_all, list_any, first_so, second_so, take-append_seam, eqb-true, append-nil}
-use Rattle.kc_expansion.proofs.Common.{Language, Strict, Equal, TokenKind, Word, Quoted, Relation, quoted_text, is_operand_kind, Lexeme, is_white_byte, is_word_byte, IsToken, IsLongest, IsCut, comment, white, token, LineToken, line_tokens, neither_first, neither_second, plain_items}
+use Rattle.std.specs.Prelude.{pred}
+use Rattle.kc_expansion.proofs.Common.{◌≡◌, ℕ, suc, ◌+◌, ◌<◌, Bool, true, false, ◌&&◌, ◌||◌, cond, List, [], ◌∷◌, ◌++◌, length, take, get_or, refl, sym, ap, ◌∙◌, subst, append_assoc, arith, ◌==◌, nat_le, list_all, list_any, first_so, second_so, take-append_seam, eqb-true, append-nil}
+use Rattle.kc_expansion.proofs.Common.{Language, Strict, Equal, TokenKind, Word, Quoted, Relation, quoted_text, is_operand_kind, Lexeme, is_white_byte, is_word_byte, IsToken, IsLongest, IsCut, comment, white, token, LineToken, line_tokens, neither_first, neither_second}
 use Rattle.std.proofs.Math.Seq.{get_or-append_seam}
-use Rattle.std.proofs.lemmas.Bool.{lt-ltb, le-leb}
-use Rattle.kc_value.specs.QuotedTexts.{IsBody, none, plain, pair, unescaped}
+use Rattle.std.proofs.lemmas.Bool.{le-leb}
+use Rattle.kc_value.specs.QuotedTexts.{IsBetweenQuotes, none, plain, pair, unescaped}
 use Rattle.kc_value.proofs.QuotedLaws.{body_means}
 use Rattle.kc_tokens.specs.declared.language.Language.TheVariants.{Linux}
 use Rattle.kc_tokens.specs.declared.token.Relop.TheVariants.{NotEqual, Less, Greater, LessEqual, GreaterEqual}
@@ -13,11 +13,12 @@ use Rattle.kc_tokens.specs.declared.token.TokenKind.TheVariants.{Not, And, Or, O
 use Rattle.kc_tokens.specs.QuotedTexts.{between_quotes}
 use Rattle.kc_tokens.specs.Token.{is_quote}
 use Rattle.kc_tokens.specs.TokenGrammar.{HasDollarsInPairs, other as unpaired, paired, HasDollarsOf, ends}
-use Rattle.kc_macros_model.specs.References.{item_bytes, first_item, items, is_unterminated}
-use Rattle.kc_macros_model.specs.LineTokens.{gap, run, quoted, other, broken, token_bytes, extent, is_run_byte, run_token, quoted_token, first_token}
+use Rattle.kc_macros_model.specs.References.{item_bytes, items}
+use Rattle.kc_macros_model.specs.LineTokens.{trivia, run, quoted, other, token_bytes, extent, is_run_byte, run_token, quoted_token, first_token}
 use Rattle.kc_macros_model.specs.PlainLines.{is_kept_item, has_dollar, text_of_items}
-use Rattle.kc_macros_model.proofs.PlainTokens.{no_unterminated, all_kept}
-use Rattle.kc_macros_model.proofs.QuotedBodies.{IsQuotedBody, body_none, body_byte, body_pair, byte_first, body_items, body_extent}
+use Rattle.kc_macros_model.proofs.PlainTokens.{all_kept}
+use Rattle.kc_macros_model.proofs.SecondExpansions.{other_byte, no_dollars, word_first, first_word, quoted_first}
+use Rattle.kc_macros_model.proofs.QuotedTexts.{IsQuotedText, body_none, body_byte, body_pair, byte_first, body_items}
 use Rattle.kc_macros_model.proofs.TokenCuts.{ends_run, begins_with_run, AreWordBytes, no_word_bytes, next_word_byte, IsQuote, double_quote, single_quote}
 use Rattle.kc_macros_model.proofs.TokensOfLines.{tokens_passed}
 
@@ -25,7 +26,7 @@ use Rattle.kc_macros_model.proofs.TokensOfLines.{tokens_passed}
 -- the expansion
 pub data AreRead : List Lexeme → List LineToken → Type 0 where
   none_read : AreRead [] []
-  gap_read : {s : List ℕ} {ps : List Lexeme} {ts : List LineToken} → AreRead ps ts → AreRead ps (gap s ∷ ts)
+  trivia_read : {s : List ℕ} {ps : List Lexeme} {ts : List LineToken} → AreRead ps ts → AreRead ps (trivia s ∷ ts)
   word_read : {p : Lexeme} {ps : List Lexeme} {ts : List LineToken} → p.kind ≡ Word → has_dollar p.text ≡ false → AreRead ps ts
       → AreRead (p ∷ ps) (run p.text ∷ ts)
   quoted_read : {p : Lexeme} {ps : List Lexeme} {ts : List LineToken} (quote : ℕ) (s : List ℕ) → p.kind ≡ Quoted → list_all is_kept_item (items true 0 s) ≡ true
@@ -44,36 +45,16 @@ front_tokens c more y t first bytes =
     ∙ ap (λ m. t ∷ line_tokens (pred (length m)) (more ++ y)) bytes
     ∙ ap (λ ts. t ∷ ts) (tokens_passed more y)
 
-comment_tokens : (s : List ℕ) → line_tokens 0 (35 ∷ s) ≡ gap (35 ∷ s) ∷ []
-comment_tokens s = ap (λ ts. gap (35 ∷ s) ∷ ts) (ap (λ x. line_tokens (length s) x) (sym (append-nil s)) ∙ tokens_passed s [])
+comment_tokens : (s : List ℕ) → line_tokens 0 (35 ∷ s) ≡ trivia (35 ∷ s) ∷ []
+comment_tokens s = ap (λ ts. trivia (35 ∷ s) ∷ ts) (ap (λ x. line_tokens (length s) x) (sym (append-nil s)) ∙ tokens_passed s [])
 
-white_tokens : (c : ℕ) (s : List ℕ) → is_white_byte c ≡ true → line_tokens 0 (c ∷ s) ≡ gap (c ∷ []) ∷ line_tokens 0 s
+white_tokens : (c : ℕ) (s : List ℕ) → is_white_byte c ≡ true → line_tokens 0 (c ∷ s) ≡ trivia (c ∷ []) ∷ line_tokens 0 s
 white_tokens c s h =
     let as_run = cond (is_run_byte c) (run_token (take (extent false ends_run 0 (c ∷ s)) (c ∷ s)))
     (cond (c == 34 || (c == 39)) (quoted_token (extent true (λ d. d == c) 0 s) c s) (other (c ∷ []))) in
-    front_tokens c [] s (gap (c ∷ [])) (ap (λ b. cond b (gap (c ∷ [])) (cond (c == 35) (gap (c ∷ s)) as_run)) h) refl
+    front_tokens c [] s (trivia (c ∷ [])) (ap (λ b. cond b (trivia (c ∷ [])) (cond (c == 35) (trivia (c ∷ s)) as_run)) h) refl
 
 -- words
-other_byte : (c k : ℕ) (p : ℕ → Bool) → p c ≡ true → p k ≡ false → (c == k) ≡ false
-other_byte c k p r n = by_test (c == k) refl
-  where
-    by_test : (b : Bool) → (c == k) ≡ b → b ≡ false
-    by_test true e = let z : true ≡ false = sym r ∙ ap p (eqb-true c k e) ∙ n in let y : ⊥ = cc in absurd y
-    by_test false e = refl
-
-none_of_five : (a b c d e : Bool) → a ≡ false → b ≡ false → c ≡ false → d ≡ false → e ≡ false → (a || b || c || d || e) ≡ false
-none_of_five a b c d e ha hb hc hd he = ap (λ x. x || b || c || d || e) ha ∙ ap (λ x. false || x || c || d || e) hb ∙ ap (λ x. false || false || x || d || e) hc
-    ∙ ap (λ x. false || false || false || x || e) hd ∙ he
-
-not_white : (c : ℕ) → is_run_byte c ≡ true → is_white_byte c ≡ false
-not_white c r =
-    none_of_five (c == 9) (c == 11) (c == 12) (c == 13) (c == 32) (other_byte c 9 is_run_byte r refl) (other_byte c 11 is_run_byte r refl)
-    (other_byte c 12 is_run_byte r refl) (other_byte c 13 is_run_byte r refl) (other_byte c 32 is_run_byte r refl)
-
-no_dollars : {s : List ℕ} → AreWordBytes s → has_dollar s ≡ false
-no_dollars no_word_bytes = refl
-no_dollars (next_word_byte {c = c} {s = s} r e h) = ap (λ b. b || has_dollar s) e ∙ no_dollars h
-
 word_bytes : (s : List ℕ) → list_all is_word_byte s ≡ true → AreWordBytes s
 word_bytes [] e = no_word_bytes
 word_bytes (c ∷ s) e =
@@ -81,46 +62,12 @@ word_bytes (c ∷ s) e =
     next_word_byte (ap (λ b. b || (c == 36)) word) (other_byte c 36 is_word_byte word refl)
     (word_bytes s (second_so (is_word_byte c) (list_all is_word_byte s) e))
 
-word_extent : {s : List ℕ} → AreWordBytes s → (y : List ℕ) → begins_with_run y ≡ false → extent false ends_run 0 (s ++ y) ≡ length s
-word_extent no_word_bytes [] n = refl
-word_extent no_word_bytes (d ∷ y) n = ap (λ b. cond (not b) 0 (suc (extent false ends_run (pred (length (item_bytes (first_item false d y)))) y))) n
-word_extent (next_word_byte {c = c} {s = s} r e h) y n =
-    ap (λ b. cond (not b) 0 (suc (extent false ends_run (pred (length (item_bytes (first_item false c (s ++ y))))) (s ++ y)))) r
-    ∙ ap (λ i. suc (extent false ends_run (pred (length (item_bytes i))) (s ++ y))) (byte_first false c (s ++ y) e refl)
-    ∙ ap suc (word_extent h y n)
-
-word_first : (c : ℕ) (s y : List ℕ) → AreWordBytes (c ∷ s) → is_run_byte c ≡ true → begins_with_run y ≡ false → first_token c (s ++ y) ≡ run (c ∷ s)
-word_first c s y h r n =
-    let z = s ++ y in
-    let as_run = run_token (take (extent false ends_run 0 (c ∷ z)) (c ∷ z)) in
-    let as_quoted = cond (c == 34 || (c == 39)) (quoted_token (extent true (λ d. d == c) 0 z) c z) (other (c ∷ [])) in
-    ap (λ b. cond b (gap (c ∷ [])) (cond (c == 35) (gap (c ∷ z)) (cond (is_run_byte c) as_run as_quoted))) (not_white c r)
-    ∙ ap (λ b. cond b (gap (c ∷ z)) (cond (is_run_byte c) as_run as_quoted)) (other_byte c 35 is_run_byte r refl)
-    ∙ ap (λ b. cond b as_run as_quoted) r
-    ∙ ap (λ k. run_token (take k (c ∷ z))) (word_extent h y n)
-    ∙ ap (λ s. run_token s) (take-append_seam (c ∷ s) y)
-    ∙ ap (λ b. cond b (broken (c ∷ s)) (run (c ∷ s))) (no_unterminated (plain_items false (c ∷ s) (no_dollars h)))
-
-first_word : {c : ℕ} {s : List ℕ} → AreWordBytes (c ∷ s) → is_run_byte c ≡ true
-first_word (next_word_byte r e h) = r
-
 word_tokens : (s y : List ℕ) → 0 < length s → AreWordBytes s → begins_with_run y ≡ false → line_tokens 0 (s ++ y) ≡ run s ∷ line_tokens 0 y
 word_tokens [] y some h n = absurd (omega (arith, some))
 word_tokens (c ∷ s) y some h n = front_tokens c s y (run (c ∷ s)) (word_first c s y h (first_word h) n) refl
 
 -- quoted texts
-quoted_first : (q : ℕ) (s y : List ℕ) → (q == q) ≡ true → (92 == q) ≡ false → IsQuotedBody q s → quoted_token (extent true (λ d. d == q) 0 (s ++ q ∷ y)) q
-    (s ++ q ∷ y) ≡ quoted q s
-quoted_first q s y same other_quote h =
-    let z = s ++ q ∷ y in
-    let less : length s < length z = omega (arith, length-append s (q ∷ y)) in
-    ap (λ n. quoted_token n q z) (body_extent q same other_quote h y)
-    ∙ ap (λ t. cond (list_any is_unterminated (items true 0 t)) (broken (q ∷ z)) (cond (nat_lt (length s) (length z)) (quoted q t) (other (q ∷ z))))
-    (take-append_seam s (q ∷ y))
-    ∙ ap (λ b. cond b (broken (q ∷ z)) (cond (nat_lt (length s) (length z)) (quoted q s) (other (q ∷ z)))) (no_unterminated (body_items h))
-    ∙ ap (λ b. cond b (quoted q s) (other (q ∷ z))) (lt-ltb (length s) (length z) less)
-
-quoted_tokens : {q : ℕ} → IsQuote q → (s y : List ℕ) → IsQuotedBody q s → line_tokens 0 ((q ∷ (s ++ q ∷ [])) ++ y) ≡ quoted q s ∷ line_tokens 0 y
+quoted_tokens : {q : ℕ} → IsQuote q → (s y : List ℕ) → IsQuotedText q s → line_tokens 0 ((q ∷ (s ++ q ∷ [])) ++ y) ≡ quoted q s ∷ line_tokens 0 y
 quoted_tokens double_quote s y h = front_tokens 34 (s ++ 34 ∷ []) y (quoted 34 s) (ap (λ z. first_token 34 z) (append_assoc s (34 ∷ []) y)
     ∙ quoted_first 34 s y refl refl h) refl
 quoted_tokens single_quote s y h = front_tokens 39 (s ++ 39 ∷ []) y (quoted 39 s) (ap (λ z. first_token 39 z) (append_assoc s (39 ∷ []) y)
@@ -135,24 +82,24 @@ quote_of q h = by_test (q == 34) (q == 39) refl refl h
     by_test false false e f h = let z : ⊥ = cc in absurd z
 
 -- the body of a quoted token
-body_in_pairs : {q : ℕ} {body means : List ℕ} → IsBody q body means → HasDollarsInPairs body → IsQuotedBody q body
+body_in_pairs : {q : ℕ} {body means : List ℕ} → IsBetweenQuotes q body means → HasDollarsInPairs body → IsQuotedText q body
 body_in_pairs none d = body_none
 body_in_pairs (plain a b r) (unpaired c d h) = body_byte a b c (body_in_pairs r h)
 body_in_pairs (plain a b r) (paired h) = let z : ⊥ = cc in absurd z
 body_in_pairs (pair r) (unpaired c d h) = let z : ⊥ = cc in absurd z
 body_in_pairs (pair r) (paired h) = body_pair (body_in_pairs r h)
 
-body_without : {q : ℕ} {body means : List ℕ} → IsBody q body means → list_any (λ c. c == 36) body ≡ false → IsQuotedBody q body
+body_without : {q : ℕ} {body means : List ℕ} → IsBetweenQuotes q body means → list_any (λ c. c == 36) body ≡ false → IsQuotedText q body
 body_without none d = body_none
 body_without (plain {c = c} {bs = bs} a b r) d = body_byte a b (neither_first (c == 36) (list_any (λ c. c == 36) bs) d)
     (body_without r (neither_second (c == 36) (list_any (λ c. c == 36) bs) d))
 body_without (pair {c = c} {bs = bs} r) d = body_pair (body_without r (neither_second (c == 36) (list_any (λ c. c == 36) bs) d))
 
-body_of_quoted : (language : Language) {q : ℕ} {body means : List ℕ} → IsBody q body means → HasDollarsOf language body → IsQuotedBody q body
+body_of_quoted : (language : Language) {q : ℕ} {body means : List ℕ} → IsBetweenQuotes q body means → HasDollarsOf language body → IsQuotedText q body
 body_of_quoted Strict b d = body_without b d
 body_of_quoted (Linux version) b d = body_in_pairs b d
 
-body_text : {q : ℕ} {body means : List ℕ} → IsBody q body means → IsQuotedBody q body → text_of_items (items true 0 body) ≡ means
+body_text : {q : ℕ} {body means : List ℕ} → IsBetweenQuotes q body means → IsQuotedText q body → text_of_items (items true 0 body) ≡ means
 body_text none d = refl
 body_text (plain {c = c} {bs = bs} a b r) (body_byte x y z h) = ap (λ i. text_of_items (i ∷ items true (pred (length (item_bytes i))) bs))
     (byte_first true c bs z y) ∙ ap (λ t. c ∷ t) (body_text r h)
@@ -160,7 +107,7 @@ body_text (plain a b r) (body_pair h) = let z : ⊥ = cc in absurd z
 body_text (pair r) (body_byte x y z h) = let u : ⊥ = cc in absurd u
 body_text (pair {c = c} r) (body_pair h) = ap (λ t. c ∷ t) (body_text r h)
 
-quoted_means : {q : ℕ} → IsQuote q → (body means : List ℕ) → IsBody q body means → quoted_text (q ∷ (body ++ q ∷ [])) ≡ means
+quoted_means : {q : ℕ} → IsQuote q → (body means : List ℕ) → IsBetweenQuotes q body means → quoted_text (q ∷ (body ++ q ∷ [])) ≡ means
 quoted_means {q = q} quote body means b = ap (unescaped false) (between q quote) ∙ body_means q body means b
   where
     between : (q : ℕ) → IsQuote q → between_quotes (q ∷ (body ++ q ∷ [])) ≡ body
@@ -248,9 +195,9 @@ module _ (language : Language) (p : Lexeme) (ps : List Lexeme) (rest : List ℕ)
       (word_read e (no_dollars words) after)
   token_in_front Quoted e is long no_dollar =
       let quote = quote_of is.quote is.sort in
-      let body = body_of_quoted language is.is_body is.dollars in
+      let body = body_of_quoted language is.is_between_quotes is.dollars in
       by_tokens is.parts (quoted_tokens quote is.body rest body) (quoted_read is.quote is.body e (all_kept (body_items body))
-      (body_text is.is_body body ∙ sym (ap quoted_text is.parts ∙ quoted_means quote is.body is.means is.is_body)) after)
+      (body_text is.is_between_quotes body ∙ sym (ap quoted_text is.parts ∙ quoted_means quote is.body is.means is.is_between_quotes)) after)
   token_in_front (Relation Equal) e is long no_dollar = by_tokens is refl (one_byte (Relation Equal) 61 e refl)
   token_in_front (Relation NotEqual) e is long no_dollar = by_tokens is refl (two_bytes (Relation NotEqual) 33 61 e refl)
   token_in_front (Relation Less) e is long no_dollar = by_tokens is refl (one_byte (Relation Less) 60 e refl)
@@ -266,8 +213,8 @@ module _ (language : Language) (p : Lexeme) (ps : List Lexeme) (rest : List ℕ)
 -- the tokens into which the reader cuts a line without a fault are those of the expansion
 pub cut_tokens : (language : Language) (at : ℕ) (s : List ℕ) (ps : List Lexeme) → IsCut language at s ps → AreRead ps (line_tokens 0 s)
 cut_tokens language at s ps ends = none_read
-cut_tokens language at s ps (comment {bytes = bs}) = subst (AreRead []) (sym (comment_tokens bs)) (gap_read none_read)
-cut_tokens language at s ps (white {c = c} {bytes = bs} h x) = subst (AreRead ps) (sym (white_tokens c bs h)) (gap_read (cut_tokens language (at + 1) bs ps x))
+cut_tokens language at s ps (comment {bytes = bs}) = subst (AreRead []) (sym (comment_tokens bs)) (trivia_read none_read)
+cut_tokens language at s ps (white {c = c} {bytes = bs} h x) = subst (AreRead ps) (sym (white_tokens c bs h)) (trivia_read (cut_tokens language (at + 1) bs ps x))
 cut_tokens language at s ps (token {ps = qs} p rest parts is long start stop x) =
     subst (λ y. AreRead (p ∷ qs) (line_tokens 0 y)) (sym parts)
     (token_in_front language p qs rest (cut_tokens language p.stop rest qs x) p.kind refl is (subst (IsLongest language p.text) parts long)

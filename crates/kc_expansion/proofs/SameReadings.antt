@@ -1,11 +1,12 @@
 -- Files that agree on all paths that a reading meets are read alike.
-use Rattle.kc_expansion.proofs.Common.{◌≡◌, ℕ, zero, suc, ◌+◌, Bool, true, false, ◌||◌, not, cond, List, [], ◌∷◌, Option, Some, None, Result, Ok, Err, refl, ap, sym, ◌∙◌, subst, length, bytes_eq, filter_map, is_some, nat_le, nat_lt, sum_by, cons_option, nat_list_eq_equiv, MAX_FILES, MAX_TREE_BYTES}
-use Rattle.kc_expansion.proofs.Common.{MAX_OPEN_FILES, Language, TreeKind, SourceLoop, TooDeep, TooMany, TreeFault, Block, file_at, index_of_file, LogicalLine, Statement, head, attribute, path_of_head, Group, Position, sourced_path, file_end, innermost, is_in_list, FileSource, size_in, files_read}
+use Rattle.kc_expansion.proofs.Common.{◌≡◌, ℕ, zero, suc, ◌+◌, Bool, true, false, ◌||◌, cond, List, [], ◌∷◌, Option, Some, None, Result, Ok, Err, refl, ap, sym, ◌∙◌, subst, length, bytes_eq, filter_map, is_some, nat_lt, sum_by, cons_option, nat_list_eq_equiv, MAX_TREE_BYTES}
+use Rattle.kc_expansion.proofs.Common.{MAX_OPEN_FILES, Language, TreeKind, TreeFault, Block, file_at, index_of_file, LogicalLine, Statement, head, attribute, path_of_head, Group, Position, sourced_path, file_end, innermost, is_in_list, FileSource, size_in, files_read}
 use Rattle.kc_expansion.proofs.Common.{open_files, with_statement, with_group, path_to_read, at_file_end, continue_after_file, continue_after_source, continue_after_statement, continue_after_line, read_lines, read_root, returned, paths_read, text_of_key}
 use Rattle.std.specs.List.{fold, AllByRecursion}
-use Rattle.kc_tree_model.specs.declared.fault.TreeKind.TheVariants.{MissingFile}
 use Rattle.kc_tree_model.specs.LogicalLines.{lines_of}
 use Rattle.kc_tree_model.specs.Limits.{bytes_in, source_fault}
+use Rattle.kc_tree_model.specs.SourceFaults.{fault_of_source}
+use Rattle.kc_tree_model.specs.declared.source_faults.TheConstants.{TREE_KINDS}
 use Rattle.kc_tree_model.specs.TreeReading.{statement_on_line, Outcome, read_file, reading}
 use Rattle.kc_macros_model.specs.Worlds.{expansion}
 use Rattle.kc_expansion.specs.TreeLaws.{IsGivenBack, ReadingsStay}
@@ -54,9 +55,7 @@ module _ (language : Language) (known other : List ℕ → Option (List ℕ)) (n
     where
       fault_by : Bool → ℕ → Option TreeKind
       fault_by there size =
-          cond (is_in_list path (open_files first read)) (Some SourceLoop)
-          (cond (not there) (Some MissingFile) (cond (nat_le MAX_OPEN_FILES (length (open_files first read))) (Some TooDeep)
-          (cond (nat_le MAX_FILES (length (files_read first read))) (Some TooMany) (cond (nat_lt MAX_TREE_BYTES size) (Some TooMany) None))))
+          fault_of_source TREE_KINDS (is_in_list path (open_files first read)) there (length (open_files first read)) (length (files_read first read)) size
 
   -- what was read before is read after
   abbrev GoesUp : (List Group → Outcome) → Type 0

@@ -1,8 +1,15 @@
 -- Faults of `source` lines.
-use Rattle.kc_expansion.proofs.Common.{◌≡◌, ℕ, ◌+◌, ◌<◌, ◌≤◌, Bool, true, false, cond, ◌||◌, List, [], ◌∷◌, ◌++◌, length, reverse, Option, Some, None, refl, ap, ◌∙◌, subst, arith, bytes_eq, nat_le, nat_lt, Bor, list_any, nat_tests, reverse-append, is_in_list, MissingFile, MAX_FILES, MAX_TREE_BYTES}
-use Rattle.kc_expansion.proofs.Common.{MAX_OPEN_FILES, ReadingState, MacroKind, ReadCounts, FileRead, missing, unreadable, whole, too_long, AreBytes, size_fault, texts_of_slices, MayBeRead, MayNotBeRead}
+use Rattle.kc_expansion.proofs.Common.{◌≡◌, ℕ, ◌+◌, ◌<◌, Bool, true, false, cond, ◌||◌, List, [], ◌∷◌, ◌++◌, length, reverse, Option, Some, None, is_some, refl, ap, sym, ◌∙◌, subst, arith, bytes_eq, nat_le, Bor, list_any, reverse-append, is_in_list, MAX_FILES, MAX_TREE_BYTES}
+use Rattle.kc_expansion.proofs.Common.{MAX_OPEN_FILES, ReadingState, MacroKind, ReadCounts, FileRead, missing, unreadable, whole, too_long, AreBytes, size_read, texts_of_slices, MayBeRead, MayNotBeRead}
+use Rattle.std.specs.Option.{unwrap_or}
+use Rattle.std.proofs.lemmas.Bool.{lt-ltb}
+use Rattle.kc_value.specs.declared.limits.TheConstants.{MAX_FILE_BYTES}
+use Rattle.kc_tree_model.specs.SourceFaults.{fault_of_source}
+use Rattle.kc_tree_model.proofs.SourceFaults.{faultless}
 use Rattle.kc_macros_model.specs.declared.fault.MacroKind.TheVariants.{SourceLoop, TooDeep, TooMany}
+use Rattle.kc_macros_model.specs.declared.source_kinds.TheConstants.{MACRO_KINDS}
 use Rattle.kc_macros_model.specs.TreeExpansion.{source_fault}
+use Rattle.kc_expansion.specs.checker.ReadingViews.{AreCounts}
 
 pub any_both : (x : List ℕ) (xs ys : List (List ℕ)) → is_in_list x (xs ++ ys) ≡ (is_in_list x xs || is_in_list x ys)
 any_both x [] ys = refl
@@ -30,97 +37,53 @@ pub open_by : (path : List ℕ) (os : List (Bor (List ℕ))) → list_any (λ (o
 open_by path [] = refl
 open_by path (o ∷ os) = ap (λ b. bytes_eq o.now path || b) (open_by path os)
 
-module _ (open_files : List (List ℕ)) (s : ReadingState) (path : List ℕ) where
-  pub loop_fault : (bytes : Option (List ℕ)) → is_in_list path open_files ≡ true → source_fault open_files s path bytes ≡ Some SourceLoop
-  loop_fault None e = ap (λ b. cond b (Some SourceLoop) (Some MissingFile)) e
-  loop_fault (Some there) e = ap (λ b. cond b (Some SourceLoop) (size_fault (length open_files) s.files (s.bytes + length there))) e
+or_true : (b : Bool) → (b || true) ≡ true
+or_true true = refl
+or_true false = refl
 
-  pub missing_fault : (bytes : Option (List ℕ)) → is_in_list path open_files ≡ false → bytes ≡ None → source_fault open_files s path bytes ≡ Some MissingFile
-  missing_fault bytes e m = ap (source_fault open_files s path) m ∙ ap (λ b. cond b (Some SourceLoop) (Some MissingFile)) e
+-- a file with too many bytes has a fault, whatever was read before it
+too_large : (is_open : Bool) (open_count files bytes : ℕ) → MAX_TREE_BYTES < bytes
+    → fault_of_source MACRO_KINDS is_open true open_count files bytes
+    ≡ cond is_open (Some SourceLoop) (cond (nat_le MAX_OPEN_FILES open_count) (Some TooDeep) (Some TooMany))
+too_large is_open open_count files bytes h =
+    ap (λ b. cond is_open (Some SourceLoop) (cond (nat_le MAX_OPEN_FILES open_count) (Some TooDeep) (cond b (Some TooMany) None)))
+    (ap (λ b. nat_le MAX_FILES files || b) (lt-ltb MAX_TREE_BYTES bytes h) ∙ or_true (nat_le MAX_FILES files))
 
-  -- the fault of a `source` line whose file is there and isn't open is the fault of the file's size and depth, if any
-  pub fault_of_size : (bytes : Option (List ℕ)) (there : List ℕ) → is_in_list path open_files ≡ false → bytes ≡ Some there
-      → source_fault open_files s path bytes ≡ size_fault (length open_files) s.files (s.bytes + length there)
-  fault_of_size bytes there e m = ap (source_fault open_files s path) m
-      ∙ ap (λ b. cond b (Some SourceLoop) (size_fault (length open_files) s.files (s.bytes + length there))) e
+module _ (open_files : List (List ℕ)) (counts : ReadCounts) (path : List ℕ) where
+  -- the first fault of a file of this size, None if it can't be read
+  abbrev pub fault_now : Option ℕ → Option MacroKind
+  fault_now size = fault_of_source MACRO_KINDS (is_in_list path open_files) (is_some size) (length open_files) counts.files (counts.bytes + unwrap_or size 0)
 
--- a file fails by `TooDeep` where 32 or more files are open within each other
-pub fault_too_deep : (n files bytes : ℕ) → MAX_OPEN_FILES ≤ n → size_fault n files bytes ≡ Some TooDeep
-fault_too_deep n files bytes h = ap (λ b. cond b (Some TooDeep) (cond (nat_le MAX_FILES files || nat_lt MAX_TREE_BYTES bytes) (Some TooMany) None))
-    (let e : nat_le MAX_OPEN_FILES n ≡ true = grind (arith, nat_tests) in e)
+  pub fault_seen : (read : FileRead) (fault : Option MacroKind) (known : Option ℕ) (is_open there : Bool) (open_count size : ℕ)
+      → fault ≡ fault_of_source MACRO_KINDS is_open there open_count counts.files (counts.bytes + size) → known ≡ size_read read
+      → is_open ≡ is_in_list path open_files → there ≡ is_some known → open_count ≡ length open_files → size ≡ unwrap_or known 0
+      → fault ≡ fault_now (size_read read)
+  fault_seen read fault known is_open there open_count size e a b c d f = e ∙ rw (b, c, d, f, a) refl
 
-pub fault_too_many : (n files bytes : ℕ) → n < MAX_OPEN_FILES → MAX_TREE_BYTES < bytes → size_fault n files bytes ≡ Some TooMany
-fault_too_many n files bytes h k =
-    ap (λ b. cond b (Some TooDeep) (cond (nat_le MAX_FILES files || nat_lt MAX_TREE_BYTES bytes) (Some TooMany) None))
-    (let e : nat_le MAX_OPEN_FILES n ≡ false = grind (arith, nat_tests) in e)
-    ∙ ap (λ b. cond (nat_le MAX_FILES files || b) (Some TooMany) None) (let e : nat_lt MAX_TREE_BYTES bytes ≡ true = grind (arith, nat_tests) in e)
-    ∙ ap (λ b. cond b (Some TooMany) None) (or_true (nat_le MAX_FILES files))
-  where
-    or_true : (b : Bool) → (b || true) ≡ true
-    or_true true = refl
-    or_true false = refl
+  same_fault : (read : FileRead) (s : ReadingState) → AreCounts counts s → (bytes : Option (List ℕ)) → AreBytes read bytes
+      → source_fault open_files s path bytes ≡ fault_now (size_read read)
+  same_fault missing s c bytes h = ap (source_fault open_files s path) h
+  same_fault unreadable s c bytes h = ap (source_fault open_files s path) h
+  same_fault (whole there) s c bytes h =
+      ap (source_fault open_files s path) h
+      ∙ ap (λ k. fault_of_source MACRO_KINDS (is_in_list path open_files) true (length open_files) k (s.bytes + length there)) c.files
+      ∙ ap (λ k. fault_of_source MACRO_KINDS (is_in_list path open_files) true (length open_files) counts.files (k + length there)) c.bytes
+  same_fault too_long s c bytes (more, b, l) =
+      ap (source_fault open_files s path) b
+      ∙ too_large (is_in_list path open_files) (length open_files) s.files (s.bytes + length more) (omega (arith, l))
+      ∙ sym (too_large (is_in_list path open_files) (length open_files) counts.files (counts.bytes + MAX_FILE_BYTES) (omega arith))
 
--- a file without a fault of size passes no limit: fewer than 32 files are open, fewer than 4,096 were read, and there are at most
--- 67,108,864 bytes with it
-pub no_limit_passed : (n files bytes : ℕ) → size_fault n files bytes ≡ None → (n < MAX_OPEN_FILES) × (files < MAX_FILES) × (bytes ≤ MAX_TREE_BYTES)
-no_limit_passed n files bytes h = by_tests (nat_le MAX_OPEN_FILES n) (nat_le MAX_FILES files) (nat_lt MAX_TREE_BYTES bytes) refl refl refl h
-  where
-    by_tests : (a b c : Bool) → nat_le MAX_OPEN_FILES n ≡ a → nat_le MAX_FILES files ≡ b → nat_lt MAX_TREE_BYTES bytes ≡ c
-        → cond a (Some TooDeep) (cond (b || c) (Some TooMany) None) ≡ None → (n < MAX_OPEN_FILES) × (files < MAX_FILES) × (bytes ≤ MAX_TREE_BYTES)
-    by_tests false false false d e f h = (
-      let x : n < MAX_OPEN_FILES = grind (arith, nat_tests) in x,
-      let x : files < MAX_FILES = grind (arith, nat_tests) in x,
-      let x : bytes ≤ MAX_TREE_BYTES = grind (arith, nat_tests) in x,
-    )
-    by_tests a b c d e f h = absurd (let z : ⊥ = cc in z)
+  pub refused : (read : FileRead) (kind : MacroKind) → fault_now (size_read read) ≡ Some kind → MayNotBeRead open_files counts path read kind
+  refused read kind e = record { is_fault = λ s c bytes h. same_fault read s c bytes h ∙ e }
 
--- the fault of a file's size is the same by the counts of files and bytes in the state of a reading and by equal counts
-pub fault_counted : (n files bytes len : ℕ) (s : ReadingState) → s.files ≡ files → s.bytes ≡ bytes → size_fault n s.files (s.bytes + len)
-    ≡ size_fault n files (bytes + len)
-fault_counted n files bytes len s f g = ap (λ k. size_fault n k (s.bytes + len)) f ∙ ap (λ k. size_fault n files (k + len)) g
-
-module _ (open_files : List (List ℕ)) (counts : ReadCounts) (path : List ℕ) (read : FileRead) where
-  pub refused_open : is_in_list path open_files ≡ true → MayNotBeRead open_files counts path read SourceLoop
-  refused_open e = record { is_fault = λ s c bytes h. loop_fault open_files s path bytes e }
-
-  pub refused_missing : is_in_list path open_files ≡ false → read ≡ missing → MayNotBeRead open_files counts path read MissingFile
-  refused_missing e m = record { is_fault = λ s c bytes h. missing_fault open_files s path bytes e (subst (λ (r : FileRead). AreBytes r bytes) m h) }
-
-  pub refused_unreadable : is_in_list path open_files ≡ false → read ≡ unreadable → MayNotBeRead open_files counts path read MissingFile
-  refused_unreadable e m = record { is_fault = λ s c bytes h. missing_fault open_files s path bytes e (subst (λ (r : FileRead). AreBytes r bytes) m h) }
-
-  module _ (there : List ℕ) (e : is_in_list path open_files ≡ false) (m : read ≡ whole there) where
-    abbrev fault_now : Option MacroKind
-    fault_now = size_fault (length open_files) counts.files (counts.bytes + length there)
-
-    pub refused_whole : (kind : MacroKind) → fault_now ≡ Some kind → MayNotBeRead open_files counts path read kind
-    refused_whole kind f = record {
-      is_fault = λ s c bytes h. fault_of_size open_files s path bytes there e (subst (λ (r : FileRead). AreBytes r bytes) m h)
-          ∙ fault_counted (length open_files) counts.files counts.bytes (length there) s c.files c.bytes ∙ f;
-    }
-
-    pub read_whole : fault_now ≡ None → MayBeRead open_files counts path read there
-    read_whole f =
-        let w = no_limit_passed (length open_files) counts.files (counts.bytes + length there) f in
-        record {
-          is_whole = m;
-          no_fault = λ s c. fault_of_size open_files s path (Some there) there e refl ∙ fault_counted (length open_files) counts.files counts.bytes
-              (length there) s c.files c.bytes ∙ f;
-          few_files = w.1;
-          few_bytes = w.2;
-          few_open = w.0;
-        }
-
-  module _ (e : is_in_list path open_files ≡ false) (m : read ≡ too_long) where
-    pub refused_deep : MAX_OPEN_FILES ≤ length open_files → MayNotBeRead open_files counts path read TooDeep
-    refused_deep d = record { is_fault = λ s c bytes h. deep s bytes (subst (λ (r : FileRead). AreBytes r bytes) m h) }
-      where
-        deep : (s : ReadingState) (bytes : Option (List ℕ)) → AreBytes too_long bytes → source_fault open_files s path bytes ≡ Some TooDeep
-        deep s bytes (more, b, l) = fault_of_size open_files s path bytes more e b ∙ fault_too_deep (length open_files) s.files (s.bytes + length more) d
-
-    pub refused_long : length open_files < MAX_OPEN_FILES → MayNotBeRead open_files counts path read TooMany
-    refused_long d = record { is_fault = λ s c bytes h. long s bytes (subst (λ (r : FileRead). AreBytes r bytes) m h) }
-      where
-        long : (s : ReadingState) (bytes : Option (List ℕ)) → AreBytes too_long bytes → source_fault open_files s path bytes ≡ Some TooMany
-        long s bytes (more, b, l) = fault_of_size open_files s path bytes more e b ∙ fault_too_many (length open_files) s.files (s.bytes + length more) d
-            (let x : MAX_TREE_BYTES < s.bytes + length more = omega (arith, l) in x)
+  pub read_whole : (read : FileRead) (there : List ℕ) → read ≡ whole there → fault_now (size_read read) ≡ None → MayBeRead open_files counts path read there
+  read_whole read there m e =
+      let f = faultless MACRO_KINDS (is_in_list path open_files) true (length open_files) counts.files (counts.bytes + length there)
+      (subst (λ (r : FileRead). fault_now (size_read r) ≡ None) m e) in
+      record {
+        is_whole = m;
+        no_fault = λ s c. same_fault read s c (Some there) (subst (λ (r : FileRead). AreBytes r (Some there)) (sym m) refl) ∙ e;
+        few_files = f.few_files;
+        few_bytes = f.few_bytes;
+        few_open = f.few_open;
+      }

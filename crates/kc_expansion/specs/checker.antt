@@ -3,7 +3,7 @@ pub mod Sizes
 pub mod ProgramSteps
 pub mod ReadingViews
 pub mod ChoiceViews
-pub mod SameLines
+pub mod CopiedLines
 pub mod LineViews
 pub mod ExpansionViews
 pub mod HelpWords

@@ -13,9 +13,9 @@ ghost use Rattle.kc_expansion.specs.checker.FileLines.{IsFileLine, line_of_file,
 ghost use Rattle.kc_expansion.specs.checker.ProgramSteps.{Leads};
 ghost use Rattle.kc_expansion.specs.checker.ReadingViews.{with_lines, IsWrittenTo};
 
+use super::copied_lines::copied_line;
 use super::line_places::{LineStart, after_help, is_continued_at, write_over};
 use super::line_steps::{LineState, LineStep, NewLine, SourceLine, line_step, short_line};
-use super::same_lines::stays;
 use super::written_file::WrittenFile;
 use kc_lines::{LogicalLine, logical_at};
 use kc_macros::{Place, Stop};
@@ -143,7 +143,7 @@ pub(crate) fn line_here<'a>(
         → LineMet (file_run contents known state.old.run) (file_run contents known state.new.run) sub file.now bytes.now start (with_lines state.old s) out.old (with_lines state.new s) out.new result }
 {
     let line = line_at(state.run.alloc(), bytes, start)?;
-    if let Some(begins_help) = stays(&line.text) {
+    if let Some(begins_help) = copied_line(&line.text) {
         return Ok(LineHere::Passed(after_help(bytes, line.after, begins_help)));
     }
     changed_line(state, file, bytes, start, line, out)

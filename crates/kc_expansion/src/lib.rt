@@ -2,6 +2,7 @@
 #![tactic(auto)]
 
 mod choice_names;
+mod copied_lines;
 mod expansion;
 mod faults;
 mod file_lines;
@@ -11,7 +12,6 @@ mod line_places;
 mod line_steps;
 mod open_files;
 mod read_counts;
-mod same_lines;
 mod source_faults;
 mod source_lines;
 mod source_paths;

@@ -1,7 +1,7 @@
 //! The first step of a line: it is written, or sources files.
 ghost use Rattle.std.specs.Prelude.{◌≡◌, false, ◌||◌, not, nat_lt, length, IfOk, IfErr, Some, option_map};
 ghost use Rattle.std.specs.Str.{is_utf8};
-ghost use Rattle.kc_macros_model.specs.LineForms.{without_gaps};
+ghost use Rattle.kc_macros_model.specs.LineForms.{without_trivia};
 ghost use Rattle.kc_macros_model.specs.Programs.{Place as LinePlace, returns};
 ghost use Rattle.kc_macros_model.specs.ReadingStates.{ReadingState, progress, written_line};
 ghost use Rattle.kc_macros_model.specs.TreeExpansion.{SourceReader, choice_written, form_written, short_line, tokens_written, line_written};
@@ -140,7 +140,7 @@ fn tokens_step(
     tokens: Vec<WrittenToken>,
 ) -> Result<LineStep, Stop>
     ensures { (contents : TreeContents) (known : KnownFiles) (sub : SourceReader) (s : ReadingState)
-        → Steps (file_run contents known state.old.run) (file_run contents known state.new.run) (tokens_written sub (place_of at.entry) (with_lines state.old s) (tokens_of tokens.items) (without_gaps (tokens_of tokens.items))) (λ step. step_left sub (place_of at.entry) step (with_lines state.new s)) result }
+        → Steps (file_run contents known state.old.run) (file_run contents known state.new.run) (tokens_written sub (place_of at.entry) (with_lines state.old s) (tokens_of tokens.items) (without_trivia (tokens_of tokens.items))) (λ step. step_left sub (place_of at.entry) step (with_lines state.new s)) result }
 {
     let alloc = state.run.alloc();
     if is_undecided(&tokens) {

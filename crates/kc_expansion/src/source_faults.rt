@@ -1,16 +1,17 @@
 //! Faults of `source` lines.
-ghost use Rattle.std.specs.Prelude.{◌≡◌, ◌+◌, ◌||◌, nat_le, nat_lt, bytes_eq, IfOk, IfErr};
+ghost use Rattle.std.specs.Prelude.{◌≡◌, bytes_eq, IfOk, IfErr};
 ghost use Rattle.std.specs.List.{list_any};
 ghost use Rattle.kc_files.specs.checker.FileViews.{file_of};
 ghost use Rattle.kc_macros.specs.between.SliceTexts.{texts_of_slices};
 ghost use Rattle.kc_expansion.specs.checker.ReadingViews.{MayBeRead, MayNotBeRead};
-ghost use Rattle.kc_expansion.specs.checker.Sizes.{size_fault};
+ghost use Rattle.kc_expansion.specs.checker.Sizes.{size_read};
 
 use super::read_counts::ReadCounts;
 use kc_files::FileRead;
 use kc_macros::is_text;
-use kc_macros_model::MacroKind;
-use kc_value::{MAX_FILES, MAX_OPEN_FILES, MAX_TREE_BYTES};
+use kc_macros_model::{MACRO_KINDS, MacroKind};
+use kc_tree_model::source_fault;
+use kc_value::MAX_FILE_BYTES;
 use std::rc::Rc;
 
 /// Whether the file of a path is open.
@@ -20,24 +21,16 @@ fn is_open(open_files: &[&[u8]], path: &[u8]) -> bool
     open_files.iter().any(|other| is_text(other, path))
 }
 
-/// Whether a file of `bytes` bytes is one too many, or has too many bytes.
-fn is_too_many(counts: ReadCounts, bytes: usize) -> bool
-    ensures { result ≡ (nat_le MAX_FILES counts.files || nat_lt MAX_TREE_BYTES (counts.bytes + bytes)) }
+/// How many bytes a file has, None if it can't be read; `MAX_FILE_BYTES` stands for any size above the limit.
+fn size_of(read: &FileRead) -> Option<usize>
+    ensures { result ≡ size_read (file_of read.now) }
 {
-    counts.files >= MAX_FILES || counts.bytes.saturating_add(bytes) > MAX_TREE_BYTES
-}
-
-/// The fault of a file of `size` bytes that isn't open, where `open_count` files are open within each other.
-fn size_fault(open_count: usize, counts: ReadCounts, size: usize) -> Option<MacroKind>
-    ensures { result ≡ size_fault open_count counts.files (counts.bytes + size) }
-{
-    if open_count >= MAX_OPEN_FILES {
-        return Some(MacroKind::TooDeep);
+    match read {
+        FileRead::Missing => None,
+        FileRead::Unreadable => None,
+        FileRead::Whole(bytes) => Some(bytes.len()),
+        FileRead::TooLong => Some(MAX_FILE_BYTES),
     }
-    if is_too_many(counts, size) {
-        return Some(MacroKind::TooMany);
-    }
-    None
 }
 
 /// The bytes of a file or a list of files that a `source` line reads, unless they may not be read; `open_files` are the paths of
@@ -55,17 +48,20 @@ pub(crate) fn bytes_to_read(
     ensures ok { IfOk result (λ b. MayBeRead (texts_of_slices open_files.now) counts path.now (file_of read) b.value.items) }
     ensures err { IfErr result (λ kind. MayNotBeRead (texts_of_slices open_files.now) counts path.now (file_of read) kind) }
 {
-    if is_open(open_files, path) {
-        return Err(MacroKind::SourceLoop);
+    let size = size_of(&read);
+    if let Some(kind) = source_fault(
+        &MACRO_KINDS,
+        is_open(open_files, path),
+        size.is_some(),
+        open_files.len(),
+        counts.files,
+        counts.bytes,
+        size.unwrap_or(0),
+    ) {
+        return Err(kind);
     }
     match read {
-        FileRead::Missing => Err(MacroKind::MissingFile),
-        FileRead::Unreadable => Err(MacroKind::MissingFile),
-        FileRead::Whole(bytes) => match size_fault(open_files.len(), counts, bytes.len()) {
-            Some(kind) => Err(kind),
-            None => Ok(bytes),
-        },
-        FileRead::TooLong if open_files.len() >= MAX_OPEN_FILES => Err(MacroKind::TooDeep),
-        FileRead::TooLong => Err(MacroKind::TooMany),
+        FileRead::Whole(bytes) => Ok(bytes),
+        FileRead::Missing | FileRead::Unreadable | FileRead::TooLong => unreachable!(),
     }
 }

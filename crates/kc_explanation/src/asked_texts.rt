@@ -11,7 +11,7 @@ use super::token_texts::push_value_text;
 use super::words::hindrance_text;
 use itoa::Buffer;
 use kc_dotconfig_model::Strings;
-use kc_evaluation::{Valuation, letter_of};
+use kc_evaluation::Valuation;
 use kc_minimal::push_spelled;
 use kc_reasons::{Case, ChoiceCase, Hindrance, TextCase, TriCase, is_given_y};
 use kc_rules_model::UserValue;
@@ -143,7 +143,7 @@ pub fn push_asked_value(
     ensures { OnOk result (out.new.items ≡ out.old.items ++ asked_value strings (valuation_tree under.now) s kind user.now) }
 {
     match user {
-        UserValue::Tri(t) => out.extend_from_slice(letter_of(*t).as_bytes()),
+        UserValue::Tri(t) => out.extend_from_slice(t.letter().as_bytes()),
         UserValue::Text(text) => push_spelled(out, strings, kind, text.as_str()),
         UserValue::Member(m) => push_asked_member(out, under, s, *m),
         UserValue::Lines(lines) => push_letter_of(out, is_given_y(lines.as_slice(), s)),

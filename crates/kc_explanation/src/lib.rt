@@ -15,7 +15,6 @@ pub use asked_texts::{
     push_asked_value, push_asks, push_line_place, push_name, push_outcome, push_value_of, push_why,
 };
 pub use explanation::{is_without_prompt, name_of};
-pub use kc_evaluation::letter_of;
 pub use located_explanation::{
     ReasonPlaces, place_at, push_located_details, push_located_first_line, push_located_unmet,
 };

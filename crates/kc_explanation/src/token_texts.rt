@@ -19,7 +19,7 @@ ghost use Rattle.kc_explanation.specs.between.SpelledTokens.{left_operand, right
 use super::context::Context;
 use super::spelling::{SpelledToken, spelled_tokens};
 use kc_dotconfig_model::Strings;
-use kc_evaluation::{Valuation, letter_of};
+use kc_evaluation::Valuation;
 use kc_expr::{ExprId, ExprParts, Looked, Operand};
 use kc_minimal::push_spelled;
 use kc_reasons::parts_at;
@@ -102,7 +102,7 @@ fn push_value_of_word(out: &mut Vec<u8>, by: &Context<'_>, word: &str) -> Result
 fn push_constant(out: &mut Vec<u8>, by: &Context<'_>, value: Tri) -> Result<(), AllocError>
     ensures { OnOk result (out.new.items ≡ out.old.items ++ token_with_value (valued_token by.now.strings (names_of by.now) (operand_token (constant value)))) }
 {
-    let letter = letter_of(value);
+    let letter = value.letter();
     out.extend_from_slice(letter.as_bytes())?;
     push_value_of_word(out, by, letter)
 }

@@ -2,7 +2,7 @@
 use Rattle.kc_expr.proofs.Common.{◌≡◌, ℕ, suc, ◌+◌, ◌⊎◌, inl, inr, true, false, eqb, List, [], ◌∷◌, ◌++◌, length, take, Option, Some, None, Result, Ok, Err, refl, ap, sym, ◌∙◌, append_assoc, length-append, arith, both_ways, take-append_seam, closing, ExprFault, UnclosedQuote, LeftOut, Language}
 use Rattle.kc_expr.proofs.Common.{NextToken, White, Comment, Token, Fault, is_quote, Lexeme, with_front, dollar_left_out, quoted_up_to, quoted_or_left_out, lexemes_from, IsFirstTokenFault, cut_read, lead_quoted}
 use Rattle.std.proofs.lemmas.Bool.{eq-eqb}
-use Rattle.kc_value.specs.QuotedTexts.{IsBody}
+use Rattle.kc_value.specs.QuotedTexts.{IsBetweenQuotes}
 use Rattle.kc_value.proofs.QuotedLaws.{body_closes, closed}
 use Rattle.kc_tokens.specs.declared.fault.ExprKind.TheVariants.{BadToken}
 use Rattle.kc_tokens.specs.Token.{is_white_byte, next_token}
@@ -22,15 +22,15 @@ unfolding next_token
 dollar_read language at bytes = (0, refl, omega arith)
 
 unclosed_read : (language : Language) (at q : ℕ) (bytes : List ℕ) → is_quote q ≡ true
-    → ((body means rest : List ℕ) → IsBody q body means → bytes ≡ body ++ q ∷ rest → ⊥)
+    → ((body means rest : List ℕ) → IsBetweenQuotes q body means → bytes ≡ body ++ q ∷ rest → ⊥)
     → IsRead language at (q ∷ bytes) (record { offset = at; kind = UnclosedQuote })
 unclosed_read language at q bytes h open_ended = by_closing (closing q false bytes) refl
   where
     by_closing : (o : Option ℕ) → closing q false bytes ≡ o → IsRead language at (q ∷ bytes) (record { offset = at; kind = UnclosedQuote })
     by_closing None e = (0, lead_quoted language q bytes h ∙ ap (quoted_up_to language (q ∷ bytes)) e, omega arith)
-    by_closing (Some n) e = let k = closed q false bytes n e in absurd (open_ended k.body _ k.rest k.is_body k.parts)
+    by_closing (Some n) e = let k = closed q false bytes n e in absurd (open_ended k.body _ k.rest k.is_between_quotes k.parts)
 
-between_read : (language : Language) (at q : ℕ) (front back means rest : List ℕ) → is_quote q ≡ true → IsBody q (front ++ 36 ∷ back) means
+between_read : (language : Language) (at q : ℕ) (front back means rest : List ℕ) → is_quote q ≡ true → IsBetweenQuotes q (front ++ 36 ∷ back) means
     → HasDollarsOf language front → IsRead language at (q ∷ ((front ++ 36 ∷ back) ++ q ∷ rest)) (record { offset = at + 1 + length front; kind = LeftOut })
 between_read language at q front back means rest h is dollars =
     let body : List ℕ = front ++ 36 ∷ back in

@@ -9,7 +9,7 @@ use Rattle.kc_value.specs.declared.tri.Tri.TheVariants.{N, M, Y}
 use Rattle.kc_value.specs.declared.value.Kind.{Kind}
 use Rattle.kc_value.specs.declared.value.Kind.TheVariants.{Text, Int, Hex}
 use Rattle.kc_value.specs.Kinds.{is_tri_kind, is_text_kind}
-use Rattle.kc_value.specs.Tri.{rank, tri_and, tri_or, tri_not, y_for_m}
+use Rattle.kc_value.specs.Tri.{rank, tri_and, tri_or, tri_not, y_for_m, letter}
 use Rattle.kc_value.specs.Number.{int_text, hex_text, loose_number}
 use Rattle.kc_tokens.specs.declared.token.Relop.{Relop}
 use Rattle.kc_tokens.specs.declared.token.Relop.TheVariants.{Equal, NotEqual, Less, Greater, LessEqual, GreaterEqual}
@@ -38,12 +38,6 @@ pub record SymbolValue : Type 0 where
 -- the value of each name; None where no symbol of that name is defined
 abbrev pub Environment : Type 0
 Environment = List ℕ → Option SymbolValue
-
--- the text of a constant: `n`, `m` or `y`
-abbrev pub letter : Tri → List ℕ
-letter N = 110 ∷ []
-letter M = 109 ∷ []
-letter Y = 121 ∷ []
 
 -- the value of a symbol as an expression: its tristate value if it is a bool or tristate, else `n`
 abbrev pub tri_of_kind : Kind → Tri → Tri

@@ -5,8 +5,7 @@ ghost use Rattle.kc_value.specs.declared.tri.Tri.TheVariants.{N, Y};
 ghost use Rattle.std.specs.Prelude.{◌&&◌, if◌then◌else◌};
 ghost use Rattle.std.specs.Cmp.Lexicographic.{slice_cmp};
 ghost use Rattle.std.specs.Ordering.{nat_cmp};
-ghost use Rattle.kc_expr.specs.Expr.{compared_by, value, operand_value, operand_text, operand_number, is_string, compared, relation_holds, letter, tri_of_kind, number_of_kind};
-ghost use Rattle.kc_value.specs.Tri.{y_for_m};
+ghost use Rattle.kc_expr.specs.Expr.{compared_by, value, operand_value, operand_text, operand_number, is_string, compared, relation_holds, tri_of_kind, number_of_kind};
 ghost use Rattle.kc_expr.specs.between.Arena.{node_expr};
 ghost use Rattle.kc_expr.specs.checker.Nodes.{LeafFits, operand_of};
 ghost use Rattle.kc_expr.specs.checker.Store.{stored_names, exprs_in, IsSound};
@@ -19,16 +18,6 @@ use super::node_store::NodeStore;
 use kc_tokens::Relop;
 use kc_value::{Kind, Tri, hex_of, int_of, loose_number_of};
 use std::cmp::Ordering;
-
-fn letter_of(value: Tri) -> &'static str
-    ensures { result.now ≡ letter value }
-{
-    match value {
-        Tri::N => "n",
-        Tri::M => "m",
-        Tri::Y => "y",
-    }
-}
 
 /// Whether a relation holds between operands, by how they compare.
 fn relation_holds(op: Relop, order: Ordering) -> bool
@@ -95,7 +84,7 @@ fn side_of<'a, L: Lookup>(store: &'a NodeStore, leaf: Leaf, lookup: &'a L) -> Si
 {
     match leaf {
         Leaf::Constant(t) => Side {
-            text: letter_of(t),
+            text: t.letter(),
             number: Some(rank_of(t)),
             is_text: false,
         },
@@ -155,16 +144,6 @@ fn leaf_value<L: Lookup>(store: &NodeStore, leaf: Leaf, lookup: &L) -> Tri
     }
 }
 
-/// The value with `y` in place of `m`.
-fn shown_value(value: Tri) -> Tri
-    ensures { result ≡ y_for_m value }
-{
-    match value {
-        Tri::N => Tri::N,
-        Tri::M | Tri::Y => Tri::Y,
-    }
-}
-
 /// The value of a relation.
 fn related_value<L: Lookup>(store: &NodeStore, op: Relop, a: Leaf, b: Leaf, lookup: &L) -> Tri
     requires left { LeafFits (length (stored_names store.now)) (length store.now.texts.items) a }
@@ -206,7 +185,7 @@ fn value_at<L: Lookup>(store: &NodeStore, index: usize, lookup: &L) -> Tri
         Node::Alone(leaf) => leaf_value(store, leaf, lookup),
         Node::Related(op, a, b) => related_value(store, op, a, b, lookup),
         Node::Negated(e) => value_at(store, e as usize, lookup).not(),
-        Node::Shown(e) => shown_value(value_at(store, e as usize, lookup)),
+        Node::Shown(e) => value_at(store, e as usize, lookup).y_for_m(),
         Node::Both(left, right) => {
             let mut least = value_at(store, right as usize, lookup);
             let mut at = left as usize;

@@ -20,18 +20,18 @@ pub enum FileRead {
     TooLong,
 }
 
-/// All bytes of a reader, or the first `MAX_FILE_BYTES` of more; `None` where a read fails. Room is made for `room` bytes at once,
+/// All bytes of a reader, or the first `MAX_FILE_BYTES` of more; `None` where a read fails. Memory is taken for `capacity` bytes at once,
 /// and `block` is read into, which may serve for many files, since to clear it anew takes an instruction for each of its bytes.
 pub fn read_front<S: Source>(
     alloc: Global,
     source: &mut S,
-    room: usize,
+    capacity: usize,
     block: &mut [u8; MAX_BLOCK_BYTES],
 ) -> Result<Option<Vec<u8>>, AllocError>
     ensures bytes { IfOk result (λ found. IfSome found (λ bytes. Consumes (S.left source.old) (S.left source.new) bytes.items × (length bytes.items ≤ MAX_FILE_BYTES) × ((length bytes.items ≡ MAX_FILE_BYTES) ⊎ IsAtEnd (S.left source.new)))) }
     ensures failed { IfOk result (λ found. IfNone found (HasRisen (S.failures source.old) (S.failures source.new))) }
 {
-    let ReadBytes { bytes, end } = read_up_to(alloc, source, MAX_FILE_BYTES, room, block)?;
+    let ReadBytes { bytes, end } = read_up_to(alloc, source, MAX_FILE_BYTES, capacity, block)?;
     match end {
         ReadEnd::AtEnd | ReadEnd::AtLimit => Ok(Some(bytes)),
         ReadEnd::AtFailure => Ok(None),
@@ -42,12 +42,12 @@ pub fn read_front<S: Source>(
 fn read_bytes<S: Source>(
     alloc: Global,
     source: &mut S,
-    room: usize,
+    capacity: usize,
     block: &mut [u8; MAX_BLOCK_BYTES],
 ) -> Result<FileRead, AllocError>
     ensures { IfOk result (λ read. MatchFile (content_of_reader (S.left source.old)) (S.failures source.old) (S.failures source.new) (file_of read)) }
 {
-    match read_front(alloc, source, room, block)? {
+    match read_front(alloc, source, capacity, block)? {
         None => Ok(FileRead::Unreadable),
         Some(bytes) if bytes.len() < MAX_FILE_BYTES => Ok(FileRead::Whole(Rc::new(alloc, bytes)?)),
         Some(_) => Ok(FileRead::TooLong),
@@ -65,8 +65,8 @@ fn read_opened<F: TreeFiles>(
     ensures same { StaysKnown (F.contents files.old) (F.contents files.new) }
     ensures matched { IfOk result (λ read. MatchFile (content_of_reader (F.File.Source.left reader)) (F.contents files.old).failures (F.contents files.new).failures (file_of read)) }
 {
-    let room = files.size_of(&reader).min(MAX_FILE_BYTES);
-    let read = read_bytes(alloc, &mut reader, room, block);
+    let capacity = files.size_of(&reader).min(MAX_FILE_BYTES);
+    let read = read_bytes(alloc, &mut reader, capacity, block);
     files.close(reader);
     read
 }

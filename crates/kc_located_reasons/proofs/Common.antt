@@ -10,7 +10,7 @@ pub use Rattle.kc_located_reasons.specs.checker.PartLists.{part_at}
 pub use Rattle.kc_located_reasons.specs.declared.located_parts.LocatedPart.{LocatedPart}
 pub use Rattle.kc_reasons.specs.between.Parts.{parts_view}
 pub use Rattle.kc_reasons_model.specs.Conjuncts.{Part, lacking}
-pub use Rattle.kc_rules_model.specs.Kinds.{is_n}
+pub use Rattle.kc_value.specs.Tri.{is_n}
 pub use Rattle.kc_rules_model.specs.SymbolValues.{condition, environment}
 pub use Rattle.kc_symbol_lines.specs.between.LinesView.{all_located, each_located, located_view, position_view}
 pub use Rattle.kc_value.specs.declared.tri.Tri.{Tri}

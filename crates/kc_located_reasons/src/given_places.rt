@@ -8,7 +8,7 @@ ghost use Rattle.kc_symbol_lines.specs.between.LinesView.{position_view, symbol_
 ghost use Rattle.kc_located_reasons.specs.checker.ActivePlaces.{is_active, is_active_default, is_active_range};
 ghost use Rattle.kc_located_reasons.specs.GivenPlaces.{default_place, range_place, given_place};
 
-use kc_evaluation::{Valuation, is_n};
+use kc_evaluation::Valuation;
 use kc_expr::ExprId;
 use kc_reasons::{Case, TextCase, TriCase};
 use kc_symbol_lines::{Position, SymbolLines};
@@ -19,7 +19,7 @@ fn is_active(under: &Valuation<'_>, condition: ExprId) -> bool
     requires there { condition < length (valuation_exprs under.now).nodes }
     ensures { result ≡ is_active (valuation_tree under.now) (valuation_values under.now) (valuation_exprs under.now) condition }
 {
-    !is_n(under.condition(condition))
+    !under.condition(condition).is_n()
 }
 
 /// The number of the first default whose condition isn't `n`.

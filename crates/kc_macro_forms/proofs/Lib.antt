@@ -1,2 +1,2 @@
 pub mod KeywordLemmas
-pub mod RealTokenLemmas
+pub mod SignificantTokenLemmas

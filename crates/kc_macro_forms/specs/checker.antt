@@ -1,1 +1,1 @@
-pub mod RealTokens
+pub mod SignificantTokens

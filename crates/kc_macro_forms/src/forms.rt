@@ -3,10 +3,10 @@ ghost use Rattle.std.specs.Prelude.{◌≡◌, ◌&&◌, option_map};
 ghost use Rattle.std.specs.List.{list_any};
 ghost use Rattle.kc_tree_model.specs.Limits.{is_in_list};
 ghost use Rattle.kc_macros_model.specs.Assignments.{is_unknown};
-ghost use Rattle.kc_macros_model.specs.LineForms.{help_words, is_word, sort_of_source, form_of_pair, form_of, without_gaps, is_help_line, is_undecided};
+ghost use Rattle.kc_macros_model.specs.LineForms.{help_words, is_word, sort_of_source, form_of_two_words, form_of, without_trivia, is_help_line, is_undecided};
 ghost use Rattle.kc_macro_forms.specs.between.WrittenTokens.{token_of, tokens_of};
 ghost use Rattle.kc_macro_forms.specs.between.LineFormViews.{source_sort_of, form_view};
-ghost use Rattle.kc_macro_forms.specs.checker.RealTokens.{is_decisive_word, form_by};
+ghost use Rattle.kc_macro_forms.specs.checker.SignificantTokens.{is_decisive_word, form_of_words};
 
 use super::form_words::{is_help_word, is_prompt_word, is_source_word};
 use super::keywords::is_among;
@@ -62,7 +62,7 @@ fn sort_of_source(word: &[u8]) -> SourceSort
 
 /// The form of a line of two tokens, of which the first is this word.
 fn form_of_two_words<'t>(word: &[u8], token: &'t WrittenToken) -> LineForm<'t>
-    ensures { form_view result ≡ form_of_pair word.now (token_of token.now) }
+    ensures { form_view result ≡ form_of_two_words word.now (token_of token.now) }
 {
     let bytes = token.bytes.as_slice();
     if is_source_word(word) && is_path(token) {
@@ -82,7 +82,7 @@ fn form_of_two_words<'t>(word: &[u8], token: &'t WrittenToken) -> LineForm<'t>
 
 /// The form of a line by its first word, its second token, and whether no token comes after it.
 fn form_of_words<'t>(word: &[u8], token: &'t WrittenToken, alone: bool) -> LineForm<'t>
-    ensures { form_view result ≡ form_by word.now (token_of token.now) alone }
+    ensures { form_view result ≡ form_of_words word.now (token_of token.now) alone }
 {
     if is_prompt_word(word) && is_bare_prompt(token) {
         return LineForm::BarePrompt(token.bytes.as_slice());
@@ -95,7 +95,7 @@ fn form_of_words<'t>(word: &[u8], token: &'t WrittenToken, alone: bool) -> LineF
 
 /// How a line departs from plain Kconfig, by its written tokens.
 pub fn line_form(tokens: &[WrittenToken]) -> LineForm<'_>
-    ensures { form_view result ≡ form_of (without_gaps (tokens_of tokens.now)) }
+    ensures { form_view result ≡ form_of (without_trivia (tokens_of tokens.now)) }
 {
     let Some((first, after_first)) = next_significant(tokens) else {
         return LineForm::Plain;
@@ -119,7 +119,7 @@ fn is_help_token(token: &WrittenToken) -> bool
 /// Whether a help text follows a line, by its written tokens: apart from white, comments and tokens with an empty value, the
 /// line is only the word `help` or `---help---`.
 pub fn is_help_line(tokens: &[WrittenToken]) -> bool
-    ensures { result ≡ is_help_line (without_gaps (tokens_of tokens.now)) }
+    ensures { result ≡ is_help_line (without_trivia (tokens_of tokens.now)) }
 {
     match next_significant(tokens) {
         Some((first, after)) => is_empty_line(after) && is_help_token(first),
@@ -151,7 +151,7 @@ fn has_unknown(tokens: &[WrittenToken]) -> bool
 /// Whether the form of a line isn't known: it begins with a `source` or help word, and a later token depends on a question
 /// without an answer, so that its value may be empty.
 pub fn is_undecided(tokens: &[WrittenToken]) -> bool
-    ensures { result ≡ is_undecided (without_gaps (tokens_of tokens.now)) }
+    ensures { result ≡ is_undecided (without_trivia (tokens_of tokens.now)) }
 {
     match next_significant(tokens) {
         Some((first, after)) => is_decisive(first) && has_unknown(after),

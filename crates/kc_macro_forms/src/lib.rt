@@ -15,7 +15,7 @@ pub use keywords::is_keyword;
 pub use line_texts::{
     line_bytes, source_line, with_bare_prompt, with_replacement, without_choice_name,
 };
-pub use token_sorts::{is_gap, is_unknown};
+pub use token_sorts::{is_trivia, is_unknown};
 pub use written_tokens::{
     WrittenToken, new_token, push_escaped, quoted_text_token, token_of_text, token_of_value,
 };

@@ -6,7 +6,7 @@ ghost use Rattle.kc_macros_model.specs.LineForms.{with_nth_token, line_bytes, wi
 ghost use Rattle.kc_macros_model.specs.TreeExpansion.{source_line};
 ghost use Rattle.kc_macro_forms.specs.between.WrittenTokens.{tokens_of};
 
-use super::significant_tokens::gap_count;
+use super::significant_tokens::trivia_count;
 use super::written_tokens::{WrittenToken, quoted_text_token};
 use kc_macros::is_text;
 use std::alloc::{AllocError, Global};
@@ -29,7 +29,7 @@ fn push_with_first(
 ) -> Result<(), AllocError>
     ensures { OnOk result ((new : Written) → new.bytes ≡ bytes.now → out.new.items ≡ out.old.items ++ line_bytes (with_nth_token 0 new (tokens_of tokens.now))) }
 {
-    let place = gap_count(tokens);
+    let place = trivia_count(tokens);
     push_tokens(out, &tokens[..place])?;
     if place >= tokens.len() {
         return Ok(());
@@ -44,7 +44,7 @@ fn with_second(alloc: Global, tokens: &[WrittenToken], bytes: &[u8]) -> Result<V
     ensures { IfOk result (λ t. t.items ≡ line_bytes (with_nth_token 1 (written_as Word bytes.now []) (tokens_of tokens.now))) }
 {
     let mut text = Vec::new(alloc);
-    let place = gap_count(tokens);
+    let place = trivia_count(tokens);
     if place >= tokens.len() {
         push_tokens(&mut text, tokens)?;
         return Ok(text);
@@ -67,7 +67,7 @@ pub fn line_bytes(alloc: Global, tokens: &[WrittenToken]) -> Result<Vec<u8>, All
     Ok(text)
 }
 
-/// The bytes of a line with the prompt `text` in double quotes in place of its second token, not counting gaps (white, comments
+/// The bytes of a line with the prompt `text` in double quotes in place of its second token, not counting trivia (white, comments
 /// and tokens with an empty value).
 ///
 /// # Errors
@@ -101,7 +101,7 @@ pub fn with_replacement(
     ensures { IfOk result (λ t. t.items ≡ with_replacement text.now (tokens_of tokens.now)) }
 {
     let mut line = Vec::new(alloc);
-    push_tokens(&mut line, &tokens[..gap_count(tokens)])?;
+    push_tokens(&mut line, &tokens[..trivia_count(tokens)])?;
     line.extend_from_slice(text)?;
     Ok(line)
 }
@@ -149,7 +149,7 @@ fn push_with_key(
 ) -> Result<(), AllocError>
     ensures { OnOk result (out.new.items ≡ out.old.items ++ line_bytes (with_nth_token 1 (quoted_text_token key.now) (with_nth_token 0 (written_as Word (codes "source") []) (tokens_of tokens.now)))) }
 {
-    let place = gap_count(tokens);
+    let place = trivia_count(tokens);
     push_tokens(out, &tokens[..place])?;
     if place >= tokens.len() {
         return Ok(());

@@ -1,6 +1,6 @@
 //! Sorts of written tokens.
 ghost use Rattle.std.specs.Prelude.{◌≡◌};
-ghost use Rattle.kc_macros_model.specs.Assignments.{is_gap, is_unknown};
+ghost use Rattle.kc_macros_model.specs.Assignments.{is_trivia, is_unknown};
 ghost use Rattle.kc_macros_model.specs.LineForms.{is_word, is_path, is_bare_prompt};
 ghost use Rattle.kc_macro_forms.specs.between.WrittenTokens.{token_of};
 
@@ -8,11 +8,11 @@ use super::form_words::is_condition_word;
 use super::written_tokens::WrittenToken;
 use kc_macros_model::TokenSort;
 
-/// Whether a written token is a gap: white, a comment, or a token with an empty value.
-pub fn is_gap(token: &WrittenToken) -> bool
-    ensures { result ≡ is_gap (token_of token.now) }
+/// Whether a written token is trivia: white, a comment, or a token with an empty value.
+pub fn is_trivia(token: &WrittenToken) -> bool
+    ensures { result ≡ is_trivia (token_of token.now) }
 {
-    matches!(token.sort, TokenSort::Gap)
+    matches!(token.sort, TokenSort::Trivia)
 }
 
 /// Whether a written token depends on a question without an answer.

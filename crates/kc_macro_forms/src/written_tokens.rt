@@ -97,7 +97,7 @@ pub fn token_of_text(alloc: Global, text: &[u8]) -> Result<WrittenToken, AllocEr
     ensures { IfOk result (λ t. token_of t ≡ token_of_text text.now) }
 {
     if text.is_empty() {
-        return new_token(alloc, TokenSort::Gap, b" ", b"");
+        return new_token(alloc, TokenSort::Trivia, b" ", b"");
     }
     if is_bare_word(text) {
         return new_token(alloc, TokenSort::Word, text, text);

@@ -1,22 +1,22 @@
 -- Lines without `$`, and lines on which nothing acts.
 use Rattle.kc_macro_lines.proofs.Common.{◌≡◌, ℕ, zero, suc, ◌+◌, ◌≤◌, Bool, true, false, ◌&&◌, ◌||◌, cond, List, [], ◌∷◌, ◌++◌, length, take, drop, get_or, Option, Some, None, refl, sym, ap, ◌∙◌, subst, arith, ◌==◌, not, nat_lt, pred, bytes_eq, codes, is_some, option_map, list_any, prefix_len}
-use Rattle.kc_macro_lines.proofs.Common.{is_utf8, drop_all, eqb-true, le-ltb, is_white_byte, is_in_list, Place, Program, returns, stops, ◌>>=◌, Item, byte, escaped, item_bytes, reference_of, first_item, items, inside_length, is_unterminated, is_reference, is_plain_dollar, Bindings, LineToken, gap}
-use Rattle.kc_macro_lines.proofs.Common.{run, quoted, other, broken, token_bytes, extent, is_run_byte, run_token, quoted_token, first_token, line_tokens, bytes_of_tokens, Word, Other, WrittenToken, written_as, body_of, joined_bodies, written_items, token_of_body, written_token, run_value}
-use Rattle.kc_macro_lines.proofs.Common.{token_of_text, AssignedText, LineContent, tokens, with_token, is_gap, is_unknown, is_gap_token, is_open_front, assignment_to, assignment_at, assignment_or, line_content, without_front, solid_tokens, asked_after_option, asked_by, prompt_words, source_words}
-use Rattle.kc_macro_lines.proofs.Common.{help_words, is_acting_word, IsQuiet}
+use Rattle.kc_macro_lines.proofs.Common.{is_utf8, drop_all, eqb-true, le-ltb, is_white_byte, is_in_list, Place, Program, returns, stops, ◌>>=◌, Item, byte, escaped, item_bytes, reference_of, first_item, items, inside_length, is_unterminated, is_reference, is_plain_dollar, Bindings, LineToken, trivia}
+use Rattle.kc_macro_lines.proofs.Common.{run, quoted, other, broken, token_bytes, extent, is_run_byte, run_token, quoted_token, first_token, line_tokens, bytes_of_tokens, Word, Other, WrittenToken, written_as, quoted_text_of, joined_quoted_texts, written_items, token_of_quoted_text, written_token, run_value}
+use Rattle.kc_macro_lines.proofs.Common.{token_of_text, AssignedText, LineContent, tokens, with_token, is_trivia, is_unknown, is_trivia_token, is_open_front, assignment_to, assignment_at, assignment_or, line_content, without_front, solid_tokens, asked_after_option, asked_by, prompt_words, source_words}
+use Rattle.kc_macro_lines.proofs.Common.{help_words, is_acting_word, HasNothingToExpand}
 use Rattle.std.specs.Prelude.{is_none}
 use Rattle.kc_tree_model.specs.LogicalLines.{begins_help}
 use Rattle.kc_macros_model.specs.declared.fault.MacroKind.TheVariants.{LineTooLong}
 use Rattle.kc_value.specs.declared.limits.TheConstants.{MAX_TEXT_BYTES}
 use Rattle.kc_macros_model.specs.Expansion.{fault}
-use Rattle.kc_macros_model.specs.declared.token_sort.TokenSort.TheVariants.{Gap}
+use Rattle.kc_macros_model.specs.declared.token_sort.TokenSort.TheVariants.{Trivia}
 use Rattle.kc_macros_model.specs.EnvironmentLines.{meant_line}
 use Rattle.kc_macros_model.proofs.EnvironmentLines.{meant_same}
-use Rattle.kc_macros_model.specs.LineForms.{LineForm, plain, bare_prompt, replaced_by, named_choice, sources, sort_of_source, is_path, form_of, form_by_word, form_of_pair, is_word, is_bare_prompt, is_help_line, is_undecided, without_gaps, line_bytes}
+use Rattle.kc_macros_model.specs.LineForms.{LineForm, plain, bare_prompt, replaced_by, named_choice, sources, sort_of_source, is_path, form_of, form_of_first_word, form_of_two_words, is_word, is_bare_prompt, is_help_line, is_undecided, without_trivia, line_bytes}
 use Rattle.kc_macros_model.specs.ReadingStates.{ReadingState, progress, WrittenLine, written_line}
 use Rattle.kc_macros_model.specs.TreeExpansion.{SourceReader, form_written, short_line, tokens_written, content_written, line_written}
 use Rattle.kc_macro_lines.specs.between.CopiedLines.{IsCopied}
-use Rattle.kc_macro_lines.specs.checker.QuietLines.{HasNoWordNext}
+use Rattle.kc_macro_lines.specs.checker.LinesWithoutMacros.{HasNoWordNext}
 use Rattle.kc_macro_lines.proofs.WrittenTokenLemmas.{run_is_word}
 use Rattle.kc_macro_lines.proofs.LineTokenLemmas.{row_of_tokens, tokens_skip}
 
@@ -72,7 +72,7 @@ no_dollar s h = no_item is_plain_dollar (λ c e. e) (λ c. refl) false 0 s h
 -- bytes between quotes that are written as they are
 record IsKept (quote skip : ℕ) (s : List ℕ) : Type 0 where
   meaning : List ℕ
-  written : (at : Place) (b : Bindings) → written_items at b quote (items true skip s) ≡ returns (body_of (drop skip s) meaning)
+  written : (at : Place) (b : Bindings) → written_items at b quote (items true skip s) ≡ returns (quoted_text_of (drop skip s) meaning)
 
 kept : (quote skip : ℕ) (s : List ℕ) → has_dollar s ≡ false → IsKept quote skip s
 kept quote zero [] h = record { meaning = []; written = λ at b. refl }
@@ -80,7 +80,7 @@ kept quote (suc k) [] h = record { meaning = []; written = λ at b. refl }
 kept quote (suc k) (c ∷ s) h = let r = kept quote k s (rest_plain c s h) in record { meaning = r.meaning; written = r.written }
 kept quote zero (c ∷ []) h = record {
   meaning = c ∷ [];
-  written = λ at b. ap (λ t. returns (body_of (cond t (92 ∷ c ∷ []) (c ∷ []) ++ []) (c ∷ []))) (first_plain c [] h);
+  written = λ at b. ap (λ t. returns (quoted_text_of (cond t (92 ∷ c ∷ []) (c ∷ []) ++ []) (c ∷ []))) (first_plain c [] h);
 }
 kept quote zero (c ∷ d ∷ s) h = by_test (kept quote 0 (d ∷ s) (rest_plain c (d ∷ s) h)) (kept quote 1 (d ∷ s) (rest_plain c (d ∷ s) h)) (c == 92) refl
   where
@@ -95,20 +95,20 @@ kept quote zero (c ∷ d ∷ s) h = by_test (kept quote 0 (d ∷ s) (rest_plain 
       meaning = c ∷ next.meaning;
       written = λ at b.
           ap (written_items at b quote) (from (byte c) (first_is true c d s plain_c ∙ ap (λ t. cond t (escaped d) (byte c)) e))
-          ∙ ap (λ p. p >>= λ rest. returns (joined_bodies (body_of (cond (c == 36) (92 ∷ c ∷ []) (c ∷ [])) (c ∷ [])) rest)) (next.written at b)
-          ∙ ap (λ t. returns (body_of (cond t (92 ∷ c ∷ []) (c ∷ []) ++ d ∷ s) (c ∷ next.meaning))) plain_c;
+          ∙ ap (λ p. p >>= λ rest. returns (joined_quoted_texts (quoted_text_of (cond (c == 36) (92 ∷ c ∷ []) (c ∷ [])) (c ∷ [])) rest)) (next.written at b)
+          ∙ ap (λ t. returns (quoted_text_of (cond t (92 ∷ c ∷ []) (c ∷ []) ++ d ∷ s) (c ∷ next.meaning))) plain_c;
     }
     by_test next after true e = record {
       meaning = d ∷ after.meaning;
       written = λ at b.
           ap (written_items at b quote) (from (escaped d) (first_is true c d s plain_c ∙ ap (λ t. cond t (escaped d) (byte c)) e))
-          ∙ ap (λ p. p >>= λ rest. returns (joined_bodies (body_of (92 ∷ d ∷ []) (d ∷ [])) rest)) (after.written at b)
-          ∙ ap (λ x. returns (body_of (x ∷ d ∷ s) (d ∷ after.meaning))) (sym (eqb-true c 92 e));
+          ∙ ap (λ p. p >>= λ rest. returns (joined_quoted_texts (quoted_text_of (92 ∷ d ∷ []) (d ∷ [])) rest)) (after.written at b)
+          ∙ ap (λ x. returns (quoted_text_of (x ∷ d ∷ s) (d ∷ after.meaning))) (sym (eqb-true c 92 e));
     }
 
 abbrev is_run_token : LineToken → Bool
 is_run_token (run s) = true
-is_run_token (gap s) = false
+is_run_token (trivia s) = false
 is_run_token (quoted quote s) = false
 is_run_token (other s) = false
 is_run_token (broken s) = false
@@ -118,15 +118,15 @@ record IsPlain (t : LineToken) (w : WrittenToken) : Type 0 where
   written : (at : Place) (b : Bindings) → written_token at b t ≡ returns w
   bytes : w.bytes ≡ token_bytes t
   known : is_unknown w ≡ false
-  gone : is_gap w ≡ is_gap_token t
+  gone : is_trivia w ≡ is_trivia_token t
   word : is_word w ≡ is_run_token t
 
 record PlainToken (t : LineToken) : Type 0 where
   token : WrittenToken
   is : IsPlain t token
 
-gap_plain : (s : List ℕ) → PlainToken (gap s)
-gap_plain s = record { token = written_as Gap s []; is = record { written = λ at b. refl; bytes = refl; known = refl; gone = refl; word = refl } }
+trivia_plain : (s : List ℕ) → PlainToken (trivia s)
+trivia_plain s = record { token = written_as Trivia s []; is = record { written = λ at b. refl; bytes = refl; known = refl; gone = refl; word = refl } }
 
 other_plain : (s : List ℕ) → PlainToken (other s)
 other_plain s = record { token = written_as Other s []; is = record { written = λ at b. refl; bytes = refl; known = refl; gone = refl; word = refl } }
@@ -157,9 +157,9 @@ quoted_plain n quote s h =
     by_test : (b : Bool) → PlainToken (cond b (quoted quote (take n s)) (other (quote ∷ s)))
     by_test false = other_plain (quote ∷ s)
     by_test true = record {
-      token = token_of_body quote (body_of (take n s) inside.meaning);
+      token = token_of_quoted_text quote (quoted_text_of (take n s) inside.meaning);
       is = record {
-        written = λ at b. ap (λ p. p >>= λ body. returns (token_of_body quote body)) (inside.written at b);
+        written = λ at b. ap (λ p. p >>= λ body. returns (token_of_quoted_text quote body)) (inside.written at b);
         bytes = refl;
         known = refl;
         gone = refl;
@@ -174,10 +174,10 @@ first_plain_token c s h = by_tests (is_white_byte c) (c == 35) (is_run_byte c) (
     run_len = extent false (λ d. not (is_run_byte d)) 0 (c ∷ s)
 
     by_tests : (x y z u : Bool)
-        → PlainToken (cond x (gap (c ∷ [])) (cond y (gap (c ∷ s)) (cond z (run_token (take run_len (c ∷ s)))
+        → PlainToken (cond x (trivia (c ∷ [])) (cond y (trivia (c ∷ s)) (cond z (run_token (take run_len (c ∷ s)))
         (cond u (quoted_token (extent true (λ d. d == c) 0 s) c s) (other (c ∷ []))))))
-    by_tests true y z u = gap_plain (c ∷ [])
-    by_tests false true z u = gap_plain (c ∷ s)
+    by_tests true y z u = trivia_plain (c ∷ [])
+    by_tests false true z u = trivia_plain (c ∷ s)
     by_tests false false true u = run_plain (take run_len (c ∷ s)) (take_plain run_len (c ∷ s) h)
     by_tests false false false true = quoted_plain (extent true (λ d. d == c) 0 s) c s (rest_plain c s h)
     by_tests false false false false = other_plain (c ∷ [])
@@ -204,27 +204,27 @@ bytes_kept : {ts : List LineToken} {ws : List WrittenToken} → ArePlain ts ws �
 bytes_kept no_tokens = refl
 bytes_kept (next_plain {t = t} {ws = ws} p r) = ap (λ x. x ++ line_bytes ws) p.bytes ∙ ap (λ x. token_bytes t ++ x) (bytes_kept r)
 
--- a quiet token is no name of an assignment
-unassigned : (t : LineToken) (ts : List LineToken) → IsQuiet (t ∷ ts) → assignment_to t ts ≡ None
-unassigned (gap s) ts q = refl
+-- a token with nothing to expand is no name of an assignment
+unassigned : (t : LineToken) (ts : List LineToken) → HasNothingToExpand (t ∷ ts) → assignment_to t ts ≡ None
+unassigned (trivia s) ts q = refl
 unassigned (run s) ts q = q.unassigned
 unassigned (quoted quote s) ts q = refl
 unassigned (other s) ts q = refl
 unassigned (broken s) ts q = refl
 
-quiet_rest : (t : LineToken) (ts : List LineToken) → is_gap_token t ≡ true → IsQuiet (t ∷ ts) → IsQuiet ts
-quiet_rest (gap s) ts e q = q
-quiet_rest (run s) ts e q = absurd (let z : ⊥ = cc in z)
-quiet_rest (quoted quote s) ts e q = absurd (let z : ⊥ = cc in z)
-quiet_rest (other s) ts e q = absurd (let z : ⊥ = cc in z)
-quiet_rest (broken s) ts e q = absurd (let z : ⊥ = cc in z)
+nothing_after_trivia : (t : LineToken) (ts : List LineToken) → is_trivia_token t ≡ true → HasNothingToExpand (t ∷ ts) → HasNothingToExpand ts
+nothing_after_trivia (trivia s) ts e q = q
+nothing_after_trivia (run s) ts e q = absurd (let z : ⊥ = cc in z)
+nothing_after_trivia (quoted quote s) ts e q = absurd (let z : ⊥ = cc in z)
+nothing_after_trivia (other s) ts e q = absurd (let z : ⊥ = cc in z)
+nothing_after_trivia (broken s) ts e q = absurd (let z : ⊥ = cc in z)
 
 module _ (at : Place) (b : Bindings) where
   abbrev with_first : WrittenToken → Program LineContent → Program LineContent
   with_first w p = p >>= λ rest. returns (with_token w rest)
 
   abbrev after_written : Bool → List LineToken → WrittenToken → Program LineContent
-  after_written may ts w = elim (is_open_front may w ts) [ true ↦ stops | false ↦ with_first w (line_content at b (may && is_gap w) ts) ]
+  after_written may ts w = elim (is_open_front may w ts) [ true ↦ stops | false ↦ with_first w (line_content at b (may && is_trivia w) ts) ]
 
   abbrev content_by : Bool → LineToken → List LineToken → Option AssignedText → Program LineContent
   content_by may t ts o =
@@ -234,15 +234,15 @@ module _ (at : Place) (b : Bindings) where
       ]
 
   step : (may : Bool) (t : LineToken) (ts : List LineToken) (w : WrittenToken) (ws : List WrittenToken) → assignment_at may t ts ≡ None → IsPlain t w
-      → line_content at b (may && is_gap w) ts ≡ returns (tokens ws)
+      → line_content at b (may && is_trivia w) ts ≡ returns (tokens ws)
       → line_content at b may (t ∷ ts) ≡ returns (tokens (w ∷ ws))
   step may t ts w ws e p rest =
       ap (content_by may t ts) e ∙ ap (λ x. x >>= after_written may ts) (p.written at b)
-      ∙ ap (λ o. elim o as (λ x. Program LineContent) [ true ↦ stops | false ↦ with_first w (line_content at b (may && is_gap w) ts) ]) (closed may)
+      ∙ ap (λ o. elim o as (λ x. Program LineContent) [ true ↦ stops | false ↦ with_first w (line_content at b (may && is_trivia w) ts) ]) (closed may)
       ∙ ap (with_first w) rest
     where
       closed : (m : Bool) → is_open_front m w ts ≡ false
-      closed true = ap (λ u. u && list_any (λ t. not (is_gap_token t)) ts) p.known
+      closed true = ap (λ u. u && list_any (λ t. not (is_trivia_token t)) ts) p.known
       closed false = refl
 
   -- after a name can't come any more
@@ -250,14 +250,14 @@ module _ (at : Place) (b : Bindings) where
   content_late no_tokens = refl
   content_late (next_plain {t = t} {w = w} {ts = ts} {ws = ws} p r) = step false t ts w ws refl p (content_late r)
 
-  content_quiet : {ts : List LineToken} {ws : List WrittenToken} → ArePlain ts ws → IsQuiet ts → line_content at b true ts ≡ returns (tokens ws)
-  content_quiet no_tokens q = refl
-  content_quiet (next_plain {t = t} {w = w} {ts = ts} {ws = ws} p r) q =
-      step true t ts w ws (unassigned t ts q) p (by_gap (λ e. content_quiet r (quiet_rest t ts (sym p.gone ∙ e) q)) (is_gap w) refl)
+  content_copied : {ts : List LineToken} {ws : List WrittenToken} → ArePlain ts ws → HasNothingToExpand ts → line_content at b true ts ≡ returns (tokens ws)
+  content_copied no_tokens q = refl
+  content_copied (next_plain {t = t} {w = w} {ts = ts} {ws = ws} p r) q =
+      step true t ts w ws (unassigned t ts q) p (by_trivia (λ e. content_copied r (nothing_after_trivia t ts (sym p.gone ∙ e) q)) (is_trivia w) refl)
     where
-      by_gap : (is_gap w ≡ true → line_content at b true ts ≡ returns (tokens ws)) → (g : Bool) → is_gap w ≡ g → line_content at b g ts ≡ returns (tokens ws)
-      by_gap ih true e = ih e
-      by_gap ih false e = content_late r
+      by_trivia : (is_trivia w ≡ true → line_content at b true ts ≡ returns (tokens ws)) → (g : Bool) → is_trivia w ≡ g → line_content at b g ts ≡ returns (tokens ws)
+      by_trivia ih true e = ih e
+      by_trivia ih false e = content_late r
 
 -- tokens of no form, after which no help text begins
 record IsStill (ws : List WrittenToken) : Type 0 where
@@ -273,7 +273,7 @@ no_word w [] e = record {
       ap (λ b. b && (is_in_list w.bytes source_words || is_in_list w.bytes help_words) && false) e;
 }
 no_word w (u ∷ us) e = record {
-  form = ap (λ b. cond b (form_by_word w.bytes u us) plain) e;
+  form = ap (λ b. cond b (form_of_first_word w.bytes u us) plain) e;
   help = refl;
   decided = ap (λ b. b && (is_in_list w.bytes source_words || is_in_list w.bytes help_words) && list_any is_unknown (u ∷ us)) e;
 }
@@ -293,7 +293,7 @@ inert word h =
     record { source = c.0; help = c.1; choice = b.1; option = a.1 }
 
 module _ (word : List ℕ) (i : IsInert word) where
-  pair_plain : (u : WrittenToken) → form_of_pair word u ≡ plain
+  pair_plain : (u : WrittenToken) → form_of_two_words word u ≡ plain
   pair_plain u =
       ap (λ b. cond (b && is_path u) (sources (sort_of_source word) u.meaning)
       (cond (bytes_eq word (codes "choice") && is_word u) (named_choice u.bytes) (by_option (bytes_eq word (codes "option"))))) i.source
@@ -304,12 +304,12 @@ module _ (word : List ℕ) (i : IsInert word) where
       by_option b = cond (b && bytes_eq u.bytes (codes "defconfig_list")) (replaced_by (codes "depends on n"))
           (cond (b && bytes_eq u.bytes (codes "allnoconfig_y")) (replaced_by []) plain)
 
-  word_plain : (u : WrittenToken) (us : List WrittenToken) → (is_in_list word prompt_words ≡ true → is_word u ≡ false) → form_by_word word u us ≡ plain
+  word_plain : (u : WrittenToken) (us : List WrittenToken) → (is_in_list word prompt_words ≡ true → is_word u ≡ false) → form_of_first_word word u us ≡ plain
   word_plain u us h = by_test (is_in_list word prompt_words) h us
     where
       by_test : (b : Bool) → (b ≡ true → is_word u ≡ false) → (us : List WrittenToken)
-          → cond (b && is_bare_prompt u) (bare_prompt u.bytes) (elim us as (λ x. LineForm) [ [] ↦ form_of_pair word u | v ∷ vs ↦ plain ]) ≡ plain
-      by_test true k [] = ap (λ b. cond (b && not (is_in_list u.bytes (codes "if" ∷ codes "on" ∷ []))) (bare_prompt u.bytes) (form_of_pair word u)) (k refl)
+          → cond (b && is_bare_prompt u) (bare_prompt u.bytes) (elim us as (λ x. LineForm) [ [] ↦ form_of_two_words word u | v ∷ vs ↦ plain ]) ≡ plain
+      by_test true k [] = ap (λ b. cond (b && not (is_in_list u.bytes (codes "if" ∷ codes "on" ∷ []))) (bare_prompt u.bytes) (form_of_two_words word u)) (k refl)
           ∙ pair_plain u
       by_test true k (v ∷ vs) = ap (λ b. cond (b && not (is_in_list u.bytes (codes "if" ∷ codes "on" ∷ []))) (bare_prompt u.bytes) plain) (k refl)
       by_test false k [] = pair_plain u
@@ -345,54 +345,54 @@ word_still w (u ∷ us) i h = record {
     by_test true = refl
     by_test false = refl
 
--- gaps aside
+-- trivia aside
 abbrev real : WrittenToken → List WrittenToken → List WrittenToken
-real w ws = without_gaps (w ∷ ws)
+real w ws = without_trivia (w ∷ ws)
 
-kept_first : (w : WrittenToken) (ws : List WrittenToken) → is_gap w ≡ false → real w ws ≡ w ∷ without_gaps ws
-kept_first w ws e = ap (λ b. cond (not b) (w ∷ without_gaps ws) (without_gaps ws)) e
+kept_first : (w : WrittenToken) (ws : List WrittenToken) → is_trivia w ≡ false → real w ws ≡ w ∷ without_trivia ws
+kept_first w ws e = ap (λ b. cond (not b) (w ∷ without_trivia ws) (without_trivia ws)) e
 
-gone_first : (w : WrittenToken) (ws : List WrittenToken) → is_gap w ≡ true → real w ws ≡ without_gaps ws
-gone_first w ws e = ap (λ b. cond (not b) (w ∷ without_gaps ws) (without_gaps ws)) e
+gone_first : (w : WrittenToken) (ws : List WrittenToken) → is_trivia w ≡ true → real w ws ≡ without_trivia ws
+gone_first w ws e = ap (λ b. cond (not b) (w ∷ without_trivia ws) (without_trivia ws)) e
 
 no_word_first : (t : LineToken) (w : WrittenToken) (ts : List LineToken) (ws : List WrittenToken) → IsPlain t w
-    → (HasNoWordNext ts → NextNoWord (without_gaps ws)) → HasNoWordNext (t ∷ ts) → NextNoWord (real w ws)
-no_word_first (gap s) w ts ws p ih h = subst NextNoWord (sym (gone_first w ws p.gone)) (ih h)
+    → (HasNoWordNext ts → NextNoWord (without_trivia ws)) → HasNoWordNext (t ∷ ts) → NextNoWord (real w ws)
+no_word_first (trivia s) w ts ws p ih h = subst NextNoWord (sym (gone_first w ws p.gone)) (ih h)
 no_word_first (run s) w ts ws p ih h = absurd h
 no_word_first (quoted quote s) w ts ws p ih h = subst NextNoWord (sym (kept_first w ws p.gone)) p.word
 no_word_first (other s) w ts ws p ih h = subst NextNoWord (sym (kept_first w ws p.gone)) p.word
 no_word_first (broken s) w ts ws p ih h = subst NextNoWord (sym (kept_first w ws p.gone)) p.word
 
-no_word_next : {ts : List LineToken} {ws : List WrittenToken} → ArePlain ts ws → HasNoWordNext ts → NextNoWord (without_gaps ws)
+no_word_next : {ts : List LineToken} {ws : List WrittenToken} → ArePlain ts ws → HasNoWordNext ts → NextNoWord (without_trivia ws)
 no_word_next no_tokens h = tt
 no_word_next (next_plain {t = t} {w = w} {ts = ts} {ws = ws} p r) h = no_word_first t w ts ws p (no_word_next r) h
 
 still_first : (t : LineToken) (w : WrittenToken) (ts : List LineToken) (ws : List WrittenToken) → IsPlain t w → ArePlain ts ws
-    → (IsQuiet ts → IsStill (without_gaps ws)) → IsQuiet (t ∷ ts) → IsStill (real w ws)
-still_first (gap s) w ts ws p r ih q = subst IsStill (sym (gone_first w ws p.gone)) (ih q)
+    → (HasNothingToExpand ts → IsStill (without_trivia ws)) → HasNothingToExpand (t ∷ ts) → IsStill (real w ws)
+still_first (trivia s) w ts ws p r ih q = subst IsStill (sym (gone_first w ws p.gone)) (ih q)
 still_first (run s) w ts ws p r ih q =
     subst IsStill (sym (kept_first w ws p.gone))
-    (word_still w (without_gaps ws) (subst IsInert (sym p.bytes) (inert s q.acting))
+    (word_still w (without_trivia ws) (subst IsInert (sym p.bytes) (inert s q.acting))
     (λ h. no_word_next r (q.prompt (ap (λ x. is_in_list x prompt_words) (sym p.bytes) ∙ h))))
-still_first (quoted quote s) w ts ws p r ih q = subst IsStill (sym (kept_first w ws p.gone)) (no_word w (without_gaps ws) p.word)
-still_first (other s) w ts ws p r ih q = subst IsStill (sym (kept_first w ws p.gone)) (no_word w (without_gaps ws) p.word)
-still_first (broken s) w ts ws p r ih q = subst IsStill (sym (kept_first w ws p.gone)) (no_word w (without_gaps ws) p.word)
+still_first (quoted quote s) w ts ws p r ih q = subst IsStill (sym (kept_first w ws p.gone)) (no_word w (without_trivia ws) p.word)
+still_first (other s) w ts ws p r ih q = subst IsStill (sym (kept_first w ws p.gone)) (no_word w (without_trivia ws) p.word)
+still_first (broken s) w ts ws p r ih q = subst IsStill (sym (kept_first w ws p.gone)) (no_word w (without_trivia ws) p.word)
 
-still : {ts : List LineToken} {ws : List WrittenToken} → ArePlain ts ws → IsQuiet ts → IsStill (without_gaps ws)
+still : {ts : List LineToken} {ws : List WrittenToken} → ArePlain ts ws → HasNothingToExpand ts → IsStill (without_trivia ws)
 still no_tokens q = record { form = refl; help = refl; decided = refl }
 still (next_plain {t = t} {w = w} {ts = ts} {ws = ws} p r) q = still_first t w ts ws p r (still r) q
 
--- a quiet line asks nothing
-quiet_asks : (ts : List LineToken) → IsQuiet ts → asked_by (solid_tokens ts) ≡ None
-quiet_asks [] q = refl
-quiet_asks (gap s ∷ ts) q = quiet_asks ts q
-quiet_asks (run s ∷ ts) q = ap (λ b. cond b (asked_after_option (solid_tokens ts)) None) (inert s q.acting).option
-quiet_asks (quoted quote s ∷ ts) q = refl
-quiet_asks (other s ∷ ts) q = refl
-quiet_asks (broken s ∷ ts) q = refl
+-- a line with nothing to expand asks nothing
+nothing_asked : (ts : List LineToken) → HasNothingToExpand ts → asked_by (solid_tokens ts) ≡ None
+nothing_asked [] q = refl
+nothing_asked (trivia s ∷ ts) q = nothing_asked ts q
+nothing_asked (run s ∷ ts) q = ap (λ b. cond b (asked_after_option (solid_tokens ts)) None) (inert s q.acting).option
+nothing_asked (quoted quote s ∷ ts) q = refl
+nothing_asked (other s ∷ ts) q = refl
+nothing_asked (broken s ∷ ts) q = refl
 
 module _ (text : List ℕ) (short : length text ≤ MAX_TEXT_BYTES) (utf8 : is_utf8 text ≡ true) (plain_text : has_dollar text ≡ false)
-    (quiet : IsQuiet (line_tokens 0 text)) (sub : SourceReader) (at : Place) (continued : Bool) (s : ReadingState) where
+    (nothing : HasNothingToExpand (line_tokens 0 text)) (sub : SourceReader) (at : Place) (continued : Bool) (s : ReadingState) where
   abbrev line : PlainLine (line_tokens 0 text)
   line = plain_line 0 text plain_text
 
@@ -406,11 +406,11 @@ module _ (text : List ℕ) (short : length text ≤ MAX_TEXT_BYTES) (utf8 : is_u
   readable = ap (λ b. b || not (is_utf8 text)) within ∙ ap not utf8
 
   abbrev left : List WrittenToken
-  left = without_gaps line.written
+  left = without_trivia line.written
 
   copied_tokens : tokens_written sub at s line.written left ≡ returns (written_line text false s)
   copied_tokens =
-      let i = still line.are quiet in
+      let i = still line.are nothing in
       ap (λ b. elim b as (λ x. Program WrittenLine) [
         | true ↦ stops
         | false ↦ form_written sub at line.written (form_of left) s >>= short_line at
@@ -428,19 +428,19 @@ module _ (text : List ℕ) (short : length text ≤ MAX_TEXT_BYTES) (utf8 : is_u
         | false ↦ line_content at s.bindings true (line_tokens 0 (meant_line text)) >>= content_written sub at continued s
       ]) readable
       ∙ ap (λ x. line_content at s.bindings true (line_tokens 0 x) >>= content_written sub at continued s)
-      (meant_same text (ap is_none (quiet_asks (line_tokens 0 text) quiet)))
-      ∙ ap (λ p. p >>= content_written sub at continued s) (content_quiet at s.bindings line.are quiet)
+      (meant_same text (ap is_none (nothing_asked (line_tokens 0 text) nothing)))
+      ∙ ap (λ p. p >>= content_written sub at continued s) (content_copied at s.bindings line.are nothing)
       ∙ copied_tokens
 
-pub copied : (text : List ℕ) → length text ≤ MAX_TEXT_BYTES → is_utf8 text ≡ true → has_dollar text ≡ false → IsQuiet (line_tokens 0 text) → IsCopied text
-copied text short utf8 plain_text quiet = record { written = copied_line text short utf8 plain_text quiet }
+pub copied : (text : List ℕ) → length text ≤ MAX_TEXT_BYTES → is_utf8 text ≡ true → has_dollar text ≡ false → HasNothingToExpand (line_tokens 0 text) → IsCopied text
+copied text short utf8 plain_text nothing = record { written = copied_line text short utf8 plain_text nothing }
 
-white_first : (c : ℕ) (s : List ℕ) → is_white_byte c ≡ true → line_tokens 0 (c ∷ s) ≡ gap (c ∷ []) ∷ line_tokens 0 s
+white_first : (c : ℕ) (s : List ℕ) → is_white_byte c ≡ true → line_tokens 0 (c ∷ s) ≡ trivia (c ∷ []) ∷ line_tokens 0 s
 white_first c s e =
-    ap (λ b. let t = cond b (gap (c ∷ [])) (after_white c s) in t ∷ line_tokens (pred (length (token_bytes t))) s) e
+    ap (λ b. let t = cond b (trivia (c ∷ [])) (after_white c s) in t ∷ line_tokens (pred (length (token_bytes t))) s) e
   where
     after_white : ℕ → List ℕ → LineToken
-    after_white c s = cond (c == 35) (gap (c ∷ s)) (cond (is_run_byte c) (run_token (take (extent false (λ d. not (is_run_byte d)) 0 (c ∷ s)) (c ∷ s)))
+    after_white c s = cond (c == 35) (trivia (c ∷ s)) (cond (is_run_byte c) (run_token (take (extent false (λ d. not (is_run_byte d)) 0 (c ∷ s)) (c ∷ s)))
         (cond (c == 34 || (c == 39)) (quoted_token (extent true (λ d. d == c) 0 s) c s) (other (c ∷ []))))
 
 -- a byte at the front that passes a test is dropped, and one that doesn't pass stays
@@ -451,29 +451,29 @@ passed_dropped p c s e = ap (λ b. drop (cond b (1 + prefix_len p s) 0) (c ∷ s
 pub failed_stays : (p : ℕ → Bool) (c : ℕ) (s : List ℕ) → p c ≡ false → without_front p (c ∷ s) ≡ c ∷ s
 failed_stays p c s e = ap (λ b. drop (cond b (1 + prefix_len p s) 0) (c ∷ s)) e
 
--- a line is quiet, as `IsQuiet` defines, if it is without the white bytes at its front
-pub quiet_front : (text : List ℕ) → IsQuiet (line_tokens 0 (without_front is_white_byte text)) → IsQuiet (line_tokens 0 text)
-quiet_front [] q = q
-quiet_front (c ∷ s) q = by_test (λ k. quiet_front s k) (is_white_byte c) refl
+-- a line has nothing to expand, as `HasNothingToExpand` defines, if it has nothing without the white bytes at its front
+pub nothing_after_white : (text : List ℕ) → HasNothingToExpand (line_tokens 0 (without_front is_white_byte text)) → HasNothingToExpand (line_tokens 0 text)
+nothing_after_white [] q = q
+nothing_after_white (c ∷ s) q = by_test (λ k. nothing_after_white s k) (is_white_byte c) refl
   where
-    by_test : (IsQuiet (line_tokens 0 (without_front is_white_byte s)) → IsQuiet (line_tokens 0 s)) → (b : Bool) → is_white_byte c ≡ b
-        → IsQuiet (line_tokens 0 (c ∷ s))
-    by_test ih true e = subst IsQuiet (sym (white_first c s e)) (ih (subst (λ x. IsQuiet (line_tokens 0 x)) (passed_dropped is_white_byte c s e) q))
-    by_test ih false e = subst (λ x. IsQuiet (line_tokens 0 x)) (failed_stays is_white_byte c s e) q
+    by_test : (HasNothingToExpand (line_tokens 0 (without_front is_white_byte s)) → HasNothingToExpand (line_tokens 0 s)) → (b : Bool) → is_white_byte c ≡ b
+        → HasNothingToExpand (line_tokens 0 (c ∷ s))
+    by_test ih true e = subst HasNothingToExpand (sym (white_first c s e)) (ih (subst (λ x. HasNothingToExpand (line_tokens 0 x)) (passed_dropped is_white_byte c s e) q))
+    by_test ih false e = subst (λ x. HasNothingToExpand (line_tokens 0 x)) (failed_stays is_white_byte c s e) q
 
--- a line whose tokens, without the white bytes at its front, are these ones is quiet if they are
-pub quiet_by : (text rest : List ℕ) (t : LineToken) (ts : List LineToken) → rest ≡ without_front is_white_byte text → line_tokens 0 rest ≡ t ∷ ts
-    → IsQuiet (t ∷ ts) → IsQuiet (line_tokens 0 text)
-quiet_by text rest t ts e f q = quiet_front text (subst (λ x. IsQuiet (line_tokens 0 x)) e (subst IsQuiet (sym f) q))
+-- a line whose tokens, without the white bytes at its front, are these ones has nothing to expand if they have nothing
+pub nothing_by_tokens : (text rest : List ℕ) (t : LineToken) (ts : List LineToken) → rest ≡ without_front is_white_byte text → line_tokens 0 rest ≡ t ∷ ts
+    → HasNothingToExpand (t ∷ ts) → HasNothingToExpand (line_tokens 0 text)
+nothing_by_tokens text rest t ts e f q = nothing_after_white text (subst (λ x. HasNothingToExpand (line_tokens 0 x)) e (subst HasNothingToExpand (sym f) q))
 
 -- a byte that begins no run begins no word
 ink_first : (c : ℕ) (s : List ℕ) → is_white_byte c ≡ false → is_run_byte c ≡ false → HasNoWordNext (line_tokens 0 (c ∷ s))
 ink_first c s e f =
     subst (λ t. HasNoWordNext (t ∷ line_tokens (pred (length (token_bytes t))) s))
-    (sym (ap (λ b. cond b (gap (c ∷ [])) (by_run (is_run_byte c))) e ∙ ap by_run f)) (by_tests (c == 35) (c == 34 || (c == 39)))
+    (sym (ap (λ b. cond b (trivia (c ∷ [])) (by_run (is_run_byte c))) e ∙ ap by_run f)) (by_tests (c == 35) (c == 34 || (c == 39)))
   where
     by_run : Bool → LineToken
-    by_run z = cond (c == 35) (gap (c ∷ s)) (cond z (run_token (take (extent false (λ d. not (is_run_byte d)) 0 (c ∷ s)) (c ∷ s)))
+    by_run z = cond (c == 35) (trivia (c ∷ s)) (cond z (run_token (take (extent false (λ d. not (is_run_byte d)) 0 (c ∷ s)) (c ∷ s)))
         (cond (c == 34 || (c == 39)) (quoted_token (extent true (λ d. d == c) 0 s) c s) (other (c ∷ []))))
 
     next : LineToken → Type 0
@@ -484,7 +484,7 @@ ink_first c s e f =
     quoted_next n false true = tt
     quoted_next n false false = tt
 
-    by_tests : (y u : Bool) → next (cond y (gap (c ∷ s)) (cond u (quoted_token (extent true (λ d. d == c) 0 s) c s) (other (c ∷ []))))
+    by_tests : (y u : Bool) → next (cond y (trivia (c ∷ s)) (cond u (quoted_token (extent true (λ d. d == c) 0 s) c s) (other (c ∷ []))))
     by_tests true u = subst HasNoWordNext (sym (tokens_skip (length s) s ∙ ap (line_tokens 0) (drop_all (length s) s (omega arith)))) tt
     by_tests false true = let n = extent true (λ d. d == c) 0 s in quoted_next n (list_any is_unterminated (items true 0 (take n s))) (nat_lt n (length s))
     by_tests false false = tt

@@ -1,5 +1,5 @@
 -- A line without `=` asks no variable of the environment.
-use Rattle.kc_macro_lines.proofs.Common.{◌≡◌, ℕ, Bool, true, false, ◌||◌, cond, List, [], ◌∷◌, ◌++◌, Option, None, refl, sym, ap, ◌∙◌, ◌==◌, codes, bytes_eq, LineToken, gap, run, quoted, other, broken, line_tokens, bytes_of_tokens, solid_tokens, asked_after_option, asked_by, has_equals_sign}
+use Rattle.kc_macro_lines.proofs.Common.{◌≡◌, ℕ, Bool, true, false, ◌||◌, cond, List, [], ◌∷◌, ◌++◌, Option, None, refl, sym, ap, ◌∙◌, ◌==◌, codes, bytes_eq, LineToken, trivia, run, quoted, other, broken, line_tokens, bytes_of_tokens, solid_tokens, asked_after_option, asked_by, has_equals_sign}
 use Rattle.std.specs.Prelude.{◌&&◌}
 use Rattle.kc_macros_model.specs.EnvironmentLines.{asked_after_sign, asked_after_env, environment_asked}
 use Rattle.kc_macro_lines.proofs.LineTokenLemmas.{row_of_tokens}
@@ -28,7 +28,7 @@ either_none false o h = refl
 
 none_after_env : (ts : List LineToken) → has_equals_sign (bytes_of_tokens ts) ≡ false → asked_after_env (solid_tokens ts) ≡ None
 none_after_env [] h = refl
-none_after_env (gap s ∷ ts) h = none_after_env ts (none_in_parts s (bytes_of_tokens ts) h).1
+none_after_env (trivia s ∷ ts) h = none_after_env ts (none_in_parts s (bytes_of_tokens ts) h).1
 none_after_env (other s ∷ ts) h = ap (λ b. cond b (asked_after_sign (solid_tokens ts)) None) (no_sign s (none_in_parts s (bytes_of_tokens ts) h).0)
 none_after_env (run s ∷ ts) h = refl
 none_after_env (quoted quote s ∷ ts) h = refl
@@ -36,7 +36,7 @@ none_after_env (broken s ∷ ts) h = refl
 
 none_after_option : (ts : List LineToken) → has_equals_sign (bytes_of_tokens ts) ≡ false → asked_after_option (solid_tokens ts) ≡ None
 none_after_option [] h = refl
-none_after_option (gap s ∷ ts) h = none_after_option ts (none_in_parts s (bytes_of_tokens ts) h).1
+none_after_option (trivia s ∷ ts) h = none_after_option ts (none_in_parts s (bytes_of_tokens ts) h).1
 none_after_option (run s ∷ ts) h =
     either_none (bytes_eq s (codes "env")) (asked_after_env (solid_tokens ts)) (none_after_env ts (none_in_parts s (bytes_of_tokens ts) h).1)
 none_after_option (other s ∷ ts) h = refl
@@ -45,7 +45,7 @@ none_after_option (broken s ∷ ts) h = refl
 
 none_asked : (ts : List LineToken) → has_equals_sign (bytes_of_tokens ts) ≡ false → asked_by (solid_tokens ts) ≡ None
 none_asked [] h = refl
-none_asked (gap s ∷ ts) h = none_asked ts (none_in_parts s (bytes_of_tokens ts) h).1
+none_asked (trivia s ∷ ts) h = none_asked ts (none_in_parts s (bytes_of_tokens ts) h).1
 none_asked (run s ∷ ts) h =
     either_none (bytes_eq s (codes "option")) (asked_after_option (solid_tokens ts)) (none_after_option ts (none_in_parts s (bytes_of_tokens ts) h).1)
 none_asked (other s ∷ ts) h = refl

@@ -1,6 +1,6 @@
 -- Texts without their first bytes, and the assignments that they make.
 use Rattle.kc_macro_lines.proofs.Common.{◌≡◌, ℕ, zero, suc, ◌+◌, ◌-◌, ◌<◌, ◌≤◌, Bool, true, false, ◌&&◌, cond, List, [], ◌∷◌, length, take, drop, get_or, Option, None, refl, sym, ap, ◌∙◌, arith, length-drop, ◌==◌, not, option_map, eqb-true, list_any, prefix_len, is_white_byte, LineToken, run}
-use Rattle.kc_macro_lines.proofs.Common.{token_bytes, line_tokens, bytes_of_tokens, WrittenToken, AssignedText, assigned, without_front, operator_at, assignment_to, is_gap_token, is_unknown, is_open_front, first_token_of, has_token, rest_is}
+use Rattle.kc_macro_lines.proofs.Common.{token_bytes, line_tokens, bytes_of_tokens, WrittenToken, AssignedText, assigned, without_front, operator_at, assignment_to, is_trivia_token, is_unknown, is_open_front, first_token_of, has_token, rest_is}
 use Rattle.kc_macros_model.specs.WrittenTokens.{is_keyword}
 use Rattle.kc_macros_model.specs.Assignments.{is_blank_byte}
 use Rattle.kc_macro_lines.proofs.LineTokenLemmas.{row_of_tokens, tokens_first, token_fits, any_token}
@@ -28,7 +28,7 @@ module _ (name after : List ℕ) where
       by_test true e = keyword_assigns_not e
       by_test false e = assigns_by e None h
 
--- a line has a token that is no gap if its first byte that isn't white, if there is one, isn't `#`
+-- a line has a token that is no trivia if its first byte that isn't white, if there is one, isn't `#`
 pub token_by_front : (s : List ℕ) → has_token s ≡ not (get_or (without_front is_white_byte s) 0 35 == 35)
 token_by_front [] = refl
 token_by_front (c ∷ s) = by_test (token_by_front s) (is_white_byte c)
@@ -57,12 +57,12 @@ module _ (s rest : List ℕ) (e : rest ≡ without_front is_white_byte s) where
       no_byte [] k = refl
       no_byte (c ∷ r) k = absurd (omega arith)
 
--- if a line may assign and its first token is unknown, it is undecided whether it assigns if a token that is no gap follows
+-- if a line may assign and its first token is unknown, it is undecided whether it assigns if a token that is no trivia follows
 pub open_so : (may : Bool) (w : WrittenToken) (after : List ℕ) (r : Bool) → may ≡ true → is_unknown w ≡ true → r ≡ has_token after
     → r ≡ is_open_front may w (line_tokens 0 after)
 open_so may w after r h k e =
-    e ∙ sym (any_token after) ∙ sym (ap (λ m. m && is_unknown w && list_any (λ t. not (is_gap_token t)) (line_tokens 0 after)) h
-    ∙ ap (λ u. u && list_any (λ t. not (is_gap_token t)) (line_tokens 0 after)) k)
+    e ∙ sym (any_token after) ∙ sym (ap (λ m. m && is_unknown w && list_any (λ t. not (is_trivia_token t)) (line_tokens 0 after)) h
+    ∙ ap (λ u. u && list_any (λ t. not (is_trivia_token t)) (line_tokens 0 after)) k)
 
 pub none_of : (n : ℕ) (b : Bool) → b ≡ (n == 0) → b ≡ true → n ≡ 0
 none_of n b e h = eqb-true n 0 (sym e ∙ h)

@@ -1,11 +1,11 @@
 pub mod Common
 pub mod TokenLemmas
 pub mod WrittenTokenLemmas
-pub mod BodyLemmas
+pub mod QuotedTextLemmas
 pub mod LineTokenLemmas
 pub mod FrontLemmas
 pub mod LineContentLemmas
 pub mod CopiedLineLemmas
-pub mod QuietLemmas
+pub mod NothingToExpandLemmas
 pub mod EnvironmentLemmas
 pub mod MarkLemmas

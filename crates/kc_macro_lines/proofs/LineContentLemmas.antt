@@ -1,6 +1,6 @@
 -- The content of a line, token by token.
 use Rattle.kc_macro_lines.proofs.Common.{◌≡◌, ℕ, ◌<◌, Bool, true, false, ◌&&◌, List, [], ◌∷◌, ◌++◌, length, Option, Some, None, refl, sym, ap, ◌∙◌, subst, append_assoc, arith, append-nil, Place, Program, returns, stops, ◌>>=◌, Value, Bindings, LineToken, run, token_bytes, WrittenToken}
-use Rattle.kc_macro_lines.proofs.Common.{token_of_text, run_value, written_token, AssignedText, assigned, LineContent, tokens, with_token, is_gap, is_open_front, assignment_to, assignment_at, assignment_or, line_content, returned, Stop, RunState, ends, end_of_stop, Runs, token_of, tokens_of, Leads}
+use Rattle.kc_macro_lines.proofs.Common.{token_of_text, run_value, written_token, AssignedText, assigned, LineContent, tokens, with_token, is_trivia, is_open_front, assignment_to, assignment_at, assignment_or, line_content, returned, Stop, RunState, ends, end_of_stop, Runs, token_of, tokens_of, Leads}
 use Rattle.kc_macro_lines.proofs.Common.{then_runs, stops_early, runs_nothing, then_returns, then_then, then_same, runs_same, leads_same, leads_then, leads_on}
 use Rattle.std.proofs.lemmas.List.{map-append}
 use Rattle.kc_macros_model.specs.Assignments.{assigns}
@@ -57,10 +57,10 @@ module _ (at : Place) (b : Bindings) where
 
     -- the line after a written token
     abbrev after_token : WrittenToken → Bool → Program LineContent
-    after_token w is_open = elim is_open [ true ↦ stops | false ↦ line_content at b (may_assign && is_gap w) ts >>= λ rest. returns (with_token w rest) ]
+    after_token w is_open = elim is_open [ true ↦ stops | false ↦ line_content at b (may_assign && is_trivia w) ts >>= λ rest. returns (with_token w rest) ]
 
     abbrev left_after : WrittenToken → Bool → Program LineContent
-    left_after w is_open = elim is_open [ true ↦ stops | false ↦ content_left at b (before ++ w ∷ []) (may_assign && is_gap w) ts ]
+    left_after w is_open = elim is_open [ true ↦ stops | false ↦ content_left at b (before ++ w ∷ []) (may_assign && is_trivia w) ts ]
 
     abbrev by_assignment : Option AssignedText → Program LineContent
     by_assignment o =
@@ -71,7 +71,7 @@ module _ (at : Place) (b : Bindings) where
 
     after_is : (w : WrittenToken) (is_open : Bool) → after_token w is_open >>= (λ c. returns (with_tokens before c)) ≡ left_after w is_open
     after_is w true = refl
-    after_is w false = token_then before w (line_content at b (may_assign && is_gap w) ts)
+    after_is w false = token_then before w (line_content at b (may_assign && is_trivia w) ts)
 
     abbrev next : WrittenToken → Program LineContent
     next w = left_after w (is_open_front may_assign w ts)
@@ -95,12 +95,12 @@ module _ (at : Place) (b : Bindings) where
           (then_runs s u (written_token at b t) next w u (ends stopped) a (runs_same u u (next w) stops (ends stopped) (ap (left_after w) e) (runs_stop u)))
 
       pub token_pushed : is_open_front may_assign w ts ≡ false → (after : List WrittenToken) (may : Bool) → after ≡ before ++ w ∷ []
-          → may ≡ (may_assign && is_gap w) → Leads s at_token u (content_left at b after may ts)
+          → may ≡ (may_assign && is_trivia w) → Leads s at_token u (content_left at b after may ts)
       token_pushed e after may k l =
           leads_then s s u at_token (written_token at b t >>= next) (content_left at b after may ts)
           (leads_same s at_token (written_token at b t >>= next) to_written)
           (leads_then s u u (written_token at b t >>= next) (next w) (content_left at b after may ts) (leads_on s u (written_token at b t) next w a)
-          (leads_same u (next w) (content_left at b after may ts) (ap (left_after w) e ∙ ap (λ x. content_left at b x (may_assign && is_gap w) ts) (sym k)
+          (leads_same u (next w) (content_left at b after may ts) (ap (left_after w) e ∙ ap (λ x. content_left at b x (may_assign && is_trivia w) ts) (sym k)
           ∙ ap (λ m. content_left at b after m ts) (sym l))))
 
   module _ (s : RunState) (before : List WrittenToken) (may_assign : Bool) (may : may_assign ≡ true) (name : List ℕ) (ts : List LineToken) (a : AssignedText)
@@ -108,26 +108,26 @@ module _ (at : Place) (b : Bindings) where
     abbrev at_name : Program LineContent
     at_name = content_left at b before may_assign (run name ∷ ts)
 
-    abbrev gap_first : Program LineContent
-    gap_first = line_content at b true ts >>= λ rest. returns (with_token (token_of_text []) rest)
+    abbrev trivia_first : Program LineContent
+    trivia_first = line_content at b true ts >>= λ rest. returns (with_token (token_of_text []) rest)
 
     abbrev by_name : Option AssignedText → Program LineContent
     by_name o =
         elim o [
-          | Some x ↦ run_value at b name >>= assignment_or gap_first x
+          | Some x ↦ run_value at b name >>= assignment_or trivia_first x
           | None ↦ written_token at b (run name) >>= λ w.
               elim (is_open_front true w ts) as (λ x. Program LineContent)
-              [ true ↦ stops | false ↦ line_content at b (true && is_gap w) ts >>= λ rest. returns (with_token w rest) ]
+              [ true ↦ stops | false ↦ line_content at b (true && is_trivia w) ts >>= λ rest. returns (with_token w rest) ]
         ]
 
     abbrev named : Value → Program LineContent
-    named v = assignment_or gap_first a v >>= (λ c. returns (with_tokens before c))
+    named v = assignment_or trivia_first a v >>= (λ c. returns (with_tokens before c))
 
     to_name : at_name ≡ run_value at b name >>= named
     to_name =
         ap (λ m. content_left at b before m (run name ∷ ts)) may
         ∙ ap (λ o. by_name o >>= (λ c. returns (with_tokens before c))) h
-        ∙ then_then (run_value at b name) (assignment_or gap_first a) (λ c. returns (with_tokens before c))
+        ∙ then_then (run_value at b name) (assignment_or trivia_first a) (λ c. returns (with_tokens before c))
 
     pub name_stopped : (u : RunState) (stop : Stop) → Runs s u (run_value at b name) (end_of_stop stop) → Runs s u at_name (end_of_stop stop)
     name_stopped u stop r = runs_same s u at_name (run_value at b name >>= named) (end_of_stop stop) to_name
@@ -145,7 +145,7 @@ module _ (at : Place) (b : Bindings) where
           leads_then s s u at_name (run_value at b name >>= named) p (leads_same s at_name (run_value at b name >>= named) to_name)
           (leads_then s u u (run_value at b name >>= named) (named v) p (leads_on s u (run_value at b name) named v r) (leads_same u (named v) p e))
 
-      -- if the name of an assignment has an empty value, it is written as a gap, and the tokens after it are read
+      -- if the name of an assignment has an empty value, it is written as trivia, and the tokens after it are read
       pub name_empty : (x : List ℕ) → v ≡ Some x → length x ≡ 0 → (after : List WrittenToken) → after ≡ before ++ token_of_text [] ∷ []
           → Leads s at_name u (content_left at b after may_assign ts)
       name_empty (c ∷ x) e k after l = absurd (omega arith)

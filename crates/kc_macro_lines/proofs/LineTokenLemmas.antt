@@ -1,6 +1,6 @@
 -- A line is its tokens in a row.
 use Rattle.kc_macro_lines.proofs.Common.{◌≡◌, ℕ, zero, suc, ◌-◌, ◌<◌, ◌≤◌, Bool, true, false, ◌||◌, cond, List, [], ◌∷◌, ◌++◌, length, take, drop, get_or, refl, sym, ap, ◌∙◌, subst, arith, length-append, ◌==◌, pred, not, nat_lt, list_any, append-nil, drop_all, eqb-true, is_white_byte, item_bytes}
-use Rattle.kc_macro_lines.proofs.Common.{first_item, items, is_unterminated, LineToken, gap, run, quoted, other, broken, token_bytes, extent, is_run_byte, run_token, quoted_token, first_token, line_tokens, bytes_of_tokens, is_gap_token, first_token_of, has_token, rest_is}
+use Rattle.kc_macro_lines.proofs.Common.{first_item, items, is_unterminated, LineToken, trivia, run, quoted, other, broken, token_bytes, extent, is_run_byte, run_token, quoted_token, first_token, line_tokens, bytes_of_tokens, is_trivia_token, first_token_of, has_token, rest_is}
 use Rattle.std.proofs.lemmas.Bool.{ltb-true}
 
 -- where an extent stops
@@ -66,7 +66,7 @@ first_is c s = by_tests (is_white_byte c) (c == 35) (is_run_byte c) refl (c == 3
     run_len = cond (not (is_run_byte c)) 0 (suc more)
 
     by_tests : (x y z : Bool) → is_run_byte c ≡ z → (u : Bool) → IsFirstToken c s
-        (cond x (gap (c ∷ [])) (cond y (gap (c ∷ s)) (cond z (run_token (take run_len (c ∷ s)))
+        (cond x (trivia (c ∷ [])) (cond y (trivia (c ∷ s)) (cond z (run_token (take run_len (c ∷ s)))
         (cond u (quoted_token (extent true (λ d. d == c) 0 s) c s) (other (c ∷ []))))))
     by_tests true y z e u = record { row = refl; some = refl }
     by_tests false true z e u = record { row = whole_row c s; some = refl }
@@ -108,8 +108,8 @@ token_fits (c ∷ s) h =
     let t = first_token c s in
     (omega (arith, f.some), omega (arith, ap length f.row, length-append (token_bytes t) (drop (pred (length (token_bytes t))) s)))
 
--- a line has a token that is no gap if `has_token` finds one
-pub any_token : (s : List ℕ) → list_any (λ t. not (is_gap_token t)) (line_tokens 0 s) ≡ has_token s
+-- a line has a token that is no trivia if `has_token` finds one
+pub any_token : (s : List ℕ) → list_any (λ t. not (is_trivia_token t)) (line_tokens 0 s) ≡ has_token s
 any_token [] = refl
 any_token (c ∷ s) = by_tests (any_token s) (is_white_byte c) (c == 35) (is_run_byte c) (c == 34 || (c == 39))
   where
@@ -117,7 +117,7 @@ any_token (c ∷ s) = by_tests (any_token s) (is_white_byte c) (c == 35) (is_run
     run_len = extent false (λ d. not (is_run_byte d)) 0 (c ∷ s)
 
     any_of : LineToken → Bool
-    any_of t = list_any (λ t. not (is_gap_token t)) (t ∷ line_tokens (pred (length (token_bytes t))) s)
+    any_of t = list_any (λ t. not (is_trivia_token t)) (t ∷ line_tokens (pred (length (token_bytes t))) s)
 
     run_any : (x : List ℕ) (b : Bool) → any_of (cond b (broken x) (run x)) ≡ true
     run_any x true = refl
@@ -128,11 +128,11 @@ any_token (c ∷ s) = by_tests (any_token s) (is_white_byte c) (c == 35) (is_run
     quoted_any n false true = refl
     quoted_any n false false = refl
 
-    by_tests : list_any (λ t. not (is_gap_token t)) (line_tokens 0 s) ≡ has_token s → (x y z u : Bool)
-        → any_of (cond x (gap (c ∷ [])) (cond y (gap (c ∷ s)) (cond z (run_token (take run_len (c ∷ s)))
+    by_tests : list_any (λ t. not (is_trivia_token t)) (line_tokens 0 s) ≡ has_token s → (x y z u : Bool)
+        → any_of (cond x (trivia (c ∷ [])) (cond y (trivia (c ∷ s)) (cond z (run_token (take run_len (c ∷ s)))
         (cond u (quoted_token (extent true (λ d. d == c) 0 s) c s) (other (c ∷ [])))))) ≡ cond x (has_token s) (not y)
     by_tests ih true y z u = ih
-    by_tests ih false true z u = ap (λ ts. list_any (λ t. not (is_gap_token t)) ts) (tokens_skip (length s) s
+    by_tests ih false true z u = ap (λ ts. list_any (λ t. not (is_trivia_token t)) ts) (tokens_skip (length s) s
         ∙ ap (line_tokens 0) (drop_all (length s) s (omega arith)))
     by_tests ih false false true u = run_any (take run_len (c ∷ s)) (list_any is_unterminated (items false 0 (take run_len (c ∷ s))))
     by_tests ih false false false true =

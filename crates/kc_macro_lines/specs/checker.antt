@@ -1,5 +1,5 @@
-pub mod Bodies
+pub mod QuotedTexts
 pub mod RunContents
 pub mod LineTexts
 pub mod LineFronts
-pub mod QuietLines
+pub mod LinesWithoutMacros

@@ -104,7 +104,9 @@ pub(crate) fn assignment_at<'t>(
     }
     match token {
         LineToken::Word(name) => assignment_to(name, after),
-        LineToken::Gap(_) | LineToken::Quoted(_, _) | LineToken::Other(_) | LineToken::Broken(_) =>
-            None,
+        LineToken::Trivia(_)
+        | LineToken::Quoted(_, _)
+        | LineToken::Other(_)
+        | LineToken::Broken(_) => None,
     }
 }

@@ -4,7 +4,7 @@ ghost use Rattle.std.specs.List.{list_any};
 ghost use Rattle.kc_macros_model.specs.LineTokens.{is_run_byte, line_tokens};
 ghost use Rattle.kc_macro_lines.specs.between.CopiedLines.{IsCopied};
 ghost use Rattle.kc_macro_lines.specs.checker.LineFronts.{name_token};
-ghost use Rattle.kc_macro_lines.specs.checker.QuietLines.{ends_acting, is_acting_word, bounds_prompt, may_begin_prompt, HasNoWordNext, IsQuiet};
+ghost use Rattle.kc_macro_lines.specs.checker.LinesWithoutMacros.{ends_acting, is_acting_word, bounds_prompt, may_begin_prompt, HasNoWordNext, HasNothingToExpand};
 
 use super::assignment_syntax::{assignment_to, without_white_front};
 use super::line_tokens::is_run_byte;
@@ -63,7 +63,7 @@ fn may_begin_prompt(word: &[u8]) -> bool
     bounds_prompt(byte_at(word, 0), last_byte(word))
 }
 
-/// Whether the first token of a text that is no gap may be a word.
+/// Whether the first token of a text that is no trivia may be a word.
 fn begins_word(text: &[u8]) -> bool
     ensures { result ≡ false → HasNoWordNext (line_tokens 0 text.now) }
 {
@@ -76,7 +76,7 @@ fn begins_word(text: &[u8]) -> bool
 
 /// Whether a line whose first word is this one, with these bytes after it, stays as it is.
 fn begins_nothing_to_expand(word: &[u8], after: &[u8]) -> bool
-    ensures { result ≡ true → IsQuiet (name_token word.now ∷ line_tokens 0 after.now) }
+    ensures { result ≡ true → HasNothingToExpand (name_token word.now ∷ line_tokens 0 after.now) }
 {
     if is_acting_word(word) {
         return false;
@@ -103,7 +103,7 @@ fn word_length(text: &[u8]) -> usize
 /// Whether a line without `$` stays as it is, by its first token.
 fn has_nothing_to_expand(text: &[u8]) -> bool
     requires no_dollar { list_any (λ c. c == 36) text.now ≡ false }
-    ensures quiet { result ≡ true → IsQuiet (line_tokens 0 text.now) }
+    ensures nothing { result ≡ true → HasNothingToExpand (line_tokens 0 text.now) }
 {
     let rest = without_white_front(text);
     if rest.is_empty() {

@@ -1,7 +1,7 @@
 //! Lines `option env="X"`: each asks the environment variable X as a reference to it does.
 ghost use Rattle.std.specs.Prelude.{◌≡◌, ◌∷◌, true, [], option_map, IfOk, IfSome, IfNone};
 ghost use Rattle.kc_macros_model.specs.LineTokens.{line_tokens};
-ghost use Rattle.kc_macros_model.specs.Assignments.{is_gap_token, line_content};
+ghost use Rattle.kc_macros_model.specs.Assignments.{is_trivia_token, line_content};
 ghost use Rattle.kc_macros_model.specs.EnvironmentLines.{solid_tokens, is_run, is_equals_sign, quoted_name, asked_after_sign, asked_after_env, asked_after_option, environment_asked, environment_line, meant_line};
 ghost use Rattle.kc_macros.specs.Runs.{place_of, Runs, end_of};
 ghost use Rattle.kc_macros.specs.between.Variables.{bindings_of};
@@ -11,15 +11,15 @@ ghost use Rattle.kc_macro_lines.specs.checker.LineTexts.{token_view, has_equals_
 use super::line_content::{LineContent, front_token, read_tokens};
 use super::line_tokens::LineToken;
 use super::scope::Scope;
-use kc_answers::is_environment_name;
 use kc_macros::{Bindings, ExpansionState, Place, Stop, is_text};
+use kc_macros_model::is_environment_name;
 use std::alloc::{AllocError, Global};
 
 /// Whether a token is white or a comment.
-fn is_gap_token(token: LineToken<'_>) -> bool
-    ensures { result ≡ is_gap_token (token_view token.entry) }
+fn is_trivia_token(token: LineToken<'_>) -> bool
+    ensures { result ≡ is_trivia_token (token_view token.entry) }
 {
-    matches!(token, LineToken::Gap(_))
+    matches!(token, LineToken::Trivia(_))
 }
 
 /// The first token of a text that is neither white nor a comment, and the bytes after it.
@@ -30,7 +30,7 @@ fn next_solid(text: &[u8]) -> Option<(LineToken<'_>, &[u8])>
     let mut rest = text;
     'tokens: while !rest.is_empty() {
         let (token, after) = front_token(rest);
-        if !is_gap_token(token) {
+        if !is_trivia_token(token) {
             return Some((token, after));
         }
         rest = after;

@@ -1,7 +1,7 @@
 //! A line as an assignment, or as written tokens.
 ghost use Rattle.std.specs.Prelude.{◌≡◌, ◌+◌, ◌<◌, ◌^◌, ◌∷◌, ◌&&◌, true, None, Some, length, IfOk};
 ghost use Rattle.kc_macros_model.specs.LineTokens.{token_bytes, line_tokens};
-ghost use Rattle.kc_macros_model.specs.Assignments.{is_gap, assignment_to, assignment_at, is_open_front, line_content};
+ghost use Rattle.kc_macros_model.specs.Assignments.{is_trivia, assignment_to, assignment_at, is_open_front, line_content};
 ghost use Rattle.kc_macros.specs.between.Variables.{bindings_of};
 ghost use Rattle.kc_macro_forms.specs.between.WrittenTokens.{token_of};
 ghost use Rattle.kc_macro_lines.specs.between.LineContents.{content_of};
@@ -15,7 +15,7 @@ use super::line_tokens::{LineToken, first_token};
 use super::quoted_tokens::written_token;
 use super::scope::Scope;
 use super::token_values::run_value;
-use kc_macro_forms::{WrittenToken, is_gap, is_unknown, token_of_text};
+use kc_macro_forms::{WrittenToken, is_trivia, is_unknown, token_of_text};
 use kc_macros::{Assignment, Bytes, ExpansionState, Stop};
 
 /// The content of a logical line: an assignment to a variable, or written tokens.
@@ -45,7 +45,7 @@ fn token_length(token: LineToken<'_>) -> usize
     ensures value { result ≡ length (token_bytes (token_view token.entry)) }
 {
     match token {
-        LineToken::Gap(text)
+        LineToken::Trivia(text)
         | LineToken::Word(text)
         | LineToken::Other(text)
         | LineToken::Broken(text) => text.len(),
@@ -81,11 +81,11 @@ fn is_open_front(may_assign: bool, written: &WrittenToken, after: &[u8]) -> bool
     may_assign && is_unknown(written) && has_token(after)
 }
 
-/// Whether the name of an assignment may come after a token: only where nothing but gaps came before.
+/// Whether the name of an assignment may come after a token: only where nothing but trivia came before.
 fn may_still_assign(may_assign: bool, written: &WrittenToken) -> bool
-    ensures { result ≡ (may_assign && is_gap (token_of written.now)) }
+    ensures { result ≡ (may_assign && is_trivia (token_of written.now)) }
 {
-    may_assign && is_gap(written)
+    may_assign && is_trivia(written)
 }
 
 /// Writes a token that is no name of an assignment, and appends it to those before it.
@@ -108,8 +108,8 @@ fn push_token(
     Ok(())
 }
 
-/// The assignment that a line is; a name whose value is empty is a gap, and the line goes on.
-fn assigned_or_gap<'t>(
+/// The assignment that a line is; a name whose value is empty is trivia, and the line goes on.
+fn assigned_or_trivia<'t>(
     run: &mut ExpansionState<'_>,
     scope: &Scope<'_>,
     found: FoundAssignment<'t>,
@@ -125,8 +125,8 @@ fn assigned_or_gap<'t>(
         return Err(Stop::Unanswered);
     };
     if name.as_slice().is_empty() {
-        let gap = token_of_text(run.alloc(), b"")?;
-        front.tokens.push(gap)?;
+        let trivia = token_of_text(run.alloc(), b"")?;
+        front.tokens.push(trivia)?;
         return Ok(ContentStep::Rest(after));
     }
     let text = Bytes::copied(run.alloc(), found.text)?;
@@ -150,7 +150,7 @@ fn next_token<'t>(
 {
     let (token, after) = front_token(text);
     match assignment_at(front.may_assign, token, after) {
-        Some(found) => assigned_or_gap(run, scope, found, after, front),
+        Some(found) => assigned_or_trivia(run, scope, found, after, front),
         None => {
             push_token(run, scope, token, after, front)?;
             Ok(ContentStep::Rest(after))

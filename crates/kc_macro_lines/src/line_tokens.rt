@@ -14,7 +14,7 @@ use kc_tokens::{is_white, is_word};
 /// other bytes; the rest of a line that has a `$(` without its `)`.
 #[derive(Clone, Copy)]
 pub(crate) enum LineToken<'a> {
-    Gap(&'a [u8]),
+    Trivia(&'a [u8]),
     Word(&'a [u8]),
     Quoted(u8, &'a [u8]),
     Other(&'a [u8]),
@@ -150,9 +150,9 @@ pub(crate) fn first_token(text: &[u8]) -> LineToken<'_>
 {
     let byte = text[0];
     if is_white(byte) {
-        LineToken::Gap(&text[..1])
+        LineToken::Trivia(&text[..1])
     } else if byte == b'#' {
-        LineToken::Gap(text)
+        LineToken::Trivia(text)
     } else if is_run_byte(byte) {
         run_token(text)
     } else if byte == b'"' || byte == b'\'' {

@@ -1,6 +1,6 @@
 //! Bytes that an expansion may act on or refuse: `$`, and those that aren't ASCII.
 ghost use Rattle.std.specs.Prelude.{◌≡◌, ◌+◌, ◌≤◌, length, take, drop};
-ghost use Rattle.kc_macro_lines.specs.checker.QuietLines.{has_dollar_or_wide};
+ghost use Rattle.kc_macro_lines.specs.checker.LinesWithoutMacros.{has_dollar_or_wide};
 
 use std::simd::prelude::*;
 

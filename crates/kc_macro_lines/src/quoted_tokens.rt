@@ -1,11 +1,11 @@
 //! Quoted tokens, and all tokens of a line, with the values of their references.
 ghost use Rattle.std.specs.Prelude.{◌≡◌, ◌<◌, [], true, length, IfOk};
 ghost use Rattle.kc_macros_model.specs.References.{items};
-ghost use Rattle.kc_macros_model.specs.WrittenTokens.{body_of, written_items, written_token, token_of_body};
+ghost use Rattle.kc_macros_model.specs.WrittenTokens.{quoted_text_of, written_items, written_token, token_of_quoted_text};
 ghost use Rattle.kc_macros.specs.between.Variables.{bindings_of};
 ghost use Rattle.kc_macro_forms.specs.between.WrittenTokens.{token_of};
 ghost use Rattle.kc_macros.specs.Runs.{place_of, Runs, end_of};
-ghost use Rattle.kc_macro_lines.specs.checker.Bodies.{body_of_code, has_dollar_or_backslash, bodies_left};
+ghost use Rattle.kc_macro_lines.specs.checker.QuotedTexts.{quoted_text_view, has_dollar_or_backslash, quoted_text_left};
 ghost use Rattle.kc_macros.specs.checker.ProgramSteps.{Steps};
 ghost use Rattle.kc_macro_lines.specs.checker.LineTexts.{token_view};
 
@@ -28,7 +28,7 @@ fn next_item<'t>(
     out: &mut QuotedText,
 ) -> Result<&'t [u8], Stop>
     requires not_empty { 0 < length text.now }
-    ensures steps { Steps run.old run.new (bodies_left (place_of scope.now.at) (bindings_of scope.now.bindings.now) quote (body_of_code out.old) (items true 0 text.now)) (λ rest. bodies_left (place_of scope.now.at) (bindings_of scope.now.bindings.now) quote (body_of_code out.new) (items true 0 rest.now)) result }
+    ensures steps { Steps run.old run.new (quoted_text_left (place_of scope.now.at) (bindings_of scope.now.bindings.now) quote (quoted_text_view out.old) (items true 0 text.now)) (λ rest. quoted_text_left (place_of scope.now.at) (bindings_of scope.now.bindings.now) quote (quoted_text_view out.new) (items true 0 rest.now)) result }
     ensures shorter { IfOk result (λ rest. length rest.now < length text.now) }
 {
     if begins_reference_at(text, 0) {
@@ -59,8 +59,8 @@ fn has_dollar_or_backslash(text: &[u8]) -> bool
 }
 
 /// Bytes between quotes that are written as they are.
-fn plain_body(alloc: Global, text: &[u8]) -> Result<QuotedText, AllocError>
-    ensures { IfOk result (λ body. body_of_code body ≡ body_of text.now text.now) }
+fn plain_quoted_text(alloc: Global, text: &[u8]) -> Result<QuotedText, AllocError>
+    ensures { IfOk result (λ quoted_text. quoted_text_view quoted_text ≡ quoted_text_of text.now text.now) }
 {
     Ok(QuotedText {
         bytes: Vec::from_slice(alloc, text)?,
@@ -69,30 +69,30 @@ fn plain_body(alloc: Global, text: &[u8]) -> Result<QuotedText, AllocError>
     })
 }
 
-/// No bytes between quotes, with room for `room` bytes.
-fn empty_body(alloc: Global, room: usize) -> Result<QuotedText, AllocError>
-    ensures { IfOk result (λ body. body_of_code body ≡ body_of [] []) }
+/// No bytes between quotes, with capacity for `capacity` bytes.
+fn empty_quoted_text(alloc: Global, capacity: usize) -> Result<QuotedText, AllocError>
+    ensures { IfOk result (λ quoted_text. quoted_text_view quoted_text ≡ quoted_text_of [] []) }
 {
     Ok(QuotedText {
-        bytes: Vec::with_capacity(alloc, room)?,
-        meaning: Vec::with_capacity(alloc, room)?,
+        bytes: Vec::with_capacity(alloc, capacity)?,
+        meaning: Vec::with_capacity(alloc, capacity)?,
         known: true,
     })
 }
 
 /// The bytes between quotes as they are written.
-fn written_body(
+fn written_quoted_text(
     run: &mut ExpansionState<'_>,
     scope: &Scope<'_>,
     quote: u8,
     text: &[u8],
 ) -> Result<QuotedText, Stop>
-    ensures { Runs run.old run.new (written_items (place_of scope.now.at) (bindings_of scope.now.bindings.now) quote (items true 0 text.now)) (end_of body_of_code result) }
+    ensures { Runs run.old run.new (written_items (place_of scope.now.at) (bindings_of scope.now.bindings.now) quote (items true 0 text.now)) (end_of quoted_text_view result) }
 {
     if !has_dollar_or_backslash(text) {
-        return Ok(plain_body(run.alloc(), text)?);
+        return Ok(plain_quoted_text(run.alloc(), text)?);
     }
-    let mut out = empty_body(run.alloc(), text.len())?;
+    let mut out = empty_quoted_text(run.alloc(), text.len())?;
     let mut rest = text;
     'items: while !rest.is_empty() {
         rest = next_item(run, scope, quote, rest, &mut out)?;
@@ -101,15 +101,19 @@ fn written_body(
 }
 
 /// Bytes between quotes as a token.
-fn token_of_body(alloc: Global, quote: u8, body: QuotedText) -> Result<WrittenToken, AllocError>
-    ensures { IfOk result (λ t. token_of t ≡ token_of_body quote (body_of_code body)) }
+fn token_of_quoted_text(
+    alloc: Global,
+    quote: u8,
+    quoted_text: QuotedText,
+) -> Result<WrittenToken, AllocError>
+    ensures { IfOk result (λ t. token_of t ≡ token_of_quoted_text quote (quoted_text_view quoted_text)) }
 {
-    let mut bytes = Vec::with_capacity(alloc, body.bytes.len().saturating_add(2))?;
+    let mut bytes = Vec::with_capacity(alloc, quoted_text.bytes.len().saturating_add(2))?;
     bytes.push(quote)?;
-    bytes.extend_from_slice(body.bytes.as_slice())?;
+    bytes.extend_from_slice(quoted_text.bytes.as_slice())?;
     bytes.push(quote)?;
-    let meaning = if body.known {
-        Some(Bytes::from_vec(body.meaning))
+    let meaning = if quoted_text.known {
+        Some(Bytes::from_vec(quoted_text.meaning))
     } else {
         None
     };
@@ -129,11 +133,11 @@ pub(crate) fn written_token(
     ensures { Runs run.old run.new (written_token (place_of scope.now.at) (bindings_of scope.now.bindings.now) (token_view token.entry)) (end_of token_of result) }
 {
     match token {
-        LineToken::Gap(text) => Ok(new_token(run.alloc(), TokenSort::Gap, text, b"")?),
+        LineToken::Trivia(text) => Ok(new_token(run.alloc(), TokenSort::Trivia, text, b"")?),
         LineToken::Word(text) => written_word(run, scope, text),
         LineToken::Quoted(quote, text) => {
-            let body = written_body(run, scope, quote, text)?;
-            Ok(token_of_body(run.alloc(), quote, body)?)
+            let quoted_text = written_quoted_text(run, scope, quote, text)?;
+            Ok(token_of_quoted_text(run.alloc(), quote, quoted_text)?)
         }
         LineToken::Other(text) => Ok(new_token(run.alloc(), TokenSort::Other, text, b"")?),
         LineToken::Broken(_) => Err(fault(run.alloc(), scope.at, MacroKind::Unterminated, b"")),

@@ -2,11 +2,11 @@
 ghost use Rattle.std.specs.Prelude.{◌≡◌, ◌==◌, ◌<◌, [], ◌∷◌, false, length, OnOk, if◌then◌else◌};
 ghost use Rattle.std.specs.List.{list_any};
 ghost use Rattle.kc_macros_model.specs.References.{is_reference, is_plain_dollar, items};
-ghost use Rattle.kc_macros_model.specs.WrittenTokens.{run_value, written_run, joined_bodies, body_of, body_of_value};
+ghost use Rattle.kc_macros_model.specs.WrittenTokens.{run_value, written_run, joined_quoted_texts, quoted_text_of, quoted_text_of_value};
 ghost use Rattle.kc_macros.specs.between.Variables.{bindings_of};
 ghost use Rattle.kc_macro_forms.specs.between.WrittenTokens.{token_of};
 ghost use Rattle.kc_macros.specs.Runs.{place_of, Runs, end_of};
-ghost use Rattle.kc_macro_lines.specs.checker.Bodies.{body_of_code};
+ghost use Rattle.kc_macro_lines.specs.checker.QuotedTexts.{quoted_text_view};
 ghost use Rattle.kc_macro_lines.specs.checker.RunContents.{IsRunContent};
 ghost use Rattle.kc_macro_lines.specs.checker.LineTexts.{first_item_of};
 
@@ -111,7 +111,7 @@ pub(crate) struct QuotedText {
 
 /// Appends a byte to those written between two quotes; a `$` gets a backslash.
 pub(crate) fn push_byte(out: &mut QuotedText, byte: u8) -> Result<(), AllocError>
-    ensures { OnOk result (body_of_code out.new ≡ joined_bodies (body_of_code out.old) (body_of (if byte == 36 then 92 ∷ byte ∷ [] else byte ∷ []) (byte ∷ []))) }
+    ensures { OnOk result (quoted_text_view out.new ≡ joined_quoted_texts (quoted_text_view out.old) (quoted_text_of (if byte == 36 then 92 ∷ byte ∷ [] else byte ∷ []) (byte ∷ []))) }
 {
     if byte == b'$' {
         out.bytes.push(b'\\')?;
@@ -123,7 +123,7 @@ pub(crate) fn push_byte(out: &mut QuotedText, byte: u8) -> Result<(), AllocError
 
 /// Appends a backslash and another byte to those written between two quotes.
 pub(crate) fn push_pair(out: &mut QuotedText, byte: u8) -> Result<(), AllocError>
-    ensures { OnOk result (body_of_code out.new ≡ joined_bodies (body_of_code out.old) (body_of (92 ∷ byte ∷ []) (byte ∷ []))) }
+    ensures { OnOk result (quoted_text_view out.new ≡ joined_quoted_texts (quoted_text_view out.old) (quoted_text_of (92 ∷ byte ∷ []) (byte ∷ []))) }
 {
     out.bytes.push(b'\\')?;
     out.bytes.push(byte)?;
@@ -137,7 +137,7 @@ pub(crate) fn push_reference(
     quote: u8,
     value: &Option<Bytes>,
 ) -> Result<(), AllocError>
-    ensures { OnOk result (body_of_code out.new ≡ joined_bodies (body_of_code out.old) (body_of_value quote value.now)) }
+    ensures { OnOk result (quoted_text_view out.new ≡ joined_quoted_texts (quoted_text_view out.old) (quoted_text_of_value quote value.now)) }
 {
     match value {
         Some(text) => {

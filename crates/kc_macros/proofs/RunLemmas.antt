@@ -35,7 +35,7 @@ module _ {A B : Type 0} (w : World) (s : RunState) (p : Program A) (f : A → Pr
   returned_then : (x : A) → first.ending ≡ returned x → outcome s.all_answered w s.left (p >>= f) ≡ joined first (outcome s.all_answered w first.left (f x))
   returned_then x e = composed s.all_answered w f s.left p ∙ ap (λ end. continued_by first end (λ more y. outcome s.all_answered w more (f y))) e
 
-  in_world_then : (x : A) (t u : RunState) (e : Ending B) → RunsIn w s t p (returned x) → RunsIn w t u (f x) e → RunsIn w s u (p >>= f) e
+  pub in_world_then : (x : A) (t u : RunState) (e : Ending B) → RunsIn w s t p (returned x) → RunsIn w t u (f x) e → RunsIn w s u (p >>= f) e
   in_world_then x t u e a b =
       let after : RunsIn w (after_outcome s first) u (f x) e = subst (λ (r : RunState). RunsIn w r u (f x) e) a.state b in
       let whole = returned_then x a.ending in
@@ -44,13 +44,13 @@ module _ {A B : Type 0} (w : World) (s : RunState) (p : Program A) (f : A → Pr
         ending = ap (λ (o : Outcome B). o.ending) whole ∙ after.ending;
       }
 
-  in_world_failed : (g : Fault) (t : RunState) → RunsIn w s t p (failed g) → RunsIn w s t (p >>= f) (failed g)
+  pub in_world_failed : (g : Fault) (t : RunState) → RunsIn w s t p (failed g) → RunsIn w s t (p >>= f) (failed g)
   in_world_failed g t a =
       let whole : outcome s.all_answered w s.left (p >>= f) ≡ continued_by first (failed g) (λ more y. outcome s.all_answered w more (f y)) =
       composed s.all_answered w f s.left p ∙ ap (λ end. continued_by first end (λ more y. outcome s.all_answered w more (f y))) a.ending in
       record { state = a.state ∙ ap (after_outcome s) (sym whole); ending = ap (λ (o : Outcome B). o.ending) whole }
 
-  in_world_stopped : (t : RunState) → RunsIn w s t p stopped → RunsIn w s t (p >>= f) stopped
+  pub in_world_stopped : (t : RunState) → RunsIn w s t p stopped → RunsIn w s t (p >>= f) stopped
   in_world_stopped t a =
       let whole : outcome s.all_answered w s.left (p >>= f) ≡ continued_by first stopped (λ more y. outcome s.all_answered w more (f y)) =
       composed s.all_answered w f s.left p ∙ ap (λ end. continued_by first end (λ more y. outcome s.all_answered w more (f y))) a.ending in

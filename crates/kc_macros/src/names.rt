@@ -13,8 +13,8 @@ use super::expansion_state::ExpansionState;
 use super::parameter::is_number;
 use super::stop::{Place, ValueResult};
 use itoa::Buffer;
-use kc_answers::{is_environment_name, without_white_end};
-use kc_macros_model::{BuiltIn, MacroKind, MacroNoticeKind};
+use kc_answers::without_white_end;
+use kc_macros_model::{BuiltIn, MacroKind, MacroNoticeKind, is_environment_name};
 use std::alloc::{AllocError, Global};
 
 /// The decimal digits of a number.

@@ -1,6 +1,6 @@
 -- Lines, forms and paths without newlines.
-use Rattle.kc_macros_model.proofs.Common.{◌≡◌, ℕ, zero, suc, ◌+◌, Bool, true, false, ◌&&◌, cond, List, [], ◌∷◌, ◌++◌, map, refl, not, filter, bytes_eq, codes, decimal, reverse, ◌==◌, onto_first, prefix_len, first_so, second_so, Place, Value, Word, WrittenToken, written_as, without_front, is_gap}
-use Rattle.kc_macros_model.proofs.Common.{SourceSort, LineForm, plain, bare_prompt, replaced_by, named_choice, sources, form_of_pair, form_by_word, form_of, without_gaps, with_nth_token, with_replacement, line_bytes, quoted_text_token, matches_name, path_pieces, sorted, ExpandedFile, is_taken}
+use Rattle.kc_macros_model.proofs.Common.{◌≡◌, ℕ, zero, suc, ◌+◌, Bool, true, false, ◌&&◌, cond, List, [], ◌∷◌, ◌++◌, map, refl, not, filter, bytes_eq, codes, decimal, reverse, ◌==◌, onto_first, prefix_len, first_so, second_so, Place, Value, Word, WrittenToken, written_as, without_front, is_trivia}
+use Rattle.kc_macros_model.proofs.Common.{SourceSort, LineForm, plain, bare_prompt, replaced_by, named_choice, sources, form_of_two_words, form_of_first_word, form_of, without_trivia, with_nth_token, with_replacement, line_bytes, quoted_text_token, matches_name, path_pieces, sorted, ExpandedFile, is_taken}
 use Rattle.kc_macros_model.proofs.Common.{free_key, path_meant, list_name, source_line, has_newline}
 use Rattle.std.specs.Prelude.{slice_index}
 use Rattle.std.specs.Str.{is_utf8}
@@ -17,7 +17,7 @@ line_bytes_clean (next_written {t = t} {ts = ts} h r) = clean_append t.bytes (li
 pub nth_token_clean : (n : ℕ) (new : WrittenToken) → IsCleanToken new → {ts : List WrittenToken} → AreCleanWritten ts
     → AreCleanWritten (with_nth_token n new ts)
 nth_token_clean n new h none_written = none_written
-nth_token_clean n new h (next_written {t = t} {ts = ts} k r) = by_tests n (is_gap t) (λ m. nth_token_clean m new h r)
+nth_token_clean n new h (next_written {t = t} {ts = ts} k r) = by_tests n (is_trivia t) (λ m. nth_token_clean m new h r)
   where
     by_tests : (n : ℕ) (b : Bool) → ((m : ℕ) → AreCleanWritten (with_nth_token m new ts)) → AreCleanWritten
         (cond b (t ∷ with_nth_token n new ts) (elim n as (λ z. List WrittenToken) [ zero ↦ new ∷ ts | suc m ↦ t ∷ with_nth_token m new ts ]))
@@ -27,17 +27,17 @@ nth_token_clean n new h (next_written {t = t} {ts = ts} k r) = by_tests n (is_ga
 
 pub replacement_clean : (new : List ℕ) → IsClean new → {ts : List WrittenToken} → AreCleanWritten ts → IsClean (with_replacement new ts)
 replacement_clean new h none_written = h
-replacement_clean new h (next_written {t = t} {ts = ts} k r) = by_test (replacement_clean new h r) (is_gap t)
+replacement_clean new h (next_written {t = t} {ts = ts} k r) = by_test (replacement_clean new h r) (is_trivia t)
   where
     by_test : IsClean (with_replacement new ts) → (b : Bool) → IsClean (cond b (t.bytes ++ with_replacement new ts) new)
     by_test ih true = clean_append t.bytes (with_replacement new ts) k.bytes ih
     by_test ih false = h
 
-pub gaps_gone_clean : {ts : List WrittenToken} → AreCleanWritten ts → AreCleanWritten (without_gaps ts)
-gaps_gone_clean none_written = none_written
-gaps_gone_clean (next_written {t = t} {ts = ts} h r) = by_test (gaps_gone_clean r) (not (is_gap t))
+pub trivia_gone_clean : {ts : List WrittenToken} → AreCleanWritten ts → AreCleanWritten (without_trivia ts)
+trivia_gone_clean none_written = none_written
+trivia_gone_clean (next_written {t = t} {ts = ts} h r) = by_test (trivia_gone_clean r) (not (is_trivia t))
   where
-    by_test : AreCleanWritten (without_gaps ts) → (b : Bool) → AreCleanWritten (cond b (t ∷ without_gaps ts) (without_gaps ts))
+    by_test : AreCleanWritten (without_trivia ts) → (b : Bool) → AreCleanWritten (cond b (t ∷ without_trivia ts) (without_trivia ts))
     by_test ih true = next_written h ih
     by_test ih false = ih
 
@@ -53,11 +53,11 @@ pub either_form : (b : Bool) (f g : LineForm) → IsCleanForm f → IsCleanForm 
 either_form true f g h k = h
 either_form false f g h k = k
 
-pub pair_clean : (word : List ℕ) (t : WrittenToken) → IsCleanToken t → IsCleanForm (form_of_pair word t)
+pub pair_clean : (word : List ℕ) (t : WrittenToken) → IsCleanToken t → IsCleanForm (form_of_two_words word t)
 pair_clean word t h = either_form _ _ _ (clean_source h.meaning) (either_form _ _ _ clean_choice
     (either_form _ _ _ (clean_replacement (clean refl)) (either_form _ _ _ (clean_replacement clean_none) clean_plain)))
 
-pub word_form_clean : (word : List ℕ) (t : WrittenToken) (rest : List WrittenToken) → IsCleanToken t → IsCleanForm (form_by_word word t rest)
+pub word_form_clean : (word : List ℕ) (t : WrittenToken) (rest : List WrittenToken) → IsCleanToken t → IsCleanForm (form_of_first_word word t rest)
 word_form_clean word t [] h = either_form _ _ _ (clean_prompt h.bytes) (pair_clean word t h)
 word_form_clean word t (u ∷ us) h = either_form _ _ _ (clean_prompt h.bytes) clean_plain
 

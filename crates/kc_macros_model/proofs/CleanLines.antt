@@ -1,6 +1,6 @@
 -- Lines without newlines, as they are written.
 use Rattle.kc_macros_model.proofs.Common.{◌≡◌, ℕ, zero, suc, Bool, true, false, ◌&&◌, ◌||◌, cond, List, [], ◌∷◌, length, take, Option, Some, None, refl, ◌==◌, not, nat_lt, pred, option_map, list_all, list_any, prefix_len, is_white_byte, Item, byte, escaped, reference, unterminated, item_bytes}
-use Rattle.kc_macros_model.proofs.Common.{inside_length, reference_of, first_item, items, is_unterminated, Value, LineToken, gap, run, quoted, other, broken, token_bytes, extent, is_run_byte, run_token, quoted_token, first_token, line_tokens, bytes_of_tokens, Word, Quoted, is_bare_byte, is_keyword}
+use Rattle.kc_macros_model.proofs.Common.{inside_length, reference_of, first_item, items, is_unterminated, Value, LineToken, trivia, run, quoted, other, broken, token_bytes, extent, is_run_byte, run_token, quoted_token, first_token, line_tokens, bytes_of_tokens, Word, Quoted, is_bare_byte, is_keyword}
 use Rattle.kc_macros_model.proofs.Common.{escaped_text, in_quotes_of, WrittenToken, written_as, token_of_text, token_of_value, SetsNow, Appends, Sets, AssignedText, without_front, assignment_at}
 use Rattle.kc_macros_model.specs.Assignments.{assigned, is_blank_byte, operator_at}
 use Rattle.kc_macros_model.proofs.CleanTexts.{IsClean, clean, clean_none, clean_cons, clean_first, clean_rest, clean_append, clean_take, clean_drop, IsCleanValue, unknown_clean, text_clean}
@@ -66,7 +66,7 @@ first_token_clean c s h = by_tests (is_white_byte c) (c == 35) (is_run_byte c) (
     run_len = extent false (λ d. not (is_run_byte d)) 0 (c ∷ s)
 
     by_tests : (x y z u : Bool)
-        → IsClean (token_bytes (cond x (gap (c ∷ [])) (cond y (gap (c ∷ s))
+        → IsClean (token_bytes (cond x (trivia (c ∷ [])) (cond y (trivia (c ∷ s))
         (cond z (run_token (take run_len (c ∷ s))) (cond u (quoted_token (extent true (λ d. d == c) 0 s) c s) (other (c ∷ [])))))))
     by_tests true y z u = alone
     by_tests false true z u = h
@@ -145,7 +145,7 @@ blanks_clean (an_assignment {a = a} h) = an_assignment (clean_drop (prefix_len i
 
 pub assignment_clean : (may_assign : Bool) (t : LineToken) {ts : List LineToken} → AreCleanTokens ts → IsCleanAssigned (assignment_at may_assign t ts)
 assignment_clean false t r = no_assignment
-assignment_clean true (gap s) r = no_assignment
+assignment_clean true (trivia s) r = no_assignment
 assignment_clean true (quoted quote s) r = no_assignment
 assignment_clean true (other s) r = no_assignment
 assignment_clean true (broken s) r = no_assignment

@@ -30,7 +30,7 @@ pub mod ReadingInvariants
 pub mod BoundedReadings
 pub mod TokensOfLines
 pub mod PlainTokens
-pub mod QuotedBodies
+pub mod QuotedTexts
 pub mod TokenCuts
 pub mod SecondExpansions
 pub mod PlainLines

@@ -1,7 +1,7 @@
 -- Lines that have nothing to expand, assign or rewrite are written as they are.
 use Rattle.kc_macros_model.proofs.Common.{◌≡◌, ℕ, zero, suc, ◌+◌, Bool, true, false, ◌&&◌, ◌||◌, cond, List, [], ◌∷◌, ◌++◌, length, take, drop, map, Option, Some, None, refl, sym, ap, ◌∙◌, not, nat_lt, bytes_eq, codes, is_none, ◌==◌, list_all, list_any, first_so, second_so, take-append-drop}
-use Rattle.kc_macros_model.proofs.Common.{PhysicalLine, split_at_newlines, without_return, is_continued, joined_bytes, continuation_count, begins_help, LineTooLong, MAX_TEXT_BYTES, Place, Program, returns, stops, ◌>>=◌, fault, line_tokens, Word, WrittenToken, written_as, LineContent, tokens, is_gap}
-use Rattle.kc_macros_model.proofs.Common.{line_content, environment_asked, meant_line, SourceSort, LineForm, plain, named_choice, sources, is_word, is_path, form_by_word, form_of, without_gaps, with_nth_token, line_bytes, is_help_line, is_pattern, ReadingState, Progress, progress, WrittenLine}
+use Rattle.kc_macros_model.proofs.Common.{PhysicalLine, split_at_newlines, without_return, is_continued, joined_bytes, continuation_count, begins_help, LineTooLong, MAX_TEXT_BYTES, Place, Program, returns, stops, ◌>>=◌, fault, line_tokens, Word, WrittenToken, written_as, LineContent, tokens, is_trivia}
+use Rattle.kc_macros_model.proofs.Common.{line_content, environment_asked, meant_line, SourceSort, LineForm, plain, named_choice, sources, is_word, is_path, form_of_first_word, form_of, without_trivia, with_nth_token, line_bytes, is_help_line, is_pattern, ReadingState, Progress, progress, WrittenLine}
 use Rattle.kc_macros_model.proofs.Common.{written_line, place, SourceReader, form_written, short_line, tokens_written, content_written, bytes_of_lines, lines_written, newlines_of, help_after, lines_read, is_kept_token, token_as_it_is, is_assignment, tokens_as_they_are, is_plain_form, plain_path}
 use Rattle.kc_macros_model.proofs.Common.{is_one_of, is_copied, is_plain_line, is_before_help, logical_texts, no_paths, nat_list_eq_equiv}
 use Rattle.std.specs.Str.{is_utf8}
@@ -13,7 +13,7 @@ use Rattle.kc_macros_model.proofs.LineCounts.{split_bytes, lines_both, drop_twic
 use Rattle.kc_macros_model.proofs.PlainTokens.{not_so, bytes_as_they_are, decided_as_they_are, tokens_stay}
 use Rattle.kc_macros_model.proofs.TokensOfLines.{tokens_are_line}
 
--- the written tokens of a line that has nothing to expand, gaps among them
+-- the written tokens of a line that has nothing to expand, trivia among them
 abbrev pub own_tokens : List ℕ → List WrittenToken
 own_tokens text = map token_as_it_is (line_tokens 0 text)
 
@@ -154,11 +154,11 @@ plain_files_stay sub file bytes s e = lines_stay sub file 0 1 (split_at_newlines
 abbrev pub one_source : SourceSort
 one_source = record { relative = false; optional = false }
 
--- the first written token of a line that is no gap is the word `source`
+-- the first written token of a line that is no trivia is the word `source`
 pub record BeginsWithSource (ts : List WrittenToken) : Type 0 where
   pub first : WrittenToken
   pub rest : List WrittenToken
-  pub parts : without_gaps ts ≡ first ∷ rest
+  pub parts : without_trivia ts ≡ first ∷ rest
   pub bytes : first.bytes ≡ codes "source"
 
 abbrev source_word : WrittenToken
@@ -168,21 +168,21 @@ same_head : (x y : WrittenToken) (xs ys : List WrittenToken) → x ∷ xs ≡ y 
 same_head x y xs ys e = cc
 
 -- putting the word `source` in place of a first token that is that word leaves the bytes of a line
-source_stays : (ts : List WrittenToken) (first : WrittenToken) (rest : List WrittenToken) → without_gaps ts ≡ first ∷ rest → first.bytes ≡ codes "source"
+source_stays : (ts : List WrittenToken) (first : WrittenToken) (rest : List WrittenToken) → without_trivia ts ≡ first ∷ rest → first.bytes ≡ codes "source"
     → line_bytes (with_nth_token 0 source_word ts) ≡ line_bytes ts
 source_stays [] first rest e b = let z : ⊥ = cc in absurd z
-source_stays (t ∷ ts) first rest e b = by_test (λ h. source_stays ts first rest h b) (is_gap t) e
+source_stays (t ∷ ts) first rest e b = by_test (λ h. source_stays ts first rest h b) (is_trivia t) e
   where
-    by_test : (without_gaps ts ≡ first ∷ rest → line_bytes (with_nth_token 0 source_word ts) ≡ line_bytes ts) → (g : Bool)
-        → cond (not g) (t ∷ without_gaps ts) (without_gaps ts) ≡ first ∷ rest
+    by_test : (without_trivia ts ≡ first ∷ rest → line_bytes (with_nth_token 0 source_word ts) ≡ line_bytes ts) → (g : Bool)
+        → cond (not g) (t ∷ without_trivia ts) (without_trivia ts) ≡ first ∷ rest
         → line_bytes (cond g (t ∷ with_nth_token 0 source_word ts) (source_word ∷ ts)) ≡ line_bytes (t ∷ ts)
     by_test ih true e = ap (λ x. t.bytes ++ x) (ih e)
-    by_test ih false e = ap (λ x. x ++ line_bytes ts) (sym b ∙ ap (λ (x : WrittenToken). x.bytes) (sym (same_head t first (without_gaps ts) rest e)))
+    by_test ih false e = ap (λ x. x ++ line_bytes ts) (sym b ∙ ap (λ (x : WrittenToken). x.bytes) (sym (same_head t first (without_trivia ts) rest e)))
 
 pub source_word_stays : {ts : List WrittenToken} → BeginsWithSource ts → line_bytes (with_nth_token 0 source_word ts) ≡ line_bytes ts
 source_word_stays {ts = ts} h = source_stays ts h.first h.rest h.parts h.bytes
 
--- the written tokens without gaps of a line are those of `source PATH` with this path
+-- the written tokens without trivia of a line are those of `source PATH` with this path
 pub record IsSource (real : List WrittenToken) (path : List ℕ) : Type 0 where
   pub form : form_of real ≡ sources one_source (Some path)
   pub first : WrittenToken
@@ -201,8 +201,8 @@ source_of_path (t ∷ u ∷ []) path e = by_tests (is_word t) (bytes_eq t.bytes 
     by_tests true true true hw hs hp e =
         let s : t.bytes ≡ codes "source" = same_text t.bytes (codes "source") hs in
         record {
-          form = ap (λ x. cond x (form_by_word t.bytes u []) plain) hw
-              ∙ ap (λ x. form_by_word x u []) s
+          form = ap (λ x. cond x (form_of_first_word t.bytes u []) plain) hw
+              ∙ ap (λ x. form_of_first_word x u []) s
               ∙ ap (λ x. cond x (sources one_source u.meaning) (cond (bytes_eq (codes "source") (codes "choice") && is_word u) (named_choice u.bytes) plain)) hp
               ∙ ap (λ m. sources one_source m) e;
           first = t;

@@ -1,8 +1,8 @@
 -- Tokens that have nothing to expand are written as they are.
 use Rattle.kc_macros_model.proofs.Common.{◌≡◌, ℕ, zero, suc, ◌≤◌, Bool, true, false, ◌&&◌, ◌||◌, cond, List, [], ◌∷◌, ◌++◌, length, take, drop, map, Option, Some, None, refl, sym, ap, ◌∙◌, subst, arith, ◌==◌, pred, not, nat_lt, is_some, list_all, list_any, first_so, second_so, eqb-true}
-use Rattle.kc_macros_model.proofs.Common.{take-append-drop, is_white_byte, Place, Program, returns, stops, ◌>>=◌, Item, byte, escaped, item_bytes, inside_length, reference_of, items, is_reference, is_plain_dollar, is_unterminated, Bindings, LineToken, gap, run, quoted, other, broken, token_bytes}
-use Rattle.kc_macros_model.proofs.Common.{extent, is_run_byte, run_token, quoted_token, first_token, bytes_of_tokens, Word, Other, WrittenToken, written_as, token_of_text, token_of_value, WrittenQuotedText, body_of, joined_bodies, written_items, token_of_body, run_value, written_token, AssignedText}
-use Rattle.kc_macros_model.proofs.Common.{LineContent, tokens, with_token, is_gap, is_open_front, assignment_or, line_content, line_bytes, has_dollar, is_kept_token, token_as_it_is, is_assignment, is_in_list, is_unknown, source_words, help_words, is_word, without_gaps, is_undecided}
+use Rattle.kc_macros_model.proofs.Common.{take-append-drop, is_white_byte, Place, Program, returns, stops, ◌>>=◌, Item, byte, escaped, item_bytes, inside_length, reference_of, items, is_reference, is_plain_dollar, is_unterminated, Bindings, LineToken, trivia, run, quoted, other, broken, token_bytes}
+use Rattle.kc_macros_model.proofs.Common.{extent, is_run_byte, run_token, quoted_token, first_token, bytes_of_tokens, Word, Other, WrittenToken, written_as, token_of_text, token_of_value, WrittenQuotedText, quoted_text_of, joined_quoted_texts, written_items, token_of_quoted_text, run_value, written_token, AssignedText}
+use Rattle.kc_macros_model.proofs.Common.{LineContent, tokens, with_token, is_trivia, is_open_front, assignment_or, line_content, line_bytes, has_dollar, is_kept_token, token_as_it_is, is_assignment, is_in_list, is_unknown, source_words, help_words, is_word, without_trivia, is_undecided}
 use Rattle.kc_macros_model.specs.Expansion.{text_value}
 use Rattle.kc_macros_model.specs.Assignments.{assignment_to}
 use Rattle.kc_macros_model.specs.PlainLines.{is_kept_item, LinesWithoutDollars, text_of_items}
@@ -140,7 +140,7 @@ first_kept c s e = by_tests (is_white_byte c) (c == 35) (is_run_byte c) (c == 34
     n = extent false (λ d. not (is_run_byte d)) 0 (c ∷ s)
 
     by_tests : (x y z u : Bool)
-        → is_kept_token (cond x (gap (c ∷ [])) (cond y (gap (c ∷ s)) (cond z (run_token (take n (c ∷ s)))
+        → is_kept_token (cond x (trivia (c ∷ [])) (cond y (trivia (c ∷ s)) (cond z (run_token (take n (c ∷ s)))
         (cond u (quoted_token (extent true (λ d. d == c) 0 s) c s) (other (c ∷ [])))))) ≡ true
     by_tests true y z u = refl
     by_tests false true z u = refl
@@ -160,7 +160,7 @@ lines_without_dollars text e = kept_in_row (is_in_tokens text) e
 -- the bytes of the written tokens of a line that has nothing to expand are the bytes of the line's tokens
 pub bytes_as_they_are : (ts : List LineToken) → line_bytes (map token_as_it_is ts) ≡ bytes_of_tokens ts
 bytes_as_they_are [] = refl
-bytes_as_they_are (gap s ∷ ts) = ap (λ x. s ++ x) (bytes_as_they_are ts)
+bytes_as_they_are (trivia s ∷ ts) = ap (λ x. s ++ x) (bytes_as_they_are ts)
 bytes_as_they_are (run s ∷ ts) = by_test (list_any is_plain_dollar (items false 0 s)) (bytes_as_they_are ts)
   where
     by_test : (b : Bool) → line_bytes (map token_as_it_is ts) ≡ bytes_of_tokens ts → (cond b (written_as Other s []) (written_as Word s s)).bytes
@@ -172,7 +172,7 @@ bytes_as_they_are (other s ∷ ts) = ap (λ x. s ++ x) (bytes_as_they_are ts)
 bytes_as_they_are (broken s ∷ ts) = ap (λ x. s ++ x) (bytes_as_they_are ts)
 
 known_as_it_is : (t : LineToken) → is_unknown (token_as_it_is t) ≡ false
-known_as_it_is (gap s) = refl
+known_as_it_is (trivia s) = refl
 known_as_it_is (run s) = by_test (list_any is_plain_dollar (items false 0 s))
   where
     by_test : (b : Bool) → is_unknown (cond b (written_as Other s []) (written_as Word s s)) ≡ false
@@ -180,16 +180,16 @@ known_as_it_is (run s) = by_test (list_any is_plain_dollar (items false 0 s))
     by_test false = refl
 known_as_it_is x = refl
 
-none_unknown : (ts : List LineToken) → list_any is_unknown (without_gaps (map token_as_it_is ts)) ≡ false
+none_unknown : (ts : List LineToken) → list_any is_unknown (without_trivia (map token_as_it_is ts)) ≡ false
 none_unknown [] = refl
-none_unknown (t ∷ ts) = by_gap (is_gap (token_as_it_is t)) (none_unknown ts)
+none_unknown (t ∷ ts) = by_trivia (is_trivia (token_as_it_is t)) (none_unknown ts)
   where
     rest : List WrittenToken
-    rest = without_gaps (map token_as_it_is ts)
+    rest = without_trivia (map token_as_it_is ts)
 
-    by_gap : (g : Bool) → list_any is_unknown rest ≡ false → list_any is_unknown (cond (not g) (token_as_it_is t ∷ rest) rest) ≡ false
-    by_gap true e = e
-    by_gap false e = ap (λ b. b || list_any is_unknown rest) (known_as_it_is t) ∙ e
+    by_trivia : (g : Bool) → list_any is_unknown rest ≡ false → list_any is_unknown (cond (not g) (token_as_it_is t ∷ rest) rest) ≡ false
+    by_trivia true e = e
+    by_trivia false e = ap (λ b. b || list_any is_unknown rest) (known_as_it_is t) ∙ e
 
 decided : (ts : List WrittenToken) → list_any is_unknown ts ≡ false → is_undecided ts ≡ false
 decided [] e = refl
@@ -198,19 +198,19 @@ decided (t ∷ ts) e =
     ap (λ b. begins && b) (neither_second (is_unknown t) (list_any is_unknown ts) e) ∙ second_of_and begins
 
 -- the form of a line that has nothing to expand is known
-pub decided_as_they_are : (ts : List LineToken) → is_undecided (without_gaps (map token_as_it_is ts)) ≡ false
-decided_as_they_are ts = decided (without_gaps (map token_as_it_is ts)) (none_unknown ts)
+pub decided_as_they_are : (ts : List LineToken) → is_undecided (without_trivia (map token_as_it_is ts)) ≡ false
+decided_as_they_are ts = decided (without_trivia (map token_as_it_is ts)) (none_unknown ts)
 
 module _ (at : Place) (b : Bindings) where
-  body_stays : (quote : ℕ) {s : List ℕ} {is : List Item} → ArePlainItems s is → written_items at b quote is ≡ returns (body_of s (text_of_items is))
+  body_stays : (quote : ℕ) {s : List ℕ} {is : List Item} → ArePlainItems s is → written_items at b quote is ≡ returns (quoted_text_of s (text_of_items is))
   body_stays quote plain_none = refl
   body_stays quote (plain_byte {c = c} {is = is} e r) =
-      ap (λ x. let p : Program WrittenQuotedText = returns (body_of (cond x (92 ∷ c ∷ []) (c ∷ [])) (c ∷ [])) in
-      p >>= λ first. written_items at b quote is >>= λ rest. returns (joined_bodies first rest)) e
-      ∙ ap (λ (p : Program WrittenQuotedText). p >>= λ rest. returns (joined_bodies (body_of (c ∷ []) (c ∷ [])) rest)) (body_stays quote r)
+      ap (λ x. let p : Program WrittenQuotedText = returns (quoted_text_of (cond x (92 ∷ c ∷ []) (c ∷ [])) (c ∷ [])) in
+      p >>= λ first. written_items at b quote is >>= λ rest. returns (joined_quoted_texts first rest)) e
+      ∙ ap (λ (p : Program WrittenQuotedText). p >>= λ rest. returns (joined_quoted_texts (quoted_text_of (c ∷ []) (c ∷ [])) rest)) (body_stays quote r)
   body_stays quote (plain_escaped {c = c} {d = d} {s = s} {is = is} e r) =
-      ap (λ (p : Program WrittenQuotedText). p >>= λ rest. returns (joined_bodies (body_of (92 ∷ d ∷ []) (d ∷ [])) rest)) (body_stays quote r)
-      ∙ ap (λ x. let p : Program WrittenQuotedText = returns (body_of (x ∷ d ∷ s) (d ∷ text_of_items is)) in p) (sym e)
+      ap (λ (p : Program WrittenQuotedText). p >>= λ rest. returns (joined_quoted_texts (quoted_text_of (92 ∷ d ∷ []) (d ∷ [])) rest)) (body_stays quote r)
+      ∙ ap (λ x. let p : Program WrittenQuotedText = returns (quoted_text_of (x ∷ d ∷ s) (d ∷ text_of_items is)) in p) (sym e)
 
   run_stays : (s : List ℕ) (x y : Bool) → (x || not y) ≡ true
       → (elim x as (λ z. Program WrittenToken) [
@@ -225,9 +225,9 @@ module _ (at : Place) (b : Bindings) where
 
   -- a token that has nothing to expand is written with its own bytes
   pub token_stays : (t : LineToken) → is_kept_token t ≡ true → written_token at b t ≡ returns (token_as_it_is t)
-  token_stays (gap s) e = refl
+  token_stays (trivia s) e = refl
   token_stays (run s) e = run_stays s (list_any is_plain_dollar (items false 0 s)) (list_any is_reference (items false 0 s)) e
-  token_stays (quoted quote s) e = ap (λ (p : Program WrittenQuotedText). p >>= λ body. returns (token_of_body quote body)) (body_stays quote (kept_items s e))
+  token_stays (quoted quote s) e = ap (λ (p : Program WrittenQuotedText). p >>= λ body. returns (token_of_quoted_text quote body)) (body_stays quote (kept_items s e))
   token_stays (other s) e = refl
   token_stays (broken s) e = let z : ⊥ = cc in absurd z
 
@@ -236,7 +236,7 @@ module _ (at : Place) (b : Bindings) where
   content_after m ts x = elim (is_open_front m x ts) as (λ z. Program LineContent) [
     | true ↦ stops
     | false ↦
-        line_content at b (m && is_gap x) ts >>= λ rest. returns (with_token x rest)
+        line_content at b (m && is_trivia x) ts >>= λ rest. returns (with_token x rest)
   ]
 
   tokens_stay_inside : (ts : List LineToken) → list_all is_kept_token ts ≡ true → line_content at b false ts ≡ returns (tokens (map token_as_it_is ts))
@@ -250,8 +250,8 @@ module _ (at : Place) (b : Bindings) where
   no_name (Some a) e = let z : ⊥ = cc in absurd z
   no_name None e = refl
 
-  -- a first token that is no gap and no name
-  first_stays : (t : LineToken) (ts : List LineToken) → is_open_front true (token_as_it_is t) ts ≡ false → is_gap (token_as_it_is t) ≡ false
+  -- a first token that is no trivia and no name
+  first_stays : (t : LineToken) (ts : List LineToken) → is_open_front true (token_as_it_is t) ts ≡ false → is_trivia (token_as_it_is t) ≡ false
       → (is_kept_token t && list_all is_kept_token ts) ≡ true
       → is_some (assignment_to t ts) ≡ false → line_content at b true (t ∷ ts) ≡ returns (tokens (map token_as_it_is (t ∷ ts)))
   first_stays t ts closed solid e n =
@@ -262,7 +262,7 @@ module _ (at : Place) (b : Bindings) where
       ∙ ap (λ (p : Program WrittenToken). p >>= content_after true ts) (token_stays t (first_so (is_kept_token t) (list_all is_kept_token ts) e))
       ∙ ap (λ x. elim x as (λ z. Program LineContent) [
         | true ↦ stops
-        | false ↦ line_content at b (true && is_gap (token_as_it_is t)) ts >>= λ rest. returns
+        | false ↦ line_content at b (true && is_trivia (token_as_it_is t)) ts >>= λ rest. returns
             (with_token (token_as_it_is t) rest)
       ]) closed
       ∙ ap (λ m. line_content at b m ts >>= λ rest. returns (with_token (token_as_it_is t) rest)) solid
@@ -273,7 +273,7 @@ module _ (at : Place) (b : Bindings) where
   pub tokens_stay : (ts : List LineToken) → list_all is_kept_token ts ≡ true → is_assignment ts ≡ false
       → line_content at b true ts ≡ returns (tokens (map token_as_it_is ts))
   tokens_stay [] e n = refl
-  tokens_stay (gap s ∷ ts) e n = ap (λ (p : Program LineContent). p >>= λ rest. returns (with_token (token_as_it_is (gap s)) rest)) (tokens_stay ts e n)
+  tokens_stay (trivia s ∷ ts) e n = ap (λ (p : Program LineContent). p >>= λ rest. returns (with_token (token_as_it_is (trivia s)) rest)) (tokens_stay ts e n)
   tokens_stay (run s ∷ ts) e n = first_stays (run s) ts (closed (list_any is_plain_dollar (items false 0 s)))
       (solid (list_any is_plain_dollar (items false 0 s))) e n
     where
@@ -281,7 +281,7 @@ module _ (at : Place) (b : Bindings) where
       closed true = refl
       closed false = refl
 
-      solid : (x : Bool) → is_gap (cond x (written_as Other s []) (written_as Word s s)) ≡ false
+      solid : (x : Bool) → is_trivia (cond x (written_as Other s []) (written_as Word s s)) ≡ false
       solid true = refl
       solid false = refl
   tokens_stay (quoted quote s ∷ ts) e n = first_stays (quoted quote s) ts refl refl e n

@@ -1,6 +1,6 @@
 -- Trees of lines that have nothing to expand, assign or rewrite keep their bytes.
 use Rattle.kc_macros_model.proofs.Common.{◌≡◌, ℕ, zero, suc, ◌+◌, ◌<◌, ◌≤◌, Bool, true, false, ◌&&◌, ◌||◌, cond, List, [], ◌∷◌, ◌++◌, length, take, drop, map, Option, Some, None, refl, sym, ap, ◌∙◌, subst, arith, not, nat_lt, nat_le, bytes_eq, codes, decimal, is_none, ◌==◌, All, list_all, list_any}
-use Rattle.kc_macros_model.proofs.Common.{first_so, second_so, leb-false, nat_list_eq_equiv, All-cons, All-nil, is_in_list, PhysicalLine, split_at_newlines, without_return, is_continued, joined_bytes, continuation_count, begins_help, MacroKind, MissingFile, SourceLoop, TooDeep, TooMany}
+use Rattle.kc_macros_model.proofs.Common.{first_so, second_so, nat_list_eq_equiv, All-cons, All-nil, is_in_list, PhysicalLine, split_at_newlines, without_return, is_continued, joined_bytes, continuation_count, begins_help, MacroKind, MissingFile, SourceLoop, TooDeep, TooMany}
 use Rattle.kc_macros_model.proofs.Common.{MAX_TEXT_BYTES, MAX_FILES, MAX_TREE_BYTES, MAX_OPEN_FILES, MAX_WORK, Place, Fault, Answer, read_file, Program, returns, fails, stops, does, ◌>>=◌, fault, line_tokens, Word, WrittenToken, written_as, line_content, environment_asked, meant_line, sources}
 use Rattle.kc_macros_model.proofs.Common.{form_of, with_nth_token, line_bytes, quoted_text_token, is_help_line, is_pattern, files_of_pattern, ExpandedFile, ReadingState, initial_state, Progress, progress, WrittenLine, written_line, counted, has_key, is_taken, free_key, key_of, stored_file, place}
 use Rattle.kc_macros_model.proofs.Common.{one_file, SourceReader, source_line, pattern_read, path_read, source_followed, short_line, content_written, line_written, bytes_of_lines, lines_written, help_after, lines_read, source_fault, contents_read, sourced_read, source_read, root_read, World}
@@ -9,6 +9,8 @@ use Rattle.std.specs.Str.{is_utf8}
 use Rattle.kc_macros_model.specs.TreeExpansion.{tree_read}
 use Rattle.kc_macros_model.specs.Worlds.{expansion}
 use Rattle.kc_macros_model.specs.PlainLines.{IsPlainTree, is_fault_of_sources, IsOwnFile, PlainTreesStay}
+use Rattle.kc_tree_model.proofs.SourceFaults.{faultless}
+use Rattle.kc_macros_model.specs.declared.source_kinds.TheConstants.{MACRO_KINDS}
 use Rattle.kc_macros_model.proofs.EnvironmentLines.{meant_same}
 use Rattle.kc_macros_model.proofs.CleanTexts.{neither_first}
 use Rattle.kc_macros_model.proofs.Keys.{same_text}
@@ -34,23 +36,23 @@ only_both w Q P x f h k = absurd h
 
 -- the outcome of a program that only reads files: no notices, no questions, and a value with the fact `P` or a fault of sourcing
 -- files
-record IsQuiet {A : Type 0} (P : A → Type 0) (o : Outcome A) : Type 0 where
+record TellsNothing {A : Type 0} (P : A → Type 0) (o : Outcome A) : Type 0 where
   notices : o.notices ≡ []
   questions : o.questions ≡ []
   value : (x : A) → o.ending ≡ returned x → P x
   faults : (f : Fault) → o.ending ≡ failed f → is_fault_of_sources f.kind ≡ true
 
 module _ {A : Type 0} (w : World) (P : A → Type 0) where
-  returned_quietly : (left : ℕ) (x : A) → P x → IsQuiet P (outcome true w left (returns x))
-  returned_quietly left x h = record {
+  returned_silently : (left : ℕ) (x : A) → P x → TellsNothing P (outcome true w left (returns x))
+  returned_silently left x h = record {
     notices = refl;
     questions = refl;
     value = λ y e. let q : x ≡ y = cc in subst P q h;
     faults = λ f e. absurd (let z : ⊥ = cc in z);
   }
 
-  failed_quietly : (left : ℕ) (g : Fault) → is_fault_of_sources g.kind ≡ true → IsQuiet P (outcome true w left (fails g))
-  failed_quietly left g h = record {
+  failed_silently : (left : ℕ) (g : Fault) → is_fault_of_sources g.kind ≡ true → TellsNothing P (outcome true w left (fails g))
+  failed_silently left g h = record {
     notices = refl;
     questions = refl;
     value = λ y e. absurd (let z : ⊥ = cc in z);
@@ -58,13 +60,13 @@ module _ {A : Type 0} (w : World) (P : A → Type 0) where
         subst (λ (x : Fault). is_fault_of_sources x.kind ≡ true) q h;
   }
 
-  quiet_outcome : (left : ℕ) (p : Program A) → OnlyReads w P p → IsQuiet P (outcome true w left p)
-  quiet_outcome left (returns x) h = returned_quietly left x h
-  quiet_outcome left (fails g) h = failed_quietly left g h
-  quiet_outcome left stops h = absurd h
-  quiet_outcome left (does (read_file path) k) h =
-      let q = quiet_outcome left (k (w.bytes path)) h in record { notices = q.notices; questions = q.questions; value = q.value; faults = q.faults }
-  quiet_outcome left x h = absurd h
+  silent_outcome : (left : ℕ) (p : Program A) → OnlyReads w P p → TellsNothing P (outcome true w left p)
+  silent_outcome left (returns x) h = returned_silently left x h
+  silent_outcome left (fails g) h = failed_silently left g h
+  silent_outcome left stops h = absurd h
+  silent_outcome left (does (read_file path) k) h =
+      let q = silent_outcome left (k (w.bytes path)) h in record { notices = q.notices; questions = q.questions; value = q.value; faults = q.faults }
+  silent_outcome left x h = absurd h
 
   -- the outcome of a program that only reads files is the same under any answers
   same_outcome : (answer : List ℕ → Option Answer) (left : ℕ) (p : Program A) → OnlyReads w P p → outcome true (record w { answer = answer }) left p
@@ -88,15 +90,9 @@ module _ (open_files : List (List ℕ)) (s : ReadingState) (path : List ℕ) whe
       by_tests false false false e = let z : ⊥ = cc in absurd z
 
   not_open : (bytes : List ℕ) → source_fault open_files s path (Some bytes) ≡ None → (is_in_list path open_files ≡ false) × (length open_files < MAX_OPEN_FILES)
-  not_open bytes e = by_tests (is_in_list path open_files) (nat_le MAX_OPEN_FILES (length open_files))
-      (nat_le MAX_FILES s.files || nat_lt MAX_TREE_BYTES (s.bytes + length bytes)) refl refl e
-    where
-      by_tests : (a b c : Bool) → is_in_list path open_files ≡ a → nat_le MAX_OPEN_FILES (length open_files) ≡ b
-          → cond a (Some SourceLoop) (cond b (Some TooDeep) (cond c (Some TooMany) None)) ≡ None
-          → (is_in_list path open_files ≡ false) × (length open_files < MAX_OPEN_FILES)
-      by_tests true b c f g e = let z : ⊥ = cc in absurd z
-      by_tests false true c f g e = let z : ⊥ = cc in absurd z
-      by_tests false false c f g e = (f, leb-false MAX_OPEN_FILES (length open_files) g)
+  not_open bytes e =
+      let f = faultless MACRO_KINDS (is_in_list path open_files) true (length open_files) s.files (s.bytes + length bytes) e in
+      (f.closed, f.few_open)
 
 module _ (w : World) where
   data AreOwnFiles : List ExpandedFile → Type 0 where
@@ -388,7 +384,7 @@ module _ (w : World) where
 pub plain_trees_stay : PlainTreesStay
 unfolding expansion
 plain_trees_stay w paths root answer tree =
-    let q = quiet_outcome w (AreOwnFiles w) MAX_WORK (tree_read root) (tree_own w paths root tree) in (
+    let q = silent_outcome w (AreOwnFiles w) MAX_WORK (tree_read root) (tree_own w paths root tree) in (
       record { notices = q.notices; questions = q.questions; files = λ files e. all_own w (q.value files e); faults = q.faults },
       same_outcome w (AreOwnFiles w) answer MAX_WORK (tree_read root) (tree_own w paths root tree),
     )

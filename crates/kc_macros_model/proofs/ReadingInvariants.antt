@@ -1,7 +1,9 @@
 -- What a reading keeps: a fact of its states, of the lines that are written for a file, and of its expanded files.
-use Rattle.kc_macros_model.proofs.Common.{◌≡◌, ℕ, suc, ◌+◌, ◌<◌, ◌≤◌, Bool, true, false, cond, ◌||◌, List, [], ◌∷◌, ◌++◌, length, take, drop, map, Some, None, refl, arith, nat_lt, nat_le, leb-false, ltb-false, is_in_list, PhysicalLine, split_at_newlines, without_return, joined_bytes}
-use Rattle.kc_macros_model.proofs.Common.{continuation_count, TooMany, SourceLoop, TooDeep, MAX_FILES, MAX_TREE_BYTES, MAX_OPEN_FILES, MAX_LISTED_NAMES, Place, Variable, ReadingState, Progress, WrittenLine, bound, with_choice, with_listed, counted, stored_file, list_name, bytes_of_lines}
+use Rattle.kc_macros_model.proofs.Common.{◌≡◌, ℕ, suc, ◌+◌, ◌<◌, ◌≤◌, true, false, List, [], ◌∷◌, ◌++◌, length, take, drop, map, Some, None, arith, is_in_list, PhysicalLine, split_at_newlines, without_return, joined_bytes}
+use Rattle.kc_macros_model.proofs.Common.{continuation_count, MAX_FILES, MAX_TREE_BYTES, MAX_LISTED_NAMES, Place, Variable, ReadingState, Progress, WrittenLine, bound, with_choice, with_listed, counted, stored_file, list_name, bytes_of_lines}
 use Rattle.kc_macros_model.proofs.Common.{lines_written, help_after, source_fault, IsWrittenFor, IsWithinLimits, initial_state, ExpandedFile}
+use Rattle.kc_tree_model.proofs.SourceFaults.{faultless}
+use Rattle.kc_macros_model.specs.declared.source_kinds.TheConstants.{MACRO_KINDS}
 use Rattle.kc_macros_model.proofs.CleanTexts.{IsClean}
 use Rattle.kc_macros_model.proofs.LineCounts.{AreCleanLines}
 use Rattle.kc_macros_model.proofs.LinePlaces.{AreEnded}
@@ -36,17 +38,9 @@ pub record Invariant (c : Comparison) (root : List ℕ) : Type 1 where
 -- a source that is no fault is within the limits
 pub room_for : (open_files : List (List ℕ)) (s : ReadingState) (path bytes : List ℕ) → source_fault open_files s path (Some bytes) ≡ None
     → (s.files < MAX_FILES) × (s.bytes + length bytes ≤ MAX_TREE_BYTES)
-room_for open_files s path bytes e = by_tests (is_in_list path open_files) (nat_le MAX_OPEN_FILES (length open_files)) (nat_le MAX_FILES s.files)
-    (nat_lt MAX_TREE_BYTES (s.bytes + length bytes)) refl refl e
-  where
-    by_tests : (a b c d : Bool) → nat_le MAX_FILES s.files ≡ c → nat_lt MAX_TREE_BYTES (s.bytes + length bytes) ≡ d
-        → cond a (Some SourceLoop) (cond b (Some TooDeep) (cond (c || d) (Some TooMany) None)) ≡ None
-        → (s.files < MAX_FILES) × (s.bytes + length bytes ≤ MAX_TREE_BYTES)
-    by_tests true b c d f g e = absurd (let z : ⊥ = cc in z)
-    by_tests false true c d f g e = absurd (let z : ⊥ = cc in z)
-    by_tests false false true d f g e = absurd (let z : ⊥ = cc in z)
-    by_tests false false false true f g e = absurd (let z : ⊥ = cc in z)
-    by_tests false false false false f g e = (leb-false MAX_FILES s.files f, ltb-false MAX_TREE_BYTES (s.bytes + length bytes) g)
+room_for open_files s path bytes e =
+    let f = faultless MACRO_KINDS (is_in_list path open_files) true (length open_files) s.files (s.bytes + length bytes) e in
+    (f.few_files, f.few_bytes)
 
 -- the first file is within the limits
 pub first_within : (n : ℕ) → n ≤ MAX_TREE_BYTES → IsWithinLimits (counted n initial_state)

@@ -1,8 +1,8 @@
 -- The written tokens of a line have nothing left to expand.
 use Rattle.kc_macros_model.proofs.Common.{◌≡◌, ℕ, suc, ◌<◌, Bool, true, false, ◌&&◌, ◌||◌, cond, List, [], ◌∷◌, ◌++◌, length, take, Option, Some, None, refl, sym, ap, ◌∙◌, subst, append_assoc, arith, length-append, take-append_seam, ◌==◌, pred, not, nat_lt, is_none, list_all, list_any, first_so}
-use Rattle.kc_macros_model.proofs.Common.{second_so, eqb-true, append-nil, is_white_byte, Place, Program, returns, stops, ◌>>=◌, Item, item_bytes, first_item, items, is_reference, is_plain_dollar, is_unterminated, Value, Bindings, LineToken, gap, run, quoted, other, broken, token_bytes, extent}
-use Rattle.kc_macros_model.proofs.Common.{is_run_byte, run_token, quoted_token, first_token, line_tokens, Gap, Word, Quoted, Other, is_bare_byte, is_keyword, escaped_text, in_quotes_of, WrittenToken, written_as, token_of_text, token_of_value, written_items, token_of_body, run_value, written_token}
-use Rattle.kc_macros_model.proofs.Common.{AssignedText, assignment_at, LineContent, assigns, tokens, with_token, is_gap, is_unknown, is_open_front, assignment_or, line_content, environment_asked, form_of, line_bytes, World, returned, ending_in, has_dollar, is_kept_token, is_assignment}
+use Rattle.kc_macros_model.proofs.Common.{second_so, eqb-true, append-nil, is_white_byte, Place, Program, returns, stops, ◌>>=◌, Item, item_bytes, first_item, items, is_reference, is_plain_dollar, is_unterminated, Value, Bindings, LineToken, trivia, run, quoted, other, broken, token_bytes, extent}
+use Rattle.kc_macros_model.proofs.Common.{is_run_byte, run_token, quoted_token, first_token, line_tokens, Trivia, Word, Quoted, Other, is_bare_byte, is_keyword, escaped_text, in_quotes_of, WrittenToken, written_as, token_of_text, token_of_value, written_items, token_of_quoted_text, run_value, written_token}
+use Rattle.kc_macros_model.proofs.Common.{AssignedText, assignment_at, LineContent, assigns, tokens, with_token, is_trivia, is_unknown, is_open_front, assignment_or, line_content, environment_asked, form_of, line_bytes, World, returned, ending_in, has_dollar, is_kept_token, is_assignment}
 use Rattle.kc_macros_model.proofs.Common.{is_plain_form, tokens_as_they_are, plain_path, is_one_of, is_copied, no_paths}
 use Rattle.std.proofs.lemmas.Bool.{lt-ltb}
 use Rattle.kc_tokens.specs.Token.{is_word_byte}
@@ -12,7 +12,7 @@ use Rattle.kc_macros_model.proofs.CleanTexts.{neither_first, neither_second}
 use Rattle.kc_macros_model.proofs.ExpansionByRules.{split_return, same_return}
 use Rattle.kc_macros_model.proofs.PlainTokens.{plain_items, no_plain_dollar, no_unterminated, all_kept, run_kept}
 use Rattle.kc_macros_model.proofs.PlainLines.{plain_lines_stay}
-use Rattle.kc_macros_model.proofs.QuotedBodies.{IsQuotedBody, escaped_is_body, body_items, body_extent, inside_written, byte_first}
+use Rattle.kc_macros_model.proofs.QuotedTexts.{IsQuotedText, escaped_is_quoted_text, body_items, body_extent, inside_written, byte_first}
 use Rattle.kc_macros_model.proofs.TextItems.{IsRow, no_items, then_byte, then_reference, then_unterminated, is_row}
 use Rattle.kc_macros_model.proofs.TokenCuts.{ends_run, begins_with_run, AreWordBytes, no_word_bytes, next_word_byte, IsQuote, double_quote, single_quote, IsCut, cut_white, cut_comment, cut_run, cut_broken, cut_quoted, cut_open, cut_other, AreCuts, no_cuts, next_cut, cuts_of}
 use Rattle.kc_macros_model.proofs.TokensOfLines.{tokens_passed}
@@ -32,12 +32,12 @@ kept_front c s more y t first bytes parts kept h =
     ∙ ap (λ b. b && list_all is_kept_token (line_tokens 0 y)) kept
     ∙ h
 
--- a byte that isn't one of a run
-other_byte : (c k : ℕ) → is_run_byte c ≡ true → is_run_byte k ≡ false → (c == k) ≡ false
-other_byte c k r n = by_test (c == k) refl
+-- a byte of some kind isn't one that isn't of this kind
+pub other_byte : (c k : ℕ) (p : ℕ → Bool) → p c ≡ true → p k ≡ false → (c == k) ≡ false
+other_byte c k p r n = by_test (c == k) refl
   where
     by_test : (b : Bool) → (c == k) ≡ b → b ≡ false
-    by_test true e = let z : true ≡ false = sym r ∙ ap is_run_byte (eqb-true c k e) ∙ n in let y : ⊥ = cc in absurd y
+    by_test true e = let z : true ≡ false = sym r ∙ ap p (eqb-true c k e) ∙ n in let y : ⊥ = cc in absurd y
     by_test false e = refl
 
 none_of_five : (a b c d e : Bool) → a ≡ false → b ≡ false → c ≡ false → d ≡ false → e ≡ false → (a || b || c || d || e) ≡ false
@@ -45,11 +45,12 @@ none_of_five a b c d e ha hb hc hd he = ap (λ x. x || b || c || d || e) ha ∙ 
     ∙ ap (λ x. false || false || false || x || e) hd ∙ he
 
 not_white : (c : ℕ) → is_run_byte c ≡ true → is_white_byte c ≡ false
-not_white c r = none_of_five (c == 9) (c == 11) (c == 12) (c == 13) (c == 32) (other_byte c 9 r refl) (other_byte c 11 r refl) (other_byte c 12 r refl)
-    (other_byte c 13 r refl) (other_byte c 32 r refl)
+not_white c r =
+    none_of_five (c == 9) (c == 11) (c == 12) (c == 13) (c == 32) (other_byte c 9 is_run_byte r refl) (other_byte c 11 is_run_byte r refl)
+    (other_byte c 12 is_run_byte r refl) (other_byte c 13 is_run_byte r refl) (other_byte c 32 is_run_byte r refl)
 
 -- words
-no_dollars : {s : List ℕ} → AreWordBytes s → has_dollar s ≡ false
+pub no_dollars : {s : List ℕ} → AreWordBytes s → has_dollar s ≡ false
 no_dollars no_word_bytes = refl
 no_dollars (next_word_byte {c = c} {s = s} r e h) = ap (λ b. b || has_dollar s) e ∙ no_dollars h
 
@@ -61,19 +62,19 @@ word_extent (next_word_byte {c = c} {s = s} r e h) y n =
     ∙ ap (λ i. suc (extent false ends_run (pred (length (item_bytes i))) (s ++ y))) (byte_first false c (s ++ y) e refl)
     ∙ ap suc (word_extent h y n)
 
-word_first : (c : ℕ) (s y : List ℕ) → AreWordBytes (c ∷ s) → is_run_byte c ≡ true → begins_with_run y ≡ false → first_token c (s ++ y) ≡ run (c ∷ s)
+pub word_first : (c : ℕ) (s y : List ℕ) → AreWordBytes (c ∷ s) → is_run_byte c ≡ true → begins_with_run y ≡ false → first_token c (s ++ y) ≡ run (c ∷ s)
 word_first c s y h r n =
     let z = s ++ y in
     let as_run = run_token (take (extent false ends_run 0 (c ∷ z)) (c ∷ z)) in
     let as_quoted = cond (c == 34 || (c == 39)) (quoted_token (extent true (λ d. d == c) 0 z) c z) (other (c ∷ [])) in
-    ap (λ b. cond b (gap (c ∷ [])) (cond (c == 35) (gap (c ∷ z)) (cond (is_run_byte c) as_run as_quoted))) (not_white c r)
-    ∙ ap (λ b. cond b (gap (c ∷ z)) (cond (is_run_byte c) as_run as_quoted)) (other_byte c 35 r refl)
+    ap (λ b. cond b (trivia (c ∷ [])) (cond (c == 35) (trivia (c ∷ z)) (cond (is_run_byte c) as_run as_quoted))) (not_white c r)
+    ∙ ap (λ b. cond b (trivia (c ∷ z)) (cond (is_run_byte c) as_run as_quoted)) (other_byte c 35 is_run_byte r refl)
     ∙ ap (λ b. cond b as_run as_quoted) r
     ∙ ap (λ k. run_token (take k (c ∷ z))) (word_extent h y n)
     ∙ ap (λ s. run_token s) (take-append_seam (c ∷ s) y)
     ∙ ap (λ b. cond b (broken (c ∷ s)) (run (c ∷ s))) (no_unterminated (plain_items false (c ∷ s) (no_dollars h)))
 
-first_word : {c : ℕ} {s : List ℕ} → AreWordBytes (c ∷ s) → is_run_byte c ≡ true
+pub first_word : {c : ℕ} {s : List ℕ} → AreWordBytes (c ∷ s) → is_run_byte c ≡ true
 first_word (next_word_byte r e h) = r
 
 word_kept : (c : ℕ) (s y : List ℕ) → AreWordBytes (c ∷ s) → begins_with_run y ≡ false → IsKept y → IsKept ((c ∷ s) ++ y)
@@ -84,14 +85,10 @@ bare_words [] e = no_word_bytes
 bare_words (c ∷ s) e =
     let word : is_word_byte c ≡ true = first_so (is_word_byte c) (not (c == 46 || (c == 47))) (first_so (is_bare_byte c) (list_all is_bare_byte s) e) in
     let in_run : is_run_byte c ≡ true = ap (λ b. b || (c == 36)) word in
-    next_word_byte in_run (not_dollar c word (c == 36) refl) (bare_words s (second_so (is_bare_byte c) (list_all is_bare_byte s) e))
-  where
-    not_dollar : (c : ℕ) → is_word_byte c ≡ true → (b : Bool) → (c == 36) ≡ b → b ≡ false
-    not_dollar c w true e = let z : true ≡ false = sym w ∙ ap is_word_byte (eqb-true c 36 e) in let y : ⊥ = cc in absurd y
-    not_dollar c w false e = refl
+    next_word_byte in_run (other_byte c 36 is_word_byte word refl) (bare_words s (second_so (is_bare_byte c) (list_all is_bare_byte s) e))
 
 -- quoted texts
-quoted_first : (q : ℕ) (s y : List ℕ) → (q == q) ≡ true → (92 == q) ≡ false → IsQuotedBody q s → quoted_token (extent true (λ d. d == q) 0 (s ++ q ∷ y)) q
+pub quoted_first : (q : ℕ) (s y : List ℕ) → (q == q) ≡ true → (92 == q) ≡ false → IsQuotedText q s → quoted_token (extent true (λ d. d == q) 0 (s ++ q ∷ y)) q
     (s ++ q ∷ y) ≡ quoted q s
 quoted_first q s y same other_quote h =
     let z = s ++ q ∷ y in
@@ -102,7 +99,7 @@ quoted_first q s y same other_quote h =
     ∙ ap (λ b. cond b (broken (q ∷ z)) (cond (nat_lt (length s) (length z)) (quoted q s) (other (q ∷ z)))) (no_unterminated (body_items h))
     ∙ ap (λ b. cond b (quoted q s) (other (q ∷ z))) (lt-ltb (length s) (length z) less)
 
-quoted_kept : {q : ℕ} → IsQuote q → (s y : List ℕ) → IsQuotedBody q s → IsKept y → IsKept ((q ∷ (s ++ q ∷ [])) ++ y)
+quoted_kept : {q : ℕ} → IsQuote q → (s y : List ℕ) → IsQuotedText q s → IsKept y → IsKept ((q ∷ (s ++ q ∷ [])) ++ y)
 quoted_kept double_quote s y h k =
     subst (λ z. IsKept (34 ∷ z)) (sym (append_assoc s (34 ∷ []) y))
     (kept_front 34 (s ++ 34 ∷ y) (s ++ 34 ∷ []) y (quoted 34 s) (quoted_first 34 s y refl refl h) refl (sym (append_assoc s (34 ∷ []) y))
@@ -133,18 +130,18 @@ record IsAfter (rest y : List ℕ) : Type 0 where
   front : begins_with_run rest ≡ false → begins_with_run y ≡ false
   none : rest ≡ [] → y ≡ []
 
-gap_written : (c : ℕ) (y : List ℕ) → IsKept y → IsWrittenFront c (token_of_text []) y
-gap_written c y k = record { kept = k; front = λ r. refl }
+trivia_written : (c : ℕ) (y : List ℕ) → IsKept y → IsWrittenFront c (token_of_text []) y
+trivia_written c y k = record { kept = k; front = λ r. refl }
 
 run_front : {A : Type 0} (c : ℕ) → is_run_byte c ≡ true → is_run_byte c ≡ false → A
 run_front c r n = let z : true ≡ false = sym r ∙ n in let y : ⊥ = cc in absurd y
 
 text_written : (c : ℕ) (text y : List ℕ) → is_run_byte c ≡ true → IsKept y → begins_with_run y ≡ false → IsWrittenFront c (token_of_text text) y
-text_written c [] y r k n = gap_written c y k
+text_written c [] y r k n = trivia_written c y k
 text_written c (d ∷ s) y r k n = by_tests (list_all is_bare_byte (d ∷ s)) (is_keyword (d ∷ s)) refl
   where
     in_quotes : IsWrittenFront c (written_as Quoted (in_quotes_of 34 (d ∷ s)) (d ∷ s)) y
-    in_quotes = record { kept = quoted_kept double_quote (escaped_text 34 (d ∷ s)) y (escaped_is_body 34 (d ∷ s)) k; front = λ m. run_front c r m }
+    in_quotes = record { kept = quoted_kept double_quote (escaped_text 34 (d ∷ s)) y (escaped_is_quoted_text 34 (d ∷ s)) k; front = λ m. run_front c r m }
 
     by_tests : (a b : Bool) → list_all is_bare_byte (d ∷ s) ≡ a → IsWrittenFront c
         (cond (a && not b) (written_as Word (d ∷ s) (d ∷ s)) (written_as Quoted (in_quotes_of 34 (d ∷ s)) (d ∷ s))) y
@@ -193,28 +190,28 @@ module _ (w : World) (at : Place) (b : Bindings) where
   -- a token is written in front of what is written of those after it
   token_written : (c : ℕ) (s : List ℕ) (t : LineToken) (rest y : List ℕ) (x : WrittenToken) → IsCut c s t rest → Writes t x → is_unknown x ≡ false
       → is_left_with_dollar x ≡ false → IsAfter rest y → IsWrittenFront c x y
-  token_written c s (gap z) rest y x (cut_white h) e u l a =
-      subst (λ z. IsWrittenFront c z y) (same_return (written_as Gap (c ∷ []) []) x e)
+  token_written c s (trivia z) rest y x (cut_white h) e u l a =
+      subst (λ z. IsWrittenFront c z y) (same_return (written_as Trivia (c ∷ []) []) x e)
       (record {
-        kept = kept_front c y [] y (gap (c ∷ []))
-            (ap (λ b. cond b (gap (c ∷ [])) (cond (c == 35) (gap (c ∷ y))
+        kept = kept_front c y [] y (trivia (c ∷ []))
+            (ap (λ b. cond b (trivia (c ∷ [])) (cond (c == 35) (trivia (c ∷ y))
             (cond (is_run_byte c) (run_token (take (extent false ends_run 0 (c ∷ y)) (c ∷ y)))
             (cond (c == 34 || (c == 39)) (quoted_token (extent true (λ d. d == c) 0 y) c y) (other (c ∷ [])))))) h) refl refl refl a.kept;
         front = λ m. m;
       })
-  token_written c s (gap z) rest y x (cut_comment h) e u l a =
+  token_written c s (trivia z) rest y x (cut_comment h) e u l a =
       let none : y ≡ [] = a.none refl in
-      subst (λ z. IsWrittenFront c z y) (same_return (written_as Gap (c ∷ s) []) x e)
+      subst (λ z. IsWrittenFront c z y) (same_return (written_as Trivia (c ∷ s) []) x e)
       (record {
-        kept = subst (λ z. IsKept (c ∷ (s ++ z))) (sym none) (kept_front c (s ++ []) s [] (gap (c ∷ s))
+        kept = subst (λ z. IsKept (c ∷ (s ++ z))) (sym none) (kept_front c (s ++ []) s [] (trivia (c ∷ s))
             (ap (λ z. first_token c z) (append-nil s) ∙ h) refl refl refl refl);
         front = λ m. m;
       })
   token_written c s (run z) rest y x (cut_run {r = r} h unterminated words ends) e u l a = run_written c r y x h unterminated words e u l a.kept (a.front ends)
   token_written c s (broken z) rest y x cut_broken e u l a = let z : ⊥ = cc in absurd z
   token_written c s (quoted q z) rest y x (cut_quoted {inside = inside} quote h) e u l a =
-      let (body, eb, e2) = split_return w (written_items at b c (items true 0 inside)) (λ body. returns (token_of_body c body)) x e in
-      subst (λ z. IsWrittenFront c z y) (same_return (token_of_body c body) x e2)
+      let (body, eb, e2) = split_return w (written_items at b c (items true 0 inside)) (λ body. returns (token_of_quoted_text c body)) x e in
+      subst (λ z. IsWrittenFront c z y) (same_return (token_of_quoted_text c body) x e2)
       (record { kept = quoted_kept quote body.bytes y (inside_written w at b c h body eb) a.kept; front = λ m. m })
   token_written c s (other z) rest y x (cut_open h) e u l a =
       let none : y ≡ [] = a.none refl in
@@ -230,9 +227,9 @@ module _ (w : World) (at : Place) (b : Bindings) where
       subst (λ z. IsWrittenFront c z y) (same_return (written_as Other (c ∷ []) []) x e)
       (record {
         kept = kept_front c y [] y (other (c ∷ []))
-            (ap (λ b. cond b (gap (c ∷ [])) (cond (c == 35) (gap (c ∷ y))
+            (ap (λ b. cond b (trivia (c ∷ [])) (cond (c == 35) (trivia (c ∷ y))
             (cond (is_run_byte c) as_run (cond (c == 34 || (c == 39)) as_quoted (other (c ∷ [])))))) white
-            ∙ ap (λ b. cond b (gap (c ∷ y)) (cond (is_run_byte c) as_run (cond (c == 34 || (c == 39)) as_quoted (other (c ∷ []))))) comment
+            ∙ ap (λ b. cond b (trivia (c ∷ y)) (cond (is_run_byte c) as_run (cond (c == 34 || (c == 39)) as_quoted (other (c ∷ []))))) comment
             ∙ ap (λ b. cond b as_run (cond (c == 34 || (c == 39)) as_quoted (other (c ∷ [])))) in_run
             ∙ ap (λ b. cond b as_quoted (other (c ∷ []))) quote) refl refl refl a.kept;
         front = λ m. m;
@@ -272,12 +269,12 @@ module _ (w : World) (at : Place) (b : Bindings) where
       (after_token c s (line_bytes us) x (f (line_bytes us) (neither_first (is_unknown x) (list_any is_unknown us) again.known)
       (neither_first (is_left_with_dollar x) (list_any is_left_with_dollar us) again.left) (ih us (subst (λ z. ending_in w p ≡ returned z) eu ec) others)))
 
-  or_gap : (c : ℕ) (s rest : List ℕ) (p : Program LineContent) (a : AssignedText) (v : Value) (ts : List WrittenToken)
+  or_trivia : (c : ℕ) (s rest : List ℕ) (p : Program LineContent) (a : AssignedText) (v : Value) (ts : List WrittenToken)
       → ((us : List WrittenToken) → Content p us → AreSettled us → IsAfter rest (line_bytes us))
       → Content (assignment_or (p >>= λ more. returns (with_token (token_of_text []) more)) a v) ts → AreSettled ts → IsAfter (c ∷ s) (line_bytes ts)
-  or_gap c s rest p a None ts ih e settled = let z : ⊥ = cc in absurd z
-  or_gap c s rest p a (Some []) ts ih e settled = next_written c s rest (token_of_text []) p ts ih (λ y u l k. gap_written c y k.kept) e settled
-  or_gap c s rest p a (Some (d ∷ name)) ts ih e settled = let z : ⊥ = cc in absurd z
+  or_trivia c s rest p a None ts ih e settled = let z : ⊥ = cc in absurd z
+  or_trivia c s rest p a (Some []) ts ih e settled = next_written c s rest (token_of_text []) p ts ih (λ y u l k. trivia_written c y k.kept) e settled
+  or_trivia c s rest p a (Some (d ∷ name)) ts ih e settled = let z : ⊥ = cc in absurd z
 
   content_written_again : {s : List ℕ} {row : List LineToken} → AreCuts s row → (may_assign : Bool) (ts : List WrittenToken)
       → Content (line_content at b may_assign row) ts → AreSettled ts → IsAfter s (line_bytes ts)
@@ -298,16 +295,16 @@ module _ (w : World) (at : Place) (b : Bindings) where
           → Content (elim a as (λ z. Program LineContent) [
             | Some a ↦ run_value at b (token_bytes t) >>= assignment_or (line_content at b true row >>= λ rest. returns (with_token (token_of_text []) rest)) a
             | None ↦ written_token at b t >>= λ x. elim (is_open_front may_assign x row) as (λ z. Program LineContent)
-                [ true ↦ stops | false ↦ line_content at b (may_assign && is_gap x) row >>= λ rest. returns (with_token x rest) ]
+                [ true ↦ stops | false ↦ line_content at b (may_assign && is_trivia x) row >>= λ rest. returns (with_token x rest) ]
           ]) ts → IsAfter (c ∷ s) (line_bytes ts)
       by_name ih None e =
           let (x, ex, e2) = split_return w (written_token at b t) (λ x. elim (is_open_front may_assign x row) as (λ z. Program LineContent)
-          [ true ↦ stops | false ↦ line_content at b (may_assign && is_gap x) row >>= λ rest. returns (with_token x rest) ]) (tokens ts) e in
-          goes_on x ex (may_assign && is_gap x) (ih (may_assign && is_gap x)) (is_open_front may_assign x row) e2
+          [ true ↦ stops | false ↦ line_content at b (may_assign && is_trivia x) row >>= λ rest. returns (with_token x rest) ]) (tokens ts) e in
+          goes_on x ex (may_assign && is_trivia x) (ih (may_assign && is_trivia x)) (is_open_front may_assign x row) e2
       by_name ih (Some a) e =
           let (v, ev, e2) = split_return w (run_value at b (token_bytes t))
           (assignment_or (line_content at b true row >>= λ rest. returns (with_token (token_of_text []) rest)) a) (tokens ts) e in
-          or_gap c s rest (line_content at b true row) a v ts (ih true) e2 settled
+          or_trivia c s rest (line_content at b true row) a v ts (ih true) e2 settled
 
 pub nothing_is_left : NothingIsLeftToExpand
 nothing_is_left w at b text ts e known left =

@@ -1,8 +1,8 @@
 -- The tokens of a line one by one, each with the bytes after it.
 use Rattle.kc_macros_model.proofs.Common.{◌≡◌, ℕ, zero, suc, ◌<◌, ◌≤◌, Bool, true, false, ◌||◌, cond, List, [], ◌∷◌, ◌++◌, length, take, drop, refl, sym, ap, ◌∙◌, subst, append_assoc, arith, length-append, ◌==◌, pred, not, nat_lt, list_any, take-append-drop, append-nil, eqb-true, ltb-true}
-use Rattle.kc_macros_model.proofs.Common.{is_white_byte, item_bytes, first_item, items, is_unterminated, LineToken, gap, run, quoted, other, broken, token_bytes, extent, is_run_byte, quoted_token, first_token, line_tokens, has_dollar}
+use Rattle.kc_macros_model.proofs.Common.{is_white_byte, item_bytes, first_item, items, is_unterminated, LineToken, trivia, run, quoted, other, broken, token_bytes, extent, is_run_byte, quoted_token, first_token, line_tokens, has_dollar}
 use Rattle.kc_macros_model.proofs.CleanTexts.{neither_first, neither_second}
-use Rattle.kc_macros_model.proofs.QuotedBodies.{byte_first, IsQuotedInside, up_to_quote}
+use Rattle.kc_macros_model.proofs.QuotedTexts.{byte_first, IsQuotedInside, up_to_quote}
 use Rattle.kc_macros_model.proofs.TokensOfLines.{tokens_passed, extent_ends}
 
 abbrev pub ends_run : ℕ → Bool
@@ -24,8 +24,8 @@ pub data IsQuote : ℕ → Type 0 where
 
 -- this token is the first of a line that begins with byte `c` and then `s`, and these are the bytes after the token
 pub data IsCut (c : ℕ) (s : List ℕ) : LineToken → List ℕ → Type 0 where
-  cut_white : is_white_byte c ≡ true → IsCut c s (gap (c ∷ [])) s
-  cut_comment : first_token c s ≡ gap (c ∷ s) → IsCut c s (gap (c ∷ s)) []
+  cut_white : is_white_byte c ≡ true → IsCut c s (trivia (c ∷ [])) s
+  cut_comment : first_token c s ≡ trivia (c ∷ s) → IsCut c s (trivia (c ∷ s)) []
   cut_run : {r rest : List ℕ} → is_run_byte c ≡ true → list_any is_unterminated (items false 0 (c ∷ r)) ≡ false
       → (has_dollar (c ∷ r) ≡ false → AreWordBytes (c ∷ r)) → begins_with_run rest ≡ false → IsCut c s (run (c ∷ r)) rest
   cut_broken : {t rest : List ℕ} → IsCut c s (broken t) rest
@@ -156,8 +156,8 @@ cut_at c s = by_tests (is_white_byte c) (c == 35) (is_run_byte c) (c == 34 || (c
     as_quoted = quoted_token (extent true (λ d. d == c) 0 s) c s
 
     by_tests : (x y z u : Bool) → is_white_byte c ≡ x → (c == 35) ≡ y → is_run_byte c ≡ z → (c == 34 || (c == 39)) ≡ u
-        → first_token c s ≡ cond x (gap (c ∷ [])) (cond y (gap (c ∷ s)) (cond z as_run (cond u as_quoted (other (c ∷ [])))))
-        → IsCutAt c s (cond x (gap (c ∷ [])) (cond y (gap (c ∷ s)) (cond z as_run (cond u as_quoted (other (c ∷ []))))))
+        → first_token c s ≡ cond x (trivia (c ∷ [])) (cond y (trivia (c ∷ s)) (cond z as_run (cond u as_quoted (other (c ∷ [])))))
+        → IsCutAt c s (cond x (trivia (c ∷ [])) (cond y (trivia (c ∷ s)) (cond z as_run (cond u as_quoted (other (c ∷ []))))))
     by_tests true y z u hx hy hz hu f = record { more = []; rest = s; begins = refl; parts = refl; cut = cut_white hx }
     by_tests false true z u hx hy hz hu f = record { more = s; rest = []; begins = refl; parts = sym (append-nil s); cut = cut_comment f }
     by_tests false false true u hx hy hz hu f =

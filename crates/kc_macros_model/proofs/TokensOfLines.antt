@@ -1,6 +1,6 @@
 -- A line and the tokens into which it is cut.
 use Rattle.kc_macros_model.proofs.Common.{◌≡◌, ℕ, zero, suc, ◌<◌, ◌≤◌, Bool, true, false, ◌||◌, cond, List, [], ◌∷◌, ◌++◌, length, take, drop, refl, sym, ap, ◌∙◌, subst, append_assoc, arith, length-append, ◌==◌, pred, not, nat_lt, list_any, take-append-drop, append-nil, eqb-true, ltb-true}
-use Rattle.kc_macros_model.proofs.Common.{is_white_byte, item_bytes, first_item, items, is_unterminated, LineToken, gap, run, quoted, other, broken, token_bytes, extent, is_run_byte, run_token, quoted_token, first_token, line_tokens, bytes_of_tokens}
+use Rattle.kc_macros_model.proofs.Common.{is_white_byte, item_bytes, first_item, items, is_unterminated, LineToken, trivia, run, quoted, other, broken, token_bytes, extent, is_run_byte, run_token, quoted_token, first_token, line_tokens, bytes_of_tokens}
 
 pub tokens_passed : (xs ys : List ℕ) → line_tokens (length xs) (xs ++ ys) ≡ line_tokens 0 ys
 tokens_passed [] ys = refl
@@ -78,7 +78,7 @@ token_front : (c : ℕ) (s : List ℕ) → IsFront (token_bytes (first_token c s
 token_front c s = by_tests (is_white_byte c) (c == 35) (is_run_byte c) (c == 34 || (c == 39)) refl
   where
     by_tests : (w h r q : Bool) → is_run_byte c ≡ r
-        → IsFront (token_bytes (cond w (gap (c ∷ [])) (cond h (gap (c ∷ s))
+        → IsFront (token_bytes (cond w (trivia (c ∷ [])) (cond h (trivia (c ∷ s))
         (cond r (run_token (take (extent false (λ d. not (is_run_byte d)) 0 (c ∷ s)) (c ∷ s)))
         (cond q (quoted_token (extent true (λ d. d == c) 0 s) c s) (other (c ∷ []))))))) c s
     by_tests true h r q e = front_one c s

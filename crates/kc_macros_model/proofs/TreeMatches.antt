@@ -1,7 +1,7 @@
 -- The reading of a tree in one world, compared with that in a world that may have more answers.
 use Rattle.kc_macros_model.proofs.Common.{◌≡◌, ◌⊎◌, inl, inr, arith, ℕ, zero, suc, ◌+◌, ◌≤◌, Bool, true, false, ◌||◌, cond, List, [], ◌∷◌, ◌++◌, length, take, drop, map, Option, Some, None, refl, sym, ap, ◌∙◌, subst, not, nat_lt, filter, ◌==◌, list_any, ltb-false, is_in_list, PhysicalLine}
 use Rattle.kc_macros_model.proofs.Common.{split_at_newlines, without_return, is_continued, joined_bytes, continuation_count, MacroKind, MissingFile, TooMany, SourceLoop, MAX_TEXT_BYTES, MAX_TREE_BYTES, MAX_OPEN_FILES, MAX_LISTED_NAMES, Place, Fault, Program, returns, fails, stops, ◌>>=◌, Value}
-use Rattle.kc_macros_model.proofs.Common.{fault, line_tokens, Word, WrittenToken, written_as, LineContent, meant_line, SourceSort, LineForm, plain, bare_prompt, replaced_by, named_choice, sources, form_of, without_gaps, with_nth_token, line_bytes, is_help_line, is_undecided, with_replacement}
+use Rattle.kc_macros_model.proofs.Common.{fault, line_tokens, Word, WrittenToken, written_as, LineContent, meant_line, SourceSort, LineForm, plain, bare_prompt, replaced_by, named_choice, sources, form_of, without_trivia, with_nth_token, line_bytes, is_help_line, is_undecided, with_replacement}
 use Rattle.kc_macros_model.proofs.Common.{is_pattern, matches_name, path_pieces, sorted, files_of_pattern, ExpandedFile, ReadingState, initial_state, Progress, progress, WrittenLine, with_choice, with_listed, counted, stored_file, place, SourceTarget, one_file, file_list, sourced_path, SourceReader}
 use Rattle.kc_macros_model.proofs.Common.{path_meant, list_name, pattern_read, path_read, source_followed, form_written, short_line, tokens_written, content_written, line_written, bytes_of_lines, lines_written, help_after, lines_read, source_fault, contents_read, sourced_read, source_read}
 use Rattle.kc_macros_model.proofs.Common.{root_read, has_file}
@@ -11,7 +11,7 @@ use Rattle.kc_macros_model.specs.TreeExpansion.{list_read, tree_read}
 use Rattle.kc_macros_model.specs.LinePlaces.{written_for}
 use Rattle.kc_macros_model.proofs.CleanTexts.{IsClean, clean, clean_none, clean_cons, clean_append, text_clean, AreClean, no_texts, next_text}
 use Rattle.kc_macros_model.proofs.CleanLines.{tokens_clean, AreCleanWritten}
-use Rattle.kc_macros_model.proofs.CleanForms.{line_bytes_clean, nth_token_clean, replacement_clean, gaps_gone_clean, IsCleanForm, clean_prompt, clean_replacement, form_clean, meant_clean, list_name_clean, source_line_clean, both_clean, path_pieces_clean, matching_clean, sorted_clean, with_slashes, free_key_clean}
+use Rattle.kc_macros_model.proofs.CleanForms.{line_bytes_clean, nth_token_clean, replacement_clean, trivia_gone_clean, IsCleanForm, clean_prompt, clean_replacement, form_clean, meant_clean, list_name_clean, source_line_clean, both_clean, path_pieces_clean, matching_clean, sorted_clean, with_slashes, free_key_clean}
 use Rattle.kc_macros_model.proofs.EnvironmentLines.{meant_clean_line}
 use Rattle.kc_macros_model.proofs.LineCounts.{AreCleanLines, no_lines, next_line, split_clean, returns_clean, joined_lines_clean}
 use Rattle.kc_macros_model.proofs.LinePlaces.{AreEnded, split_ended, rest_ended, sum_none, sum_next}
@@ -245,21 +245,21 @@ module _ (c : Comparison) (root : List ℕ) (fit : Fits c.newlines root) (kept :
     -- lines whose tokens are related; where the first is undecided its reading ends
     tokens_match : (at : Place) (s t : ReadingState) {ts us : List WrittenToken} → Fits c.newlines at.file → StateNoLess k s t
         → LineNoLess c.lacking c.newlines ts us → (c.newlines ≡ false → AreCleanWritten ts)
-        → Related c (WrittenNoLess k) (tokens_written sub at s ts (without_gaps ts)) (tokens_written sub at t us (without_gaps us))
-    tokens_match at s t {ts = ts} {us = us} a r l w = by_tests (is_undecided (without_gaps ts)) (is_undecided (without_gaps us)) refl refl
+        → Related c (WrittenNoLess k) (tokens_written sub at s ts (without_trivia ts)) (tokens_written sub at t us (without_trivia us))
+    tokens_match at s t {ts = ts} {us = us} a r l w = by_tests (is_undecided (without_trivia ts)) (is_undecided (without_trivia us)) refl refl
       where
         way : ReadingState → List WrittenToken → Bool → Program WrittenLine
         way u xs b = elim b [
           | true ↦ stops
-          | false ↦ form_written sub at xs (form_of (without_gaps xs)) u >>= short_line at (is_help_line (without_gaps xs))
+          | false ↦ form_written sub at xs (form_of (without_trivia xs)) u >>= short_line at (is_help_line (without_trivia xs))
         ]
 
-        written : SameEffect c.lacking c.newlines (without_gaps ts) (without_gaps us) → Related c (WrittenNoLess k) (way s ts false) (way t us false)
-        written e = match_then (form_matches at ts us e.form s t a w (λ e. form_clean (gaps_gone_clean (w e))) r)
+        written : SameEffect c.lacking c.newlines (without_trivia ts) (without_trivia us) → Related c (WrittenNoLess k) (way s ts false) (way t us false)
+        written e = match_then (form_matches at ts us e.form s t a w (λ e. form_clean (trivia_gone_clean (w e))) r)
             (λ p q n. match_unless _ _ (nat_lt MAX_TEXT_BYTES (length p.text)) (nat_lt MAX_TEXT_BYTES (length q.text))
             (match_return (record { help = e.help; state = n.state; text = n.text })))
 
-        by_tests : (x y : Bool) → is_undecided (without_gaps ts) ≡ x → is_undecided (without_gaps us) ≡ y
+        by_tests : (x y : Bool) → is_undecided (without_trivia ts) ≡ x → is_undecided (without_trivia us) ≡ y
             → Related c (WrittenNoLess k) (way s ts x) (way t us y)
         by_tests true y e h = let u = undecided_lack l in match_stop (u.0 e)
         by_tests false true e h = let u = undecided_lack l in match_stopped (u.1 h)

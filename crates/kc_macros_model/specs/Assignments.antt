@@ -7,8 +7,8 @@ use Rattle.kc_macros_model.specs.declared.operator.Operator.TheVariants.{SetsNow
 use Rattle.kc_macros_model.specs.Programs.{Place, Program, returns, stops, ◌>>=◌}
 use Rattle.kc_macros_model.specs.Variables.{Value, value_length, joined_values, Variable, simple, recursive, Bindings}
 use Rattle.kc_macros_model.specs.Expansion.{spends, unless_too_long, text_value}
-use Rattle.kc_macros_model.specs.LineTokens.{LineToken, gap, run, token_bytes, bytes_of_tokens}
-use Rattle.kc_macros_model.specs.WrittenTokens.{is_gap_sort, is_unknown_sort, is_keyword, WrittenToken, token_of_text, run_value, written_token}
+use Rattle.kc_macros_model.specs.LineTokens.{LineToken, trivia, run, token_bytes, bytes_of_tokens}
+use Rattle.kc_macros_model.specs.WrittenTokens.{is_trivia_sort, is_unknown_sort, is_keyword, WrittenToken, token_of_text, run_value, written_token}
 
 -- the operator of a macro assignment and the text after it
 pub record AssignedText : Type 0 where
@@ -58,22 +58,22 @@ abbrev pub with_token : WrittenToken → LineContent → LineContent
 with_token t (tokens ts) = tokens (t ∷ ts)
 with_token t (assigns name a) = assigns name a
 
--- whether a written token is a gap: white, a comment, or a token whose value is empty
-abbrev pub is_gap : WrittenToken → Bool
-is_gap t = is_gap_sort t.sort
+-- whether a written token is trivia: white, a comment, or a token whose value is empty
+abbrev pub is_trivia : WrittenToken → Bool
+is_trivia t = is_trivia_sort t.sort
 
 -- whether a written token depends on a question without an answer
 abbrev pub is_unknown : WrittenToken → Bool
 is_unknown t = is_unknown_sort t.sort
 
 -- whether a token of a logical line is white or a comment
-abbrev pub is_gap_token : LineToken → Bool
-is_gap_token (gap s) = true
-is_gap_token t = false
+abbrev pub is_trivia_token : LineToken → Bool
+is_trivia_token (trivia s) = true
+is_trivia_token t = false
 
--- whether a token is unknown, with only gaps before it and other tokens after it: the line may turn out to be an assignment
+-- whether a token is unknown, with only trivia before it and other tokens after it: the line may turn out to be an assignment
 abbrev pub is_open_front : (may_assign : Bool) → WrittenToken → List LineToken → Bool
-is_open_front may_assign w ts = may_assign && is_unknown w && list_any (λ t. not (is_gap_token t)) ts
+is_open_front may_assign w ts = may_assign && is_unknown w && list_any (λ t. not (is_trivia_token t)) ts
 
 -- a line's content by the value of an assignment's name: for an empty name the given content; an unknown name stops the reading
 abbrev pub assignment_or : Program LineContent → AssignedText → Value → Program LineContent
@@ -88,7 +88,7 @@ line_content at b may_assign (t ∷ ts) =
     elim (assignment_at may_assign t ts) [
       | Some a ↦ run_value at b (token_bytes t) >>= assignment_or (line_content at b true ts >>= λ rest. returns (with_token (token_of_text []) rest)) a
       | None ↦ written_token at b t >>= λ w.
-          elim (is_open_front may_assign w ts) [ true ↦ stops | false ↦ line_content at b (may_assign && is_gap w) ts >>= λ rest. returns (with_token w rest) ]
+          elim (is_open_front may_assign w ts) [ true ↦ stops | false ↦ line_content at b (may_assign && is_trivia w) ts >>= λ rest. returns (with_token w rest) ]
     ]
 
 -- stores a variable whose value or unexpanded text is `value`: a fault if it is too long, else each of its bytes counts as work

@@ -2,11 +2,11 @@
 use Rattle.std.specs.Prelude.{ℕ, Bool, false, not, List, [], ◌∷◌, ◌++◌, filter, Option, Some, None, bytes_eq, codes, if◌then◌else◌}
 use Rattle.kc_macros_model.specs.Variables.{is_environment_name}
 use Rattle.kc_macros_model.specs.LineTokens.{LineToken, run, quoted, other, line_tokens}
-use Rattle.kc_macros_model.specs.Assignments.{is_gap_token}
+use Rattle.kc_macros_model.specs.Assignments.{is_trivia_token}
 
 -- the tokens of a logical line without white and comments
 abbrev pub solid_tokens : List LineToken → List LineToken
-solid_tokens ts = filter (λ t. not (is_gap_token t)) ts
+solid_tokens ts = filter (λ t. not (is_trivia_token t)) ts
 
 -- whether a token is this run
 abbrev pub is_run : List ℕ → LineToken → Bool

@@ -5,7 +5,7 @@ use Rattle.kc_tree_model.specs.Limits.{is_in_list}
 use Rattle.kc_macros_model.specs.Variables.{Value}
 use Rattle.kc_macros_model.specs.declared.token_sort.TokenSort.TheVariants.{Quoted}
 use Rattle.kc_macros_model.specs.WrittenTokens.{is_word_sort, is_path_sort, WrittenToken, written_as, in_quotes_of}
-use Rattle.kc_macros_model.specs.Assignments.{is_gap, is_unknown}
+use Rattle.kc_macros_model.specs.Assignments.{is_trivia, is_unknown}
 
 -- the sort of a `source` line: whether its path begins in the folder of its file, and whether its files may be missing
 pub record SourceSort : Type 0 where
@@ -49,8 +49,8 @@ abbrev pub is_bare_prompt : WrittenToken → Bool
 is_bare_prompt t = is_word t && not (is_in_list t.bytes (codes "if" ∷ codes "on" ∷ []))
 
 -- the form of a line of two written tokens, of which the first is this word
-abbrev pub form_of_pair : List ℕ → WrittenToken → LineForm
-form_of_pair word t =
+abbrev pub form_of_two_words : List ℕ → WrittenToken → LineForm
+form_of_two_words word t =
     if is_in_list word source_words && is_path t then sources (sort_of_source word) t.meaning
     else if bytes_eq word (codes "choice") && is_word t then named_choice t.bytes
     else if bytes_eq word (codes "option") && bytes_eq t.bytes (codes "defconfig_list") then replaced_by (codes "depends on n")
@@ -58,22 +58,22 @@ form_of_pair word t =
     else plain
 
 -- the form of a line by its first word, its second token and the tokens after that
-abbrev pub form_by_word : List ℕ → WrittenToken → List WrittenToken → LineForm
-form_by_word word t rest =
+abbrev pub form_of_first_word : List ℕ → WrittenToken → List WrittenToken → LineForm
+form_of_first_word word t rest =
     if is_in_list word prompt_words && is_bare_prompt t then bare_prompt t.bytes
-    else elim rest [ [] ↦ form_of_pair word t | u ∷ us ↦ plain ]
+    else elim rest [ [] ↦ form_of_two_words word t | u ∷ us ↦ plain ]
 
--- the form of a line, given its written tokens without gaps (white, comments and tokens with an empty value)
+-- the form of a line, given its written tokens without trivia (white, comments and tokens with an empty value)
 abbrev pub form_of : List WrittenToken → LineForm
 form_of [] = plain
 form_of (t ∷ []) = plain
-form_of (t ∷ u ∷ rest) = if is_word t then form_by_word t.bytes u rest else plain
+form_of (t ∷ u ∷ rest) = if is_word t then form_of_first_word t.bytes u rest else plain
 
--- the written tokens of a line that are no gaps: no white, no comments and no tokens with an empty value
-abbrev pub without_gaps : List WrittenToken → List WrittenToken
-without_gaps ts = filter (λ t. not (is_gap t)) ts
+-- the written significant tokens of a line: no white, no comments and no tokens with an empty value
+abbrev pub without_trivia : List WrittenToken → List WrittenToken
+without_trivia ts = filter (λ t. not (is_trivia t)) ts
 
--- whether a help text follows a line, given its written tokens without gaps (white, comments and tokens with an empty value): the
+-- whether a help text follows a line, given its written tokens without trivia (white, comments and tokens with an empty value): the
 -- only one is `help` or `---help---`
 abbrev pub is_help_line : List WrittenToken → Bool
 is_help_line [] = false
@@ -85,11 +85,11 @@ abbrev pub is_undecided : List WrittenToken → Bool
 is_undecided [] = false
 is_undecided (t ∷ rest) = is_word t && (is_in_list t.bytes source_words || is_in_list t.bytes help_words) && list_any is_unknown rest
 
--- the written tokens of a line with another token in place of the n-th, counted from 0 without gaps (white, comments and tokens
+-- the written tokens of a line with another token in place of the n-th, counted from 0 without trivia (white, comments and tokens
 -- with an empty value)
 abbrev pub with_nth_token : ℕ → WrittenToken → List WrittenToken → List WrittenToken
 with_nth_token n new [] = []
-with_nth_token n new (t ∷ ts) = if is_gap t then t ∷ with_nth_token n new ts else elim n [ zero ↦ new ∷ ts | suc m ↦ t ∷ with_nth_token m new ts ]
+with_nth_token n new (t ∷ ts) = if is_trivia t then t ∷ with_nth_token n new ts else elim n [ zero ↦ new ∷ ts | suc m ↦ t ∷ with_nth_token m new ts ]
 
 -- the bytes of a line, given its written tokens
 abbrev pub line_bytes : List WrittenToken → List ℕ
@@ -98,7 +98,7 @@ line_bytes ts = flat_map (λ (t : WrittenToken). t.bytes) ts
 -- the bytes of a line whose tokens are replaced by a text, but for white, comments and empty tokens at its front, which stay
 abbrev pub with_replacement : List ℕ → List WrittenToken → List ℕ
 with_replacement new [] = new
-with_replacement new (t ∷ ts) = if is_gap t then t.bytes ++ with_replacement new ts else new
+with_replacement new (t ∷ ts) = if is_trivia t then t.bytes ++ with_replacement new ts else new
 
 -- a text as a written token in double quotes
 abbrev pub quoted_text_token : List ℕ → WrittenToken

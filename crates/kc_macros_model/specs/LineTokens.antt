@@ -7,7 +7,7 @@ use Rattle.kc_macros_model.specs.References.{item_bytes, first_item, items, is_u
 -- a token of a logical line: white or a comment; a run of word bytes, macro references and `$`; bytes between two quotes; other
 -- bytes; the rest of a line that has a `$(` without its `)`
 pub data LineToken : Type 0 where
-  gap : List ℕ → LineToken
+  trivia : List ℕ → LineToken
   run : List ℕ → LineToken
   quoted : (quote : ℕ) → List ℕ → LineToken
   other : List ℕ → LineToken
@@ -15,7 +15,7 @@ pub data LineToken : Type 0 where
 
 -- the bytes of a token of a logical line, its quotes among them
 abbrev pub token_bytes : LineToken → List ℕ
-token_bytes (gap s) = s
+token_bytes (trivia s) = s
 token_bytes (run s) = s
 token_bytes (quoted quote s) = quote ∷ (s ++ quote ∷ [])
 token_bytes (other s) = s
@@ -45,8 +45,8 @@ quoted_token n quote s =
 -- the first token of the rest of a line, given its first byte and the bytes after that
 abbrev pub first_token : ℕ → List ℕ → LineToken
 first_token c s =
-    if is_white_byte c then gap (c ∷ [])
-    else if c == 35 then gap (c ∷ s)
+    if is_white_byte c then trivia (c ∷ [])
+    else if c == 35 then trivia (c ∷ s)
     else if is_run_byte c then run_token (take (extent false (λ d. not (is_run_byte d)) 0 (c ∷ s)) (c ∷ s))
     else if c == 34 || (c == 39) then quoted_token (extent true (λ d. d == c) 0 s) c s
     else other (c ∷ [])

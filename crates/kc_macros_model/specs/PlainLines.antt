@@ -8,12 +8,12 @@ use Rattle.kc_macros_model.specs.declared.fault.MacroKind.TheVariants.{MissingFi
 use Rattle.kc_value.specs.declared.limits.TheConstants.{MAX_TEXT_BYTES}
 use Rattle.kc_macros_model.specs.Programs.{Fault, Answer}
 use Rattle.kc_macros_model.specs.References.{Item, byte, escaped, reference, unterminated, items, is_reference, is_plain_dollar}
-use Rattle.kc_macros_model.specs.LineTokens.{LineToken, gap, run, quoted, other, broken, line_tokens}
-use Rattle.kc_macros_model.specs.declared.token_sort.TokenSort.TheVariants.{Gap, Word, Quoted, Other}
+use Rattle.kc_macros_model.specs.LineTokens.{LineToken, trivia, run, quoted, other, broken, line_tokens}
+use Rattle.kc_macros_model.specs.declared.token_sort.TokenSort.TheVariants.{Trivia, Word, Quoted, Other}
 use Rattle.kc_macros_model.specs.WrittenTokens.{WrittenToken, written_as}
 use Rattle.kc_macros_model.specs.Assignments.{assignment_to}
 use Rattle.kc_macros_model.specs.EnvironmentLines.{environment_asked}
-use Rattle.kc_macros_model.specs.LineForms.{LineForm, plain, bare_prompt, replaced_by, named_choice, sources, form_of, without_gaps, is_word, is_path, is_help_line}
+use Rattle.kc_macros_model.specs.LineForms.{LineForm, plain, bare_prompt, replaced_by, named_choice, sources, form_of, without_trivia, is_word, is_path, is_help_line}
 use Rattle.kc_macros_model.specs.PathPatterns.{is_pattern}
 use Rattle.kc_macros_model.specs.ReadingStates.{ExpandedFile, ReadingState, progress, written_line}
 use Rattle.kc_macros_model.specs.TreeExpansion.{SourceReader, line_written, lines_read, help_after}
@@ -30,7 +30,7 @@ is_kept_item (unterminated rest) = false
 -- whether a token of a logical line has nothing to expand: no reference, and in quotes no `$` without a backslash; a run with a
 -- `$` that begins no reference is left to the reader
 abbrev pub is_kept_token : LineToken → Bool
-is_kept_token (gap s) = true
+is_kept_token (trivia s) = true
 is_kept_token (run s) = list_any is_plain_dollar (items false 0 s) || not (list_any is_reference (items false 0 s))
 is_kept_token (quoted quote s) = list_all is_kept_item (items true 0 s)
 is_kept_token (other s) = true
@@ -54,7 +54,7 @@ text_of_items (unterminated rest ∷ is) = text_of_items is
 
 -- the written token, with its own bytes, of a token that has nothing to expand
 abbrev pub token_as_it_is : LineToken → WrittenToken
-token_as_it_is (gap s) = written_as Gap s []
+token_as_it_is (trivia s) = written_as Trivia s []
 token_as_it_is (run s) = if list_any is_plain_dollar (items false 0 s) then written_as Other s [] else written_as Word s s
 token_as_it_is (quoted quote s) = written_as Quoted (quote ∷ (s ++ quote ∷ [])) (text_of_items (items true 0 s))
 token_as_it_is (other s) = written_as Other s []
@@ -63,12 +63,12 @@ token_as_it_is (broken s) = written_as Other s []
 -- whether a line's first token that is neither white nor a comment is the name of an assignment
 abbrev pub is_assignment : List LineToken → Bool
 is_assignment [] = false
-is_assignment (gap s ∷ ts) = is_assignment ts
+is_assignment (trivia s ∷ ts) = is_assignment ts
 is_assignment (t ∷ ts) = is_some (assignment_to t ts)
 
 -- the written tokens of a line that has nothing to expand, without white, comments and tokens with an empty value
 abbrev pub tokens_as_they_are : List ℕ → List WrittenToken
-tokens_as_they_are text = without_gaps (map token_as_it_is (line_tokens 0 text))
+tokens_as_they_are text = without_trivia (map token_as_it_is (line_tokens 0 text))
 
 -- whether a line of this form stays as it is
 abbrev pub is_plain_form : LineForm → Bool

@@ -1,12 +1,14 @@
 -- The expansion of a tree: its lines in reading order, a sourced file at its `source` line.
-use Rattle.std.specs.Prelude.{ℕ, zero, suc, ◌+◌, Bool, true, false, not, ◌&&◌, ◌||◌, ◌==◌, nat_lt, nat_le, List, [], ◌∷◌, ◌++◌, length, take, drop, map, reverse, flat_map, Option, Some, None, bytes_eq, codes, decimal, if◌then◌else◌}
+use Rattle.std.specs.Prelude.{ℕ, zero, suc, ◌+◌, Bool, true, false, not, ◌&&◌, ◌||◌, ◌==◌, nat_lt, List, [], ◌∷◌, ◌++◌, length, take, drop, map, reverse, flat_map, Option, Some, None, bytes_eq, codes, decimal, if◌then◌else◌}
 use Rattle.std.specs.List.{list_any}
 use Rattle.std.specs.Str.{is_utf8}
 use Rattle.kc_tree_model.specs.LogicalLines.{PhysicalLine, split_at_newlines, without_return, is_continued, joined_bytes, continuation_count, begins_help, help_line_count}
 use Rattle.kc_tree_model.specs.Limits.{is_in_list}
+use Rattle.kc_tree_model.specs.SourceFaults.{fault_of_source}
 use Rattle.kc_macros_model.specs.declared.fault.MacroKind.{MacroKind}
-use Rattle.kc_macros_model.specs.declared.fault.MacroKind.TheVariants.{JoinedAssignment, MissingFile, SourceLoop, TooDeep, TooMany, LineTooLong}
-use Rattle.kc_value.specs.declared.limits.TheConstants.{MAX_TEXT_BYTES, MAX_FILES, MAX_TREE_BYTES, MAX_OPEN_FILES}
+use Rattle.kc_macros_model.specs.declared.source_kinds.TheConstants.{MACRO_KINDS}
+use Rattle.kc_macros_model.specs.declared.fault.MacroKind.TheVariants.{JoinedAssignment, MissingFile, TooMany, LineTooLong}
+use Rattle.kc_value.specs.declared.limits.TheConstants.{MAX_TEXT_BYTES, MAX_TREE_BYTES, MAX_OPEN_FILES}
 use Rattle.kc_macros_model.specs.Programs.{Place, read_file, Program, returns, stops, does, ◌>>=◌}
 use Rattle.kc_macros_model.specs.Variables.{Value}
 use Rattle.kc_macros_model.specs.Expansion.{fault}
@@ -15,7 +17,7 @@ use Rattle.kc_macros_model.specs.declared.token_sort.TokenSort.TheVariants.{Word
 use Rattle.kc_macros_model.specs.WrittenTokens.{WrittenToken, written_as, in_quotes_of}
 use Rattle.kc_macros_model.specs.Assignments.{without_front, LineContent, assigns, tokens, line_content, variable_assigned}
 use Rattle.kc_macros_model.specs.EnvironmentLines.{meant_line}
-use Rattle.kc_macros_model.specs.LineForms.{SourceSort, LineForm, plain, bare_prompt, replaced_by, named_choice, sources, form_of, without_gaps, with_nth_token, with_replacement, line_bytes, quoted_text_token, is_help_line, is_undecided}
+use Rattle.kc_macros_model.specs.LineForms.{SourceSort, LineForm, plain, bare_prompt, replaced_by, named_choice, sources, form_of, without_trivia, with_nth_token, with_replacement, line_bytes, quoted_text_token, is_help_line, is_undecided}
 use Rattle.kc_macros_model.specs.PathPatterns.{is_pattern, FoundPaths, files_of_pattern, paths_with_files}
 use Rattle.kc_macros_model.specs.ReadingStates.{ExpandedFile, ReadingState, initial_state, Progress, progress, WrittenLine, written_line, bound, with_choice, with_listed, counted, stored_file}
 
@@ -107,7 +109,7 @@ tokens_written sub at s ts real =
 
 -- the expanded line of a line's content; an assignment becomes an empty line, and is a fault on a continued line
 abbrev pub content_written : SourceReader → Place → (continued : Bool) → ReadingState → LineContent → Program WrittenLine
-content_written sub at continued s (tokens ts) = tokens_written sub at s ts (without_gaps ts)
+content_written sub at continued s (tokens ts) = tokens_written sub at s ts (without_trivia ts)
 content_written sub at true s (assigns name a) = fault at JoinedAssignment []
 content_written sub at false s (assigns name a) = variable_assigned at s.bindings a.operator a.text (s.bindings name) >>= λ v. returns (written_line [] false (bound name v s))
 
@@ -153,12 +155,8 @@ list_read sub at (path ∷ paths) s =
 
 -- the fault, if any, of sourcing this path with these bytes (`None` if it can't be read) while `open_files` are open
 abbrev pub source_fault : List (List ℕ) → ReadingState → List ℕ → Option (List ℕ) → Option MacroKind
-source_fault open_files s path None = if is_in_list path open_files then Some SourceLoop else Some MissingFile
-source_fault open_files s path (Some bytes) =
-    if is_in_list path open_files then Some SourceLoop
-    else if nat_le MAX_OPEN_FILES (length open_files) then Some TooDeep
-    else if nat_le MAX_FILES s.files || nat_lt MAX_TREE_BYTES (s.bytes + length bytes) then Some TooMany
-    else None
+source_fault open_files s path None = fault_of_source MACRO_KINDS (is_in_list path open_files) false (length open_files) s.files s.bytes
+source_fault open_files s path (Some bytes) = fault_of_source MACRO_KINDS (is_in_list path open_files) true (length open_files) s.files (s.bytes + length bytes)
 
 -- reads the lines of a sourced file with these bytes, or each file of a list of files, and counts the file or the list as one
 -- file

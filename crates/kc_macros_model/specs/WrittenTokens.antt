@@ -5,18 +5,18 @@ use Rattle.kc_tokens.specs.Token.{is_word_byte}
 use Rattle.kc_tree_model.specs.Keywords.{keywords}
 use Rattle.kc_tree_model.specs.declared.keyword.Keyword.{Keyword}
 use Rattle.kc_macros_model.specs.declared.token_sort.TokenSort.{TokenSort}
-use Rattle.kc_macros_model.specs.declared.token_sort.TokenSort.TheVariants.{Gap, Word, Quoted, Other, Unknown}
+use Rattle.kc_macros_model.specs.declared.token_sort.TokenSort.TheVariants.{Trivia, Word, Quoted, Other, Unknown}
 use Rattle.kc_macros_model.specs.declared.fault.MacroKind.TheVariants.{Unterminated}
 use Rattle.kc_macros_model.specs.Programs.{Place, Program, returns, ◌>>=◌}
 use Rattle.kc_macros_model.specs.References.{Item, byte, escaped, reference, unterminated, item_bytes, items, is_reference, is_plain_dollar}
 use Rattle.kc_macros_model.specs.Variables.{Value, joined_values, Bindings}
 use Rattle.kc_macros_model.specs.Expansion.{fault, text_value}
-use Rattle.kc_macros_model.specs.LineTokens.{LineToken, gap, run, quoted, other, broken}
+use Rattle.kc_macros_model.specs.LineTokens.{LineToken, trivia, run, quoted, other, broken}
 
--- whether tokens of a sort are gaps: white, comments and tokens whose value is empty
-abbrev pub is_gap_sort : TokenSort → Bool
-is_gap_sort Gap = true
-is_gap_sort _ = false
+-- whether tokens of a sort are trivia: white, comments and tokens whose value is empty
+abbrev pub is_trivia_sort : TokenSort → Bool
+is_trivia_sort Trivia = true
+is_trivia_sort _ = false
 
 -- whether tokens of a sort depend on a question without an answer
 abbrev pub is_unknown_sort : TokenSort → Bool
@@ -67,7 +67,7 @@ written_as sort bytes meaning = record { sort = sort; bytes = bytes; meaning = S
 
 -- the written token of a text to which a run expands: a space if empty, a word if it needs no quotes, else in quotes
 abbrev pub token_of_text : List ℕ → WrittenToken
-token_of_text [] = written_as Gap (32 ∷ []) []
+token_of_text [] = written_as Trivia (32 ∷ []) []
 token_of_text (c ∷ s) =
     if list_all is_bare_byte (c ∷ s) && not (is_keyword (c ∷ s)) then written_as Word (c ∷ s) (c ∷ s)
     else written_as Quoted (in_quotes_of 34 (c ∷ s)) (c ∷ s)
@@ -82,34 +82,34 @@ pub record WrittenQuotedText : Type 0 where
   pub bytes : List ℕ
   pub meaning : Value
 
--- the body of a quoted token: these bytes between its quotes, and the known text that they mean
-abbrev pub body_of : List ℕ → List ℕ → WrittenQuotedText
-body_of bytes meaning = record { bytes = bytes; meaning = Some meaning }
+-- the quoted text of a token: these bytes between its quotes, and the known text that they mean
+abbrev pub quoted_text_of : List ℕ → List ℕ → WrittenQuotedText
+quoted_text_of bytes meaning = record { bytes = bytes; meaning = Some meaning }
 
 -- the value of a macro reference as written between quotes, with the backslashes that it needs
-abbrev pub body_of_value : (quote : ℕ) → Value → WrittenQuotedText
-body_of_value quote None = record { bytes = []; meaning = None }
-body_of_value quote (Some text) = body_of (escaped_text quote text) text
+abbrev pub quoted_text_of_value : (quote : ℕ) → Value → WrittenQuotedText
+quoted_text_of_value quote None = record { bytes = []; meaning = None }
+quoted_text_of_value quote (Some text) = quoted_text_of (escaped_text quote text) text
 
 -- written bytes between quotes followed by others, with their joined meaning
-abbrev pub joined_bodies : WrittenQuotedText → WrittenQuotedText → WrittenQuotedText
-joined_bodies a b = record { bytes = a.bytes ++ b.bytes; meaning = joined_values a.meaning b.meaning }
+abbrev pub joined_quoted_texts : WrittenQuotedText → WrittenQuotedText → WrittenQuotedText
+joined_quoted_texts a b = record { bytes = a.bytes ++ b.bytes; meaning = joined_values a.meaning b.meaning }
 
 -- an item between quotes as it is written: a macro reference becomes its value, a `$` that begins no reference is escaped
 abbrev pub written_item : Place → Bindings → (quote : ℕ) → Item → Program WrittenQuotedText
-written_item at b quote (byte c) = returns (body_of (if c == 36 then 92 ∷ c ∷ [] else c ∷ []) (c ∷ []))
-written_item at b quote (escaped c) = returns (body_of (92 ∷ c ∷ []) (c ∷ []))
-written_item at b quote (reference inside) = text_value at b (item_bytes (reference inside)) >>= λ v. returns (body_of_value quote v)
+written_item at b quote (byte c) = returns (quoted_text_of (if c == 36 then 92 ∷ c ∷ [] else c ∷ []) (c ∷ []))
+written_item at b quote (escaped c) = returns (quoted_text_of (92 ∷ c ∷ []) (c ∷ []))
+written_item at b quote (reference inside) = text_value at b (item_bytes (reference inside)) >>= λ v. returns (quoted_text_of_value quote v)
 written_item at b quote (unterminated rest) = fault at Unterminated []
 
 -- the items between the quotes of a token as they are written, one after the other
 abbrev pub written_items : Place → Bindings → (quote : ℕ) → List Item → Program WrittenQuotedText
-written_items at b quote [] = returns (body_of [] [])
-written_items at b quote (i ∷ is) = written_item at b quote i >>= λ first. written_items at b quote is >>= λ rest. returns (joined_bodies first rest)
+written_items at b quote [] = returns (quoted_text_of [] [])
+written_items at b quote (i ∷ is) = written_item at b quote i >>= λ first. written_items at b quote is >>= λ rest. returns (joined_quoted_texts first rest)
 
 -- written bytes between quotes as a token, with its quotes
-abbrev pub token_of_body : (quote : ℕ) → WrittenQuotedText → WrittenToken
-token_of_body quote body = record { sort = Quoted; bytes = quote ∷ (body.bytes ++ quote ∷ []); meaning = body.meaning }
+abbrev pub token_of_quoted_text : (quote : ℕ) → WrittenQuotedText → WrittenToken
+token_of_quoted_text quote body = record { sort = Quoted; bytes = quote ∷ (body.bytes ++ quote ∷ []); meaning = body.meaning }
 
 -- the value of a run of word bytes, macro references and `$`; a run without `$` is its own value
 abbrev pub run_value : Place → Bindings → List ℕ → Program Value
@@ -125,8 +125,8 @@ written_run at b s =
 
 -- a token of a logical line as it is written once its macro references have values
 abbrev pub written_token : Place → Bindings → LineToken → Program WrittenToken
-written_token at b (gap s) = returns (written_as Gap s [])
+written_token at b (trivia s) = returns (written_as Trivia s [])
 written_token at b (run s) = written_run at b s
-written_token at b (quoted quote s) = written_items at b quote (items true 0 s) >>= λ body. returns (token_of_body quote body)
+written_token at b (quoted quote s) = written_items at b quote (items true 0 s) >>= λ body. returns (token_of_quoted_text quote body)
 written_token at b (other s) = returns (written_as Other s [])
 written_token at b (broken s) = fault at Unterminated []

@@ -1,10 +1,10 @@
 //! The sorts of tokens of expanded lines.
 
-/// The sort of a token as the expansion writes it. A gap is white, a comment or a token with an empty value; an unknown token
+/// The sort of a token as the expansion writes it. Trivia is white, a comment or a token with an empty value; an unknown token
 /// depends on a question without an answer, and isn't written yet.
 #[derive(Clone, Copy, Debug, PartialEq, Eq)]
 pub enum TokenSort {
-    Gap,
+    Trivia,
     Word,
     Quoted,
     Other,

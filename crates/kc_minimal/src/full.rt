@@ -10,7 +10,7 @@ ghost use Rattle.kc_dotconfig_model.specs.between.Prefixes.{prefix_bytes};
 ghost use Rattle.kc_minimal_model.specs.FullFile.{has_second_space, heading, end_line, applies, full_file};
 ghost use Rattle.kc_minimal.specs.checker.Drafts.{IsDraft};
 
-use crate::symbol_line::{Written, is_n, push_between, push_symbol};
+use crate::symbol_line::{Written, push_between, push_symbol};
 use kc_dotconfig_model::{Format, Prefix, is_unset_text};
 use kc_expr::ExprId;
 use kc_rules::{Settled, UnitValue};
@@ -61,7 +61,7 @@ fn applies(settled: &Settled, values: &[UnitValue], condition: ExprId) -> bool
     requires there { condition < length (tree_model_of settled.now).exprs.nodes }
     ensures value { result ≡ applies (tree_of_settled settled.now) values.now (node_expr (tree_model_of settled.now).exprs condition) }
 {
-    !is_n(settled.condition(condition, values))
+    !settled.condition(condition, values).is_n()
 }
 
 /// Whether two conditions aren't `n`.

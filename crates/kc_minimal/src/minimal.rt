@@ -6,7 +6,7 @@ ghost use Rattle.kc_minimal_model.specs.SymbolLine.{ended_line};
 ghost use Rattle.kc_minimal_model.specs.MinimalFile.{is_kept, has_line, minimal_file};
 ghost use Rattle.kc_minimal.specs.checker.Values.{FitValues, AreGivenBy};
 
-use crate::symbol_line::{Written, is_n, push_symbol};
+use crate::symbol_line::{Written, push_symbol};
 use kc_dotconfig_model::Format;
 use kc_rules::{Settled, Steps, UnitValue, UserValue};
 use kc_solver::System;
@@ -48,7 +48,7 @@ fn has_line(alloc: Global, solved: &Solved<'_>, s: Sym) -> Result<bool, AllocErr
     ensures ok { IfOk result (λ line. line ≡ has_line (profile_of solved.now.settled.now) (tree_of_settled solved.now.settled.now) solved.now.values.now s) }
 {
     let symbol = solved.settled.tree().symbol(s);
-    if symbol.choice.is_some() && is_n(solved.settled.value_of_symbol(s, solved.values).tri) {
+    if symbol.choice.is_some() && solved.settled.value_of_symbol(s, solved.values).tri.is_n() {
         Ok(false)
     } else {
         is_kept(alloc, solved, symbol.unit)

@@ -1,7 +1,6 @@
 //! The line of a symbol's value.
 ghost use Rattle.std.specs.Prelude.{◌≡◌, ◌<◌, ◌++◌, ◌∷◌, ◌&&◌, [], length, OnOk};
 ghost use Rattle.kc_expr.specs.Lookup.{symbol_value_of};
-ghost use Rattle.kc_rules_model.specs.Kinds.{is_n};
 ghost use Rattle.kc_rules.specs.between.SettledViews.{tree_of_settled};
 ghost use Rattle.kc_dotconfig_model.specs.Formats.{between_quotes, string_spelling};
 ghost use Rattle.kc_dotconfig_model.specs.between.Formats.{file_format};
@@ -12,18 +11,8 @@ use kc_dotconfig_model::{Format, Prefix, Strings};
 use kc_expr::Looked;
 use kc_rules::{Settled, UnitValue};
 use kc_tree::{Sym, is_tri_kind};
-use kc_value::{Kind, Tri, push_escaped};
+use kc_value::{Kind, push_escaped};
 use std::alloc::AllocError;
-
-/// Whether a tristate is `n`.
-pub(crate) fn is_n(value: Tri) -> bool
-    ensures { result ≡ is_n value }
-{
-    match value {
-        Tri::N => true,
-        Tri::M | Tri::Y => false,
-    }
-}
 
 /// Appends a prefix and a name.
 fn push_name(out: &mut Vec<u8>, prefix: &Prefix, name: &str) -> Result<(), AllocError>
@@ -130,7 +119,7 @@ fn push_line(
 ) -> Result<(), AllocError>
     ensures { OnOk result (out.new.items ≡ out.old.items ++ (line_with (file_format format.now) name.now (symbol_value_of value.now) ++ 10 ∷ [])) }
 {
-    if is_tri_kind(value.kind) && is_n(value.tri) {
+    if is_tri_kind(value.kind) && value.tri.is_n() {
         push_unset(out, &format.prefix, name)
     } else {
         push_set(out, format, name, value.kind, value.text)

@@ -13,17 +13,19 @@ pub use Rattle.std.specs.Str.{IsUtf8}
 pub use Rattle.kc_dotconfig_model.proofs.Cuts.{first_of_lines}
 pub use Rattle.kc_dotconfig_model.proofs.FittingFiles.{file_fits, none_held, none_length}
 pub use Rattle.kc_dotconfig_model.proofs.LineLaws.{file_read}
-pub use Rattle.kc_dotconfig_model.proofs.Overlays.{file_length, over_none}
+pub use Rattle.kc_dotconfig_model.proofs.MergedUsers.{file_length, over_none}
 pub use Rattle.kc_dotconfig_model.proofs.Tables.{same_from}
-pub use Rattle.kc_dotconfig_model.proofs.TrimmedLines.{low_utf8, name_utf8}
-pub use Rattle.kc_dotconfig_model.specs.ConfigFiles.{FileMeans, assigned_over, empty_assignment, file_assignment, file_lines, has_utf8_lines, over}
+pub use Rattle.kc_dotconfig_model.proofs.TrimmedLines.{name_utf8}
+pub use Rattle.kc_rules_model.proofs.FittingValues.{low_utf8}
+pub use Rattle.kc_dotconfig_model.specs.ConfigFiles.{FileMeans, assigned_over, empty_assignment, file_assignment, file_lines, has_utf8_lines, merged_user}
 pub use Rattle.kc_dotconfig_model.specs.ConfigLines.{LineMeaning, Means, ValueMeans, assigns, assigns_escaped, silent, unchosen, unset_meaning}
 pub use Rattle.kc_dotconfig_model.specs.Formats.{FileFormat, IsStringSpelling, string_spelling}
 pub use Rattle.kc_dotconfig_model.specs.LoadFaults.{IsAccepted}
 pub use Rattle.kc_dotconfig_model.specs.PrefixGrammar.{is_name_prefix}
 pub use Rattle.kc_dotconfig_model.specs.declared.format.Strings.{Strings}
 pub use Rattle.kc_dotconfig_model.specs.declared.format.Strings.TheVariants.{Escaped, Raw}
-pub use Rattle.kc_expr.specs.Expr.{SymbolValue, letter}
+pub use Rattle.kc_expr.specs.Expr.{SymbolValue}
+pub use Rattle.kc_value.specs.Tri.{letter, is_n}
 pub use Rattle.kc_minimal_model.specs.CanonicalText.{HasUnitsOfLines, HasValuesOfLines, with_lines}
 pub use Rattle.kc_minimal_model.specs.Differences.{Difference, difference_at, differences}
 pub use Rattle.kc_minimal_model.specs.FileValues.{DifferAtASymbol, HaveSameValues, ReadsTo, has_short_lines}
@@ -38,7 +40,6 @@ pub use Rattle.kc_rules_model.proofs.OrderedTrees.{IsOrderedTree, ordered_tree}
 pub use Rattle.kc_rules_model.proofs.RowTrees.{m, n, tree_a, tree_lifted, tree_pick, y}
 pub use Rattle.kc_rules_model.proofs.SolutionsFit.{solutions_fit}
 pub use Rattle.kc_rules_model.specs.Equality.{same_tri, same_value}
-pub use Rattle.kc_rules_model.specs.Kinds.{is_n}
 pub use Rattle.kc_rules_model.specs.Reports.{is_written, is_written_symbol, symbol_numbers}
 pub use Rattle.kc_rules_model.specs.Rule.{as_user, choice_rule, default_member, is_shown, is_visible, is_visible_member, member_user, rule_of_choice, rule_of_unit}
 pub use Rattle.kc_rules_model.specs.RuleLaws.{moves_user_values}

@@ -3,7 +3,7 @@ use Rattle.std.proofs.Common.{is_some, slice_set}
 use Rattle.std.specs.Prelude.{eqb}
 use Rattle.std.specs.List.{IsDistinct}
 use Rattle.kc_minimal_model.proofs.Common.{◌≡◌, ◌⊎◌, ◌||◌, inl, inr, ℕ, zero, suc, ◌+◌, ◌<◌, ◌≤◌, Bool, true, false, cond, IsTrue, List, [], ◌∷◌, Option, Some, None, length, map, filter, refl, sym, ◌∙◌, ap, arith, list_any, range_with_len, AllByRecursion, cases_Bool, cases_eq, false≢true, eqb-true}
-use Rattle.kc_minimal_model.proofs.Common.{eq-eqb, or_left, or_right, or_cases, Tree, unit_of, user_of, FitsUsers, IsCutTo, Profile, UnitValue, UserValue, FileFormat, LineMeaning, assigns, assigns_escaped, file_assignment, over, assigned_over, empty_assignment, file_fits, has_line, minimal_symbols}
+use Rattle.kc_minimal_model.proofs.Common.{eq-eqb, or_left, or_right, or_cases, Tree, unit_of, user_of, FitsUsers, IsCutTo, Profile, UnitValue, UserValue, FileFormat, LineMeaning, assigns, assigns_escaped, file_assignment, merged_user, assigned_over, empty_assignment, file_fits, has_line, minimal_symbols}
 use Rattle.kc_minimal_model.proofs.Common.{IsOrderedTree, ordered_tree, HasUnitsOfLines, HasValuesOfLines, ReadsTo, length-map, get_or-set_other, symbol_numbers, none_held}
 use Rattle.kc_rules_model.specs.declared.values.UserValue.TheVariants.{Text as TextUser}
 use Rattle.kc_rules_model.specs.Shapes.{user_fits}
@@ -49,7 +49,7 @@ by_a_line [] held u some = inl some
 by_a_line (assigns_escaped w text ∷ meanings) held u some =
     at_unit w (TextUser text) held u meanings (by_a_line meanings (slice_set held w (Some (TextUser text))) u some)
 by_a_line (assigns w x ∷ meanings) held u some =
-    at_unit w (over x (user_of held w)) held u meanings (by_a_line meanings (slice_set held w (Some (over x (user_of held w)))) u some)
+    at_unit w (merged_user x (user_of held w)) held u meanings (by_a_line meanings (slice_set held w (Some (merged_user x (user_of held w)))) u some)
 by_a_line (_ ∷ meanings) held u some = by_a_line meanings held u some
 
 -- the values of a function on the numbers that pass a test, where it gives each another one

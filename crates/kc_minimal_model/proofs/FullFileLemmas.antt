@@ -4,7 +4,7 @@ use Rattle.kc_minimal_model.proofs.Common.{◌≡◌, ◌≢◌, ◌⊎◌, IfSo
 use Rattle.kc_minimal_model.proofs.Common.{option_map, option_and_then, option_or, AllByRecursion, list_any, list_all, cases_Bool, cases_eq, false≢true, or_parts, or_cases, and_parts, and_from, or_left, or_right, eq-eqb, eqb-true, eqb-false, get_or-set_same, get_or-set_other, N, Y, Tree, Symbol}
 use Rattle.kc_minimal_model.proofs.Common.{Choice, MemberDefault, Entry, definition, Language, is_linux_6_12, has_newline, unit_of, index_of_unit, title_of_entry, or_right, or-false, or_assoc, and-false, user_of, Solves, FitsUsers, get-some, Profile, UnitValue, UserValue, MemberLine}
 use Rattle.kc_minimal_model.proofs.Common.{moves_user_values, older, newer, none_listed, default_is_seen, is_n, condition, value_of_symbol, value_in_unit, member_of, tri_if_selected, rule_of_unit, rule_of_choice, choice_rule, default_member, as_user, member_user, is_visible, is_visible_member}
-use Rattle.kc_minimal_model.proofs.Common.{is_shown, unit_user_fits, symbol_user_fits, choice_user_fits, is_member, is_line, is_written, is_written_symbol, symbol_numbers, rules_frame, inside, place_is, unit_is, LineMeaning, assigns, assigns_escaped, unchosen, silent, over, assigned_over}
+use Rattle.kc_minimal_model.proofs.Common.{is_shown, unit_user_fits, symbol_user_fits, choice_user_fits, is_member, is_line, is_written, is_written_symbol, symbol_numbers, rules_frame, inside, place_is, unit_is, LineMeaning, assigns, assigns_escaped, unchosen, silent, merged_user, assigned_over}
 use Rattle.kc_minimal_model.proofs.Common.{file_assignment, empty_assignment, over_none, file_fits, is_kept, has_line, may_have_line, is_line_of_its_unit, defines, full_file, IsOrderedTree, ordered_tree, solutions_fit, none_held, none_length}
 use Rattle.std.proofs.lemmas.List.{length-set}
 use Rattle.kc_tree_model.specs.declared.ids.Unit.{Unit as TreeUnit}
@@ -14,7 +14,7 @@ use Rattle.std.proofs.lemmas.Bool.{false_from_ne_true}
 use Rattle.kc_solver.proofs.OneSolution as solving
 use Rattle.kc_rules_model.specs.declared.values.UnitValue.TheVariants.{Tri as TriValue, Text as TextValue, Member as MemberValue}
 use Rattle.kc_rules_model.specs.declared.values.UserValue.TheVariants.{Tri as TriUser, Text as TextUser, Member as MemberUser, Lines as LinesUser}
-use Rattle.kc_rules_model.specs.MemberLines.{is_listed, laid_over, last_y, first_listed, selected_without_y, selected_by_lines}
+use Rattle.kc_rules_model.specs.MemberLines.{is_listed, merged_lines, last_y, first_listed, selected_without_y, selected_by_lines}
 use Rattle.kc_rules_model.specs.checker.RestoreLaw.{selected_is_seen}
 use Rattle.kc_rules_model.specs.Rule.{rule, assigned_lines}
 use Rattle.kc_rules_model.specs.Dependencies.{dependencies}
@@ -100,22 +100,22 @@ y_stays values u s (l ∷ lines) ys all other any = go (s == l.member) refl (y_s
 module _ (language : Language) (values : List UnitValue) (u : ℕ) where
   -- after the unit's own value: it stays its own, or comes after true assignments
   after_meant : (x : UserValue) → user_meant language values u ≡ Some x → (before after : Bool) → after ≡ true → (o : Option UserValue)
-      → IsGiven language values u before o → IsGiven language values u after (Some (over x o))
+      → IsGiven language values u before o → IsGiven language values u after (Some (merged_user x o))
   after_meant x is before after e o (inl held) =
-      inl (ap Some (ap (over x) held ∙ by_before before) ∙ sym (ap (λ b. cond b (user_meant language values u) None) e ∙ is)) where
-        by_before : (b : Bool) → over x (cond b (user_meant language values u) None) ≡ x
-        by_before true = ap (over x) is ∙ (meant_gives language (slice_get values u) x is).1
+      inl (ap Some (ap (merged_user x) held ∙ by_before before) ∙ sym (ap (λ b. cond b (user_meant language values u) None) e ∙ is)) where
+        by_before : (b : Bool) → merged_user x (cond b (user_meant language values u) None) ≡ x
+        by_before true = ap (merged_user x) is ∙ (meant_gives language (slice_get values u) x is).1
         by_before false = over_none x
   after_meant x is before after e o (inr t) = by_shape x is refl where
-    by_shape : (y : UserValue) → user_meant language values u ≡ Some y → y ≡ x → IsGiven language values u after (Some (over x o))
-    by_shape (TriUser a) is_y same = inl (ap (λ z. Some (over z o)) (sym same) ∙ sym (ap (λ b. cond b (user_meant language values u) None) e ∙ is_y))
-    by_shape (TextUser a) is_y same = inl (ap (λ z. Some (over z o)) (sym same) ∙ sym (ap (λ b. cond b (user_meant language values u) None) e ∙ is_y))
-    by_shape (MemberUser a) is_y same = inl (ap (λ z. Some (over z o)) (sym same) ∙ sym (ap (λ b. cond b (user_meant language values u) None) e ∙ is_y))
+    by_shape : (y : UserValue) → user_meant language values u ≡ Some y → y ≡ x → IsGiven language values u after (Some (merged_user x o))
+    by_shape (TriUser a) is_y same = inl (ap (λ z. Some (merged_user z o)) (sym same) ∙ sym (ap (λ b. cond b (user_meant language values u) None) e ∙ is_y))
+    by_shape (TextUser a) is_y same = inl (ap (λ z. Some (merged_user z o)) (sym same) ∙ sym (ap (λ b. cond b (user_meant language values u) None) e ∙ is_y))
+    by_shape (MemberUser a) is_y same = inl (ap (λ z. Some (merged_user z o)) (sym same) ∙ sym (ap (λ b. cond b (user_meant language values u) None) e ∙ is_y))
     by_shape (LinesUser later) is_y same =
         let own = lines_meant language (slice_get values u) later is_y in
         inr (record {
-          lines = laid_over later t.lines;
-          is = ap (λ z. Some (over z o)) (sym same) ∙ ap (λ z. Some (over (LinesUser later) z)) t.is;
+          lines = merged_lines later t.lines;
+          is = ap (λ z. Some (merged_user z o)) (sym same) ∙ ap (λ z. Some (merged_user (LinesUser later) z)) t.is;
           true_lines = kept_true (IsTrueLine values u) (λ (l : MemberLine). not (is_listed later l.member)) t.lines later t.true_lines
               (subst (AllByRecursion (IsTrueLine values u)) (sym own.1) ((λ y. own.2, λ n. absurd (false≢true (sym n))), tt));
           chosen = λ b some. any_behind (λ (l : MemberLine). l.is_y) (filter (λ (l : MemberLine). not (is_listed later l.member)) t.lines) later
@@ -124,35 +124,35 @@ module _ (language : Language) (values : List UnitValue) (u : ℕ) where
 
   -- after `n` of a member that isn't selected
   after_unchosen : (s : ℕ) → slice_get values u ≢ Some (MemberValue (Some s)) → (before : Bool) (o : Option UserValue) → IsGiven language values u before o
-      → IsGiven language values u before (Some (over (LinesUser (record { member = s; is_y = false } ∷ [])) o))
+      → IsGiven language values u before (Some (merged_user (LinesUser (record { member = s; is_y = false } ∷ [])) o))
   after_unchosen s differs before o (inr t) =
       inr (record {
-        lines = laid_over (record { member = s; is_y = false } ∷ []) t.lines;
-        is = ap (λ z. Some (over (LinesUser (record { member = s; is_y = false } ∷ [])) z)) t.is;
+        lines = merged_lines (record { member = s; is_y = false } ∷ []) t.lines;
+        is = ap (λ z. Some (merged_user (LinesUser (record { member = s; is_y = false } ∷ [])) z)) t.is;
         true_lines = kept_true (IsTrueLine values u) (λ (l : MemberLine). not (is_listed (record { member = s; is_y = false } ∷ []) l.member)) t.lines (record { member = s; is_y = false } ∷ [])
             t.true_lines ((λ y. absurd (false≢true y), λ n. differs), tt);
         chosen = λ b some. y_stays values u s t.lines (record { member = s; is_y = false } ∷ []) t.true_lines differs (t.chosen b some);
       })
   after_unchosen s differs before o (inl held) = by_held (cond before (user_meant language values u) None) refl where
     by_held : (h : Option UserValue) → cond before (user_meant language values u) None ≡ h
-        → IsGiven language values u before (Some (over (LinesUser (record { member = s; is_y = false } ∷ [])) o))
+        → IsGiven language values u before (Some (merged_user (LinesUser (record { member = s; is_y = false } ∷ [])) o))
     by_held None e =
         inr (record {
           lines = record { member = s; is_y = false } ∷ [];
-          is = ap (λ z. Some (over (LinesUser (record { member = s; is_y = false } ∷ [])) z)) (held ∙ e);
+          is = ap (λ z. Some (merged_user (LinesUser (record { member = s; is_y = false } ∷ [])) z)) (held ∙ e);
           true_lines = ((λ y. absurd (false≢true y), λ n. differs), tt);
           chosen = λ b some. absurd (some (sym (ap (λ t. cond t (user_meant language values u) None) b) ∙ e));
         })
-    by_held (Some (TriUser t)) e = inl (ap (λ z. Some (over (LinesUser (record { member = s; is_y = false } ∷ [])) z)) (held ∙ e) ∙ sym e)
-    by_held (Some (TextUser t)) e = inl (ap (λ z. Some (over (LinesUser (record { member = s; is_y = false } ∷ [])) z)) (held ∙ e) ∙ sym e)
-    by_held (Some (MemberUser t)) e = inl (ap (λ z. Some (over (LinesUser (record { member = s; is_y = false } ∷ [])) z)) (held ∙ e) ∙ sym e)
+    by_held (Some (TriUser t)) e = inl (ap (λ z. Some (merged_user (LinesUser (record { member = s; is_y = false } ∷ [])) z)) (held ∙ e) ∙ sym e)
+    by_held (Some (TextUser t)) e = inl (ap (λ z. Some (merged_user (LinesUser (record { member = s; is_y = false } ∷ [])) z)) (held ∙ e) ∙ sym e)
+    by_held (Some (MemberUser t)) e = inl (ap (λ z. Some (merged_user (LinesUser (record { member = s; is_y = false } ∷ [])) z)) (held ∙ e) ∙ sym e)
     by_held (Some (LinesUser lines)) e =
         let meant : user_meant language values u ≡ Some (LinesUser lines) = given_meant before e in
         let own = lines_meant language (slice_get values u) lines meant in
         let all : AllByRecursion (IsTrueLine values u) lines = subst (AllByRecursion (IsTrueLine values u)) (sym own.1) ((λ y. own.2, λ n. absurd (false≢true (sym n))), tt) in
         inr (record {
-          lines = laid_over (record { member = s; is_y = false } ∷ []) lines;
-          is = ap (λ z. Some (over (LinesUser (record { member = s; is_y = false } ∷ [])) z)) (held ∙ e);
+          lines = merged_lines (record { member = s; is_y = false } ∷ []) lines;
+          is = ap (λ z. Some (merged_user (LinesUser (record { member = s; is_y = false } ∷ [])) z)) (held ∙ e);
           true_lines = kept_true (IsTrueLine values u) (λ (l : MemberLine). not (is_listed (record { member = s; is_y = false } ∷ []) l.member)) lines (record { member = s; is_y = false } ∷ [])
               all ((λ y. absurd (false≢true y), λ n. differs), tt);
           chosen = λ b some. y_stays values u s lines (record { member = s; is_y = false } ∷ []) all differs (ap (list_any (λ (l : MemberLine). l.is_y)) own.1);
@@ -171,15 +171,15 @@ after_own language values u (unchosen w s ∷ meanings) held before h own e = af
 after_own language values u (notice kind ∷ meanings) held before h own e = absurd own.0
 after_own language values u (silent ∷ meanings) held before h own e = after_own language values u meanings held before h own.1 e
 after_own language values u (assigns w x ∷ meanings) held before h own e =
-    let z = over x (user_of held w) in
+    let z = merged_user x (user_of held w) in
     let len = length-set held w (Some z) in
     let is_u = nat_eq w u && gives x in
     subst (λ b. IsGiven language values u b (user_of (assigned_over meanings (slice_set held w (Some z))) u)) (or_assoc before is_u (list_any (is_for u) meanings))
     (after_own language values u meanings (slice_set held w (Some z)) (before || is_u) (omega arith) own.1 (elim (cases_Bool (nat_eq w u)) [
       | inl same ↦
           let is : w ≡ u = eqb-true w u same in
-          let here : user_of (slice_set held w (Some z)) u ≡ Some (over x (user_of held u)) =
-          ap (λ k. user_of (slice_set held k (Some (over x (user_of held k)))) u) is ∙ get_or-set_same held u (Some (over x (user_of held u))) None h in
+          let here : user_of (slice_set held w (Some z)) u ≡ Some (merged_user x (user_of held u)) =
+          ap (λ k. user_of (slice_set held k (Some (merged_user x (user_of held k)))) u) is ∙ get_or-set_same held u (Some (merged_user x (user_of held u))) None h in
           subst (IsGiven language values u (before || is_u)) (sym here) (by_own is same own.0)
       | inr other ↦
           let unlike : (before || is_u) ≡ before = ap (λ b. before || (b && gives x)) other ∙ or-false before in
@@ -187,7 +187,7 @@ after_own language values u (assigns w x ∷ meanings) held before h own e =
           (subst (λ b. IsGiven language values u b (user_of held u)) (sym unlike) e)
     ])) where
       by_own : w ≡ u → nat_eq w u ≡ true → (user_meant language values w ≡ Some x) ⊎ IsUnchosen values w x
-          → IsGiven language values u (before || (nat_eq w u && gives x)) (Some (over x (user_of held u)))
+          → IsGiven language values u (before || (nat_eq w u && gives x)) (Some (merged_user x (user_of held u)))
       by_own is same (inl own) =
           let meant : user_meant language values u ≡ Some x = ap (user_meant language values) (sym is) ∙ own in
           let counts : (before || (nat_eq w u && gives x)) ≡ true =
@@ -197,8 +197,8 @@ after_own language values u (assigns w x ∷ meanings) held before h own e =
           let counts_not : (before || (nat_eq w u && gives x)) ≡ before =
           ap (λ y. before || (nat_eq w u && gives y)) n.1 ∙ ap (λ b. before || b) (and-false (nat_eq w u)) ∙ or-false before in
           let differs : slice_get values u ≢ Some (MemberValue (Some n.0)) = λ e. n.2 (ap (slice_get values) is ∙ e) in
-          subst (λ y. IsGiven language values u (before || (nat_eq w u && gives x)) (Some (over y (user_of held u)))) (sym n.1)
-          (subst (λ b. IsGiven language values u b (Some (over (LinesUser (record { member = n.0; is_y = false } ∷ [])) (user_of held u)))) (sym counts_not)
+          subst (λ y. IsGiven language values u (before || (nat_eq w u && gives x)) (Some (merged_user y (user_of held u)))) (sym n.1)
+          (subst (λ b. IsGiven language values u b (Some (merged_user (LinesUser (record { member = n.0; is_y = false } ∷ [])) (user_of held u)))) (sym counts_not)
           (after_unchosen language values u n.0 differs before (user_of held u) e))
 
 -- a definition is among the entries

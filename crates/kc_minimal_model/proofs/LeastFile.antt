@@ -2,7 +2,7 @@
 use Rattle.kc_minimal_model.proofs.Common.{◌≡◌, inl, inr, ℕ, zero, suc, ◌+◌, ◌<◌, ◌≤◌, Bool, true, false, not, ◌||◌, ◌==◌, cond, IsTrue, List, [], ◌∷◌, ◌++◌, Option, Some, None, length, get_or, map, filter, refl, sym, ◌∙◌, ap, subst, append_assoc, arith, slice_get, slice_set, option_map}
 use Rattle.kc_minimal_model.proofs.Common.{option_and_then, AllZip, list_any, list_all, flat_map, range_with_len, cases_Bool, cases_eq, false≢true, and_from, and_parts, or_left, or_right, eqb-true, eqb-false, eq-eqb, get_or-set_same, get_or-set_other, slice_get-get_or, or_right, or-false, or_assoc}
 use Rattle.kc_minimal_model.proofs.Common.{N, Y, Tree, Symbol, IsConsistent, unit_of, index_of_unit, user_of, Solves, FitsUsers, Profile, UnitValue, UserValue, is_n, value_in_unit, tri_if_selected, member_of, as_user, unit_user_fits, choice_user_fits, is_member, symbol_numbers, FileFormat}
-use Rattle.kc_minimal_model.proofs.Common.{is_name_prefix, LineMeaning, Means, without_white_end, FileMeans, file_lines, over, assigned_over, file_assignment, empty_assignment, ended_line, is_kept, has_line, may_have_line, is_line_of_its_unit, minimal_symbols, minimal_file, first_of_lines, inside}
+use Rattle.kc_minimal_model.proofs.Common.{is_name_prefix, LineMeaning, Means, without_white_end, FileMeans, file_lines, merged_user, assigned_over, file_assignment, empty_assignment, ended_line, is_kept, has_line, may_have_line, is_line_of_its_unit, minimal_symbols, minimal_file, first_of_lines, inside}
 use Rattle.kc_minimal_model.proofs.Common.{place_is, unit_is, over_none, none_held, none_length, file_length}
 use Rattle.kc_tree_model.specs.declared.ids.Unit.{Unit as TreeUnit}
 use Rattle.kc_tree_model.specs.declared.ids.Unit.TheVariants.{Symbol as of_symbol, Choice as of_choice}
@@ -14,7 +14,7 @@ use Rattle.kc_minimal_model.specs.SymbolLine.{symbol_line}
 use Rattle.kc_minimal_model.proofs.KeptUnits.{KeptUnit, kept_unit, kept_passes, others_fail}
 use Rattle.kc_minimal_model.proofs.KeptLines.{line_reads, meant, user_meant, meaning_of_user}
 use Rattle.kc_minimal_model.proofs.MemberUsers.{chosen_member, meant_gives}
-use Rattle.kc_dotconfig_model.proofs.Overlays.{assigned_length}
+use Rattle.kc_dotconfig_model.proofs.MergedUsers.{assigned_length}
 
 -- each line of the minimal file has a meaning, and what the lines assign is the least assignment of the values
 pub record IsReadAsLeast (format : FileFormat) (profile : Profile) (tree : Tree) (values : List UnitValue) : Type 0 where
@@ -55,7 +55,7 @@ either_none true o e = e
 either_none false o e = refl
 
 -- after one line, a unit has its user value where the line or one before it is of the unit
-after_line : (X : Option UserValue) → ((x : UserValue) → X ≡ Some x → over x (Some x) ≡ x) → (w u : ℕ) (o : Option UserValue) (users : List (Option UserValue))
+after_line : (X : Option UserValue) → ((x : UserValue) → X ≡ Some x → merged_user x (Some x) ≡ x) → (w u : ℕ) (o : Option UserValue) (users : List (Option UserValue))
     (before : Bool) → (w ≡ u → o ≡ X) → u < length users
     → user_of users u ≡ cond before X None
     → user_of (assigned (meaning_of_user w o) users) u ≡ cond (before || (w == u)) X None
@@ -66,16 +66,16 @@ after_line X again w u None users before same h e = elim (cases_Bool (w == u)) [
 after_line X again w u (Some x) users before same h e = elim (cases_Bool (w == u)) [
   | inl here ↦
       let equal : w ≡ u = eqb-true w u here in
-      let z = over x (user_of users w) in
-      let own : z ≡ x = ap (λ k. over x (user_of users k)) equal ∙ ap (over x) (e ∙ ap (λ y. cond before y None) (sym (same equal)))
+      let z = merged_user x (user_of users w) in
+      let own : z ≡ x = ap (λ k. merged_user x (user_of users k)) equal ∙ ap (merged_user x) (e ∙ ap (λ y. cond before y None) (sym (same equal)))
       ∙ stays before x (again x (sym (same equal))) in
       subst (λ k. get_or (slice_set users k (Some z)) u None ≡ Some z) (sym equal) (get_or-set_same users u (Some z) None h)
       ∙ ap Some own ∙ same equal ∙ sym (ap (λ b. cond (before || b) X None) here ∙ ap (λ b. cond b X None) (or_right before true refl))
   | inr other ↦
-      get_or-set_other users w u (Some (over x (user_of users w))) None (λ equal. eqb-false w u other (sym equal)) ∙ e
+      get_or-set_other users w u (Some (merged_user x (user_of users w))) None (λ equal. eqb-false w u other (sym equal)) ∙ e
       ∙ sym (ap (λ b. cond (before || b) X None) other ∙ ap (λ b. cond b X None) (or-false before))
 ] where
-  stays : (b : Bool) (y : UserValue) → over y (Some y) ≡ y → over y (cond b (Some y) None) ≡ y
+  stays : (b : Bool) (y : UserValue) → merged_user y (Some y) ≡ y → merged_user y (cond b (Some y) None) ≡ y
   stays true y again = again
   stays false y again = over_none y
 

@@ -1,6 +1,6 @@
 -- The user values of choices that represent their values.
 use Rattle.kc_minimal_model.proofs.Common.{◌≡◌, ◌≢◌, ℕ, Bool, true, false, not, ◌&&◌, ◌||◌, cond, [], ◌∷◌, ◌++◌, Option, Some, None, refl, sym, ◌∙◌, ap, option_and_then, list_any, false≢true, and_parts, eq-eqb, Language, is_linux_6_12, Choice, UnitValue, UserValue, MemberLine, as_user, member_user}
-use Rattle.kc_minimal_model.proofs.Common.{choice_user_fits, is_member, over}
+use Rattle.kc_minimal_model.proofs.Common.{choice_user_fits, is_member, merged_user}
 use Rattle.kc_rules_model.specs.declared.values.UnitValue.TheVariants.{Tri as TriValue, Text as TextValue, Member as MemberValue}
 use Rattle.kc_rules_model.specs.declared.values.UserValue.TheVariants.{Tri as TriUser, Text as TextUser, Member as MemberUser, Lines as LinesUser}
 
@@ -29,19 +29,19 @@ abbrev pub gives : UserValue → Bool
 gives (LinesUser lines) = list_any (λ (l : MemberLine). l.is_y) lines
 gives _ = true
 
--- a user value that represents a value gives it, and laid over itself it stays
+-- a user value that represents a value gives it, and merged with itself it stays
 pub meant_gives : (language : Language) (o : Option UnitValue) (x : UserValue) → option_and_then (as_user language) o ≡ Some x
-    → (gives x ≡ true) × (over x (Some x) ≡ x)
+    → (gives x ≡ true) × (merged_user x (Some x) ≡ x)
 meant_gives language None x e = cc
 meant_gives language (Some (MemberValue None)) x e = cc
-meant_gives language (Some (TriValue t)) x e = let same : TriUser t ≡ x = cc in (ap gives (sym same), ap (λ y. over y (Some y)) (sym same) ∙ same)
-meant_gives language (Some (TextValue t)) x e = let same : TextUser t ≡ x = cc in (ap gives (sym same), ap (λ y. over y (Some y)) (sym same) ∙ same)
+meant_gives language (Some (TriValue t)) x e = let same : TriUser t ≡ x = cc in (ap gives (sym same), ap (λ y. merged_user y (Some y)) (sym same) ∙ same)
+meant_gives language (Some (TextValue t)) x e = let same : TextUser t ≡ x = cc in (ap gives (sym same), ap (λ y. merged_user y (Some y)) (sym same) ∙ same)
 meant_gives language (Some (MemberValue (Some m))) x e =
     let same : member_user language m ≡ x = cc in
     let own = go (is_linux_6_12 language) in
-    (ap gives (sym same) ∙ own.0, ap (λ y. over y (Some y)) (sym same) ∙ own.1 ∙ same) where
+    (ap gives (sym same) ∙ own.0, ap (λ y. merged_user y (Some y)) (sym same) ∙ own.1 ∙ same) where
       go : (b : Bool) → (gives (cond b (LinesUser (record { member = m; is_y = true } ∷ [])) (MemberUser m)) ≡ true)
-          × (over (cond b (LinesUser (record { member = m; is_y = true } ∷ [])) (MemberUser m)) (Some (cond b (LinesUser (record { member = m; is_y = true } ∷ [])) (MemberUser m)))
+          × (merged_user (cond b (LinesUser (record { member = m; is_y = true } ∷ [])) (MemberUser m)) (Some (cond b (LinesUser (record { member = m; is_y = true } ∷ [])) (MemberUser m)))
           ≡ cond b (LinesUser (record { member = m; is_y = true } ∷ [])) (MemberUser m))
       go true = (
         refl,

@@ -4,15 +4,13 @@ use Rattle.kc_minimal_model.proofs.Common.{◌≡◌, inl, inr, ℕ, ◌<◌, Bo
 use Rattle.kc_minimal_model.proofs.Common.{Int, Hex, number_of_text, Tree, Symbol, Choice, MemberDefault, user_of, Solves, FitsUsers, Profile, UnitValue, UserValue, Language, is_linux_6_12, condition, is_n, is_number, rule_of_unit, rule_of_choice, choice_rule, as_user, is_visible, default_member}
 use Rattle.kc_minimal_model.proofs.Common.{is_shown, is_visible_member, rules_restore, none_listed, default_is_seen, older, newer, same_tri, same_from}
 use Rattle.kc_value.specs.declared.value.Kind.TheVariants.{Bool as Boolean}
-use Rattle.kc_value.specs.Tri.{tri_and, tri_or}
+use Rattle.kc_value.specs.Tri.{tri_and, tri_or, largest, y_for_m}
 use Rattle.kc_value.specs.Number.{number_spelling, int_text, hex_text}
 use Rattle.kc_tree_model.specs.declared.ids.Unit.{Unit as TreeUnit}
 use Rattle.kc_tree_model.specs.declared.ids.Unit.TheVariants.{Symbol as of_symbol, Choice as of_choice}
 use Rattle.kc_rules_model.specs.declared.values.UnitValue.TheVariants.{Tri as TriValue, Text as TextValue, Member as MemberValue}
 use Rattle.kc_rules_model.specs.declared.values.UserValue.TheVariants.{Tri as TriUser, Text as TextUser, Member as MemberUser, Lines as LinesUser}
 use Rattle.kc_value.proofs.NumberSpelling.{spelling_read_back}
-use Rattle.kc_rules_model.specs.Kinds.{largest}
-use Rattle.kc_value.specs.Tri.{y_for_m}
 use Rattle.kc_value.specs.Kinds.{is_bool, is_tristate}
 use Rattle.kc_rules_model.specs.Rule.{rule, rule_of_symbol, symbol_rule, tri_rule, string_rule, number_rule, counted_prompts, visibility, conditions, modules_value, unassigned_value, selected, leaves_no_m, default_text, number_default, user_number, clamped, is_upside_down, text_without_number}
 use Rattle.kc_rules_model.specs.Rule.{active_default, shown_choice_rule, is_within, active_range, assigned_text}

@@ -6,7 +6,7 @@ use Rattle.kc_tree_model.specs.Trees.{Tree, Symbol}
 use Rattle.kc_tree_model.specs.TreeLookup.{unit_of}
 use Rattle.kc_rules_model.specs.declared.profile.Profile.{Profile}
 use Rattle.kc_rules_model.specs.declared.values.UnitValue.{UnitValue}
-use Rattle.kc_rules_model.specs.Kinds.{is_n}
+use Rattle.kc_value.specs.Tri.{is_n}
 use Rattle.kc_rules_model.specs.SymbolValues.{value_of_symbol}
 use Rattle.kc_rules_model.specs.Equality.{value_is}
 use Rattle.kc_rules_model.specs.Rule.{rule}

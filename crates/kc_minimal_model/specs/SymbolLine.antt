@@ -5,7 +5,7 @@ use Rattle.kc_value.specs.declared.value.Kind.TheVariants.{Text}
 use Rattle.kc_expr.specs.Expr.{SymbolValue}
 use Rattle.kc_tree_model.specs.Trees.{Tree, Symbol}
 use Rattle.kc_rules_model.specs.declared.values.UnitValue.{UnitValue}
-use Rattle.kc_rules_model.specs.Kinds.{is_n}
+use Rattle.kc_value.specs.Tri.{is_n}
 use Rattle.kc_value.specs.Kinds.{is_tri_kind}
 use Rattle.kc_rules_model.specs.SymbolValues.{value_of_symbol}
 use Rattle.kc_dotconfig_model.specs.declared.format.Strings.{Strings}

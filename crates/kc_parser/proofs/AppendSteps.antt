@@ -2,7 +2,7 @@
 use Rattle.kc_parser.proofs.Common.{◌≡◌, ◌↔◌, ℕ, suc, ◌+◌, ◌-◌, ◌<◌, ◌≤◌, Bool, true, false, List, [], ◌∷◌, ◌++◌, length, drop, take, map, Option, Some, None, Result, Ok, Err, OnOk, refl, ap, sym, subst, ◌∙◌, arith, reverse, cond, ◌||◌, length-append, length-drop, slice_get, slice_range, filter}
 use Rattle.kc_parser.proofs.Common.{filter_map, All, IsSome, is_some, option_map, bytes_eq, append-nil, drop-append-le, map-append, take-length, sum_by-cons, Exprs, Grows, Attribute, same_block, config, choice, menu, condition, comment, source, mainmenu, ends, path_of_head, Block, Group, GroupHead}
 use Rattle.kc_parser.proofs.Common.{of_head, file_end, open_blocks, from_head, defined_name, sourced_path, opens_choice, is_in_list, FileSource, names_defined, size_in, with_group, place_of_more, place_of_none, index_of_name, with_name, attribute_in, bytes_eq-Decides, All-append, All-cons, All-nil}
-use Rattle.kc_parser.proofs.Common.{OpenBlock, HasNames, RepresentsHead, line_in, LineNodesExist, RepresentsGroup, RepresentsGroups, RepresentsLists, RepresentsOpenBlock, RepresentsOpenBlocks, IsCounted, at_line}
+use Rattle.kc_parser.proofs.Common.{OpenBlock, HasNames, RepresentsHead, line_in, LineNodesExist, RepresentsGroup, RepresentsGroups, RepresentsLists, RepresentsOpenBlock, RepresentsOpenBlocks, IsCounted, at_line, HaveChoices, choices_opened, innermost_choice}
 use Rattle.std.specs.Prelude.{option_to_list}
 use Rattle.std.proofs.lemmas.List.{reverse-append, take_all}
 use Rattle.kc_tree_model.specs.Statements.{name_of_head, block_of_head}
@@ -21,14 +21,14 @@ use Rattle.kc_parser.specs.declared.state.OpenBlock.TheVariants as opens
 use Rattle.kc_parser.proofs.ListingGrowth.{groups_later, lines_held, get_more}
 use Rattle.kc_parser.proofs.NameLemmas.{names_later}
 
-pub on_ok : {A E : Type 0} (r : Result A E) (P Q : Type 0) → (P → Q) → OnOk r P → OnOk r Q
-on_ok (Ok x) P Q f h = f h
-on_ok (Err e) P Q f h = tt
+pub on_both : {A E : Type 0} (r : Result A E) (P R Q : Type 0) → (P → R → Q) → OnOk r P → OnOk r R → OnOk r Q
+on_both (Ok x) P R Q f h k = f h k
+on_both (Err e) P R Q f h k = tt
 
 empty_range : {A : Type 0} (xs : List A) (n : ℕ) → slice_range xs n n ≡ []
 empty_range xs n = let e : n - n ≡ 0 = omega arith in rw e refl
 
-reverse_push : {A : Type 0} (xs : List A) (x : A) → reverse (xs ++ x ∷ []) ≡ x ∷ reverse xs
+pub reverse_push : {A : Type 0} (xs : List A) (x : A) → reverse (xs ++ x ∷ []) ≡ x ∷ reverse xs
 reverse_push xs x = reverse-append xs (x ∷ [])
 
 pub grows_same : (e : Exprs) → Grows e e
@@ -44,6 +44,7 @@ lists_grown old new symbols numbers texts ts texts2 lines groups read grows e h 
   held = lines_held old new grows lines h.held;
   groups_are = groups_later old new grows (names_defined read) [] (names_defined read) texts ts texts2 lines [] lines (sym (append-nil (names_defined read))) e
       (sym (append-nil lines)) h.held (reverse groups) read (length lines) (omega arith) h.groups_are;
+  choices_are = h.choices_are;
 }
 
 -- a listing represents the same statements after its arena has grown, with any tables of symbols that have the same names
@@ -53,31 +54,34 @@ pub lists_names : (old new : Exprs) (symbols numbers symbols2 numbers2 : List �
     → RepresentsLists old symbols numbers texts lines groups read → RepresentsLists new symbols2 numbers2 texts lines groups read
 lists_names old new symbols numbers symbols2 numbers2 texts lines groups read grows has h =
     let k = lists_grown old new symbols numbers texts [] texts lines groups read grows (sym (append-nil texts)) h in
-    record { names = has; held = k.held; groups_are = k.groups_are }
+    record { names = has; held = k.held; groups_are = k.groups_are; choices_are = k.choices_are }
 
 -- a listing with one more group at its end, which may define a new symbol, represents the statements with the group's
 -- statement appended
 pub lists_pushed : (old new : Exprs) (symbols numbers symbols2 numbers2 : List ℕ) (ns texts : List (List ℕ)) (lines : List CodeLine)
-    (groups groups2 : List CodeGroup) (read : List Group) (file line n : ℕ) (what : CodeHead) (m : GroupHead)
+    (groups groups2 : List CodeGroup) (read : List Group) (file line n : ℕ) (what : CodeHead) (around : Option ℕ) (m : GroupHead)
     → Grows old new
-    → n ≡ length lines → groups2 ≡ groups ++ record { file = file; line = line; head = what; attributes = n } ∷ []
+    → n ≡ length lines → groups2 ≡ groups ++ record { file = file; line = line; head = what; attributes = n; choice = around } ∷ []
     → RepresentsLists old symbols numbers texts lines groups read → names_defined (with_group (at_line file line) m read) ≡ names_defined read ++ ns
     → HasNames new symbols2 numbers2 (names_defined read ++ ns)
     → RepresentsHead new (names_defined read ++ ns) texts what m
+    → around ≡ innermost_choice (choices_opened (reverse groups))
     → RepresentsLists new symbols2 numbers2 texts lines groups2 (with_group (at_line file line) m read)
-lists_pushed old new symbols numbers symbols2 numbers2 ns texts lines groups groups2 read file line n what m grows len push h names has shown =
+lists_pushed old new symbols numbers symbols2 numbers2 ns texts lines groups groups2 read file line n what around m grows len push h names has shown enclosed =
     let kept : RepresentsGroups new (names_defined read ++ ns) texts lines (length lines) (reverse groups) read =
     groups_later old new grows (names_defined read) ns (names_defined read ++ ns) texts [] texts lines [] lines refl (sym (append-nil texts))
     (sym (append-nil lines)) h.held (reverse groups) read (length lines) (omega arith) h.groups_are in
     let own : RepresentsGroup new (names_defined read ++ ns) texts (slice_range lines (length lines) (length lines)) (length read)
-    (record { file = file; line = line; head = what; attributes = length lines })
+    (record { file = file; line = line; head = what; attributes = length lines; choice = around })
     (record { number = length read; at = at_line file line; head = m; attributes = [] }) =
     record { number_is = refl; file_is = refl; line_is = refl; head = shown; attributes = sym (ap (map (line_in new)) (empty_range lines (length lines))) } in
     record {
       names = rw names has;
       held = lines_held old new grows lines h.held;
-      groups_are = rw (names, push, reverse_push groups (record { file = file; line = line; head = what; attributes = n }), len)
+      groups_are = rw (names, push, reverse_push groups (record { file = file; line = line; head = what; attributes = n; choice = around }), len)
           (own, (let k : length lines ≤ length lines = omega arith in k), kept);
+      choices_are = subst HaveChoices (sym (ap reverse push ∙ reverse_push groups (record { file = file; line = line; head = what; attributes = n; choice = around })))
+          (enclosed, h.choices_are);
     }
 
 -- the end of a block or of a sourced file defines no symbol
@@ -104,15 +108,16 @@ same_names file line m read e = rw e (sym (append-nil (names_defined read)))
 -- a listing with one more group at its end, which defines no symbol, represents the statements with the group's
 -- statement appended
 pub lists_put_same : (e : Exprs) (symbols numbers : List ℕ) (texts : List (List ℕ)) (lines : List CodeLine) (groups groups2 : List CodeGroup)
-    (read : List Group) (file line n : ℕ) (what : CodeHead) (m : GroupHead)
-    → n ≡ length lines → groups2 ≡ groups ++ record { file = file; line = line; head = what; attributes = n } ∷ []
+    (read : List Group) (file line n : ℕ) (what : CodeHead) (around : Option ℕ) (m : GroupHead)
+    → n ≡ length lines → groups2 ≡ groups ++ record { file = file; line = line; head = what; attributes = n; choice = around } ∷ []
     → RepresentsLists e symbols numbers texts lines groups read → from_head name_of_head m ≡ None
     → RepresentsHead e (names_defined read) texts what m
+    → around ≡ innermost_choice (choices_opened (reverse groups))
     → RepresentsLists e symbols numbers texts lines groups2 (with_group (at_line file line) m read)
-lists_put_same e symbols numbers texts lines groups groups2 read file line n what m len push h none shown =
-    lists_pushed e e symbols numbers symbols numbers [] texts lines groups groups2 read file line n what m (grows_same e) len push h
+lists_put_same e symbols numbers texts lines groups groups2 read file line n what around m len push h none shown enclosed =
+    lists_pushed e e symbols numbers symbols numbers [] texts lines groups groups2 read file line n what around m (grows_same e) len push h
     (same_names file line m read none)
-    (rw (append-nil (names_defined read)) h.names) (rw (append-nil (names_defined read)) shown)
+    (rw (append-nil (names_defined read)) h.names) (rw (append-nil (names_defined read)) shown) enclosed
 
 -- nor does a statement inside a block, but for a name
 inside_block : (m : GroupHead) → side_of m ≡ inside → from_head block_of_head m ≡ None
@@ -206,18 +211,19 @@ pub names_with : (file line : ℕ) (x : List ℕ) (read : List Group)
 names_with file line x read = ap (λ b. cond b (names_defined read) (names_defined read ++ x ∷ [])) (sym (place_among x read))
 
 pub lists_put_config : (old new : Exprs) (symbols numbers symbols2 numbers2 : List ℕ) (texts : List (List ℕ)) (lines : List CodeLine)
-    (groups groups2 : List CodeGroup) (read : List Group) (file line n s : ℕ) (x : List ℕ)
+    (groups groups2 : List CodeGroup) (read : List Group) (file line n s : ℕ) (around : Option ℕ) (x : List ℕ)
     → Grows old new
-    → n ≡ length lines → groups2 ≡ groups ++ record { file = file; line = line; head = codes.Config s; attributes = n } ∷ []
+    → n ≡ length lines → groups2 ≡ groups ++ record { file = file; line = line; head = codes.Config s; attributes = n; choice = around } ∷ []
     → RepresentsLists old symbols numbers texts lines groups read
     → HasNames new symbols2 numbers2 (with_name x (names_defined read))
     → slice_get (with_name x (names_defined read)) s ≡ Some x
+    → around ≡ innermost_choice (choices_opened (reverse groups))
     → RepresentsLists new symbols2 numbers2 texts lines groups2 (with_group (at_line file line) (of_head (config x)) read)
-lists_put_config old new symbols numbers symbols2 numbers2 texts lines groups groups2 read file line n s x grows len push h has at =
+lists_put_config old new symbols numbers symbols2 numbers2 texts lines groups groups2 read file line n s around x grows len push h has at enclosed =
     let e = with_more x (names_defined read) in
     lists_pushed old new symbols numbers symbols2 numbers2 (more_names (is_some (index_of_name x (names_defined read))) x) texts lines groups groups2 read file
-    line n (codes.Config s) (of_head (config x)) grows len push h
-    (names_with file line x read ∙ e) (subst (HasNames new symbols2 numbers2) e has) (x, subst (λ names. slice_get names s ≡ Some x) e at, refl)
+    line n (codes.Config s) around (of_head (config x)) grows len push h
+    (names_with file line x read ∙ e) (subst (HasNames new symbols2 numbers2) e has) (x, subst (λ names. slice_get names s ≡ Some x) e at, refl) enclosed
 
 -- an attribute of the newest group
 range_more : {A : Type 0} (xs : List A) (x : A) (a : ℕ) → a ≤ length xs → slice_range (xs ++ x ∷ []) a (length xs + 1) ≡ slice_range xs a (length xs) ++ x ∷ []
@@ -266,13 +272,19 @@ lists_attribute e symbols numbers texts lines lines2 groups read l push held h =
         → RepresentsGroups e (names_defined read) texts lines (length lines) gs read → (gs ≡ reverse groups)
         → RepresentsLists e symbols numbers texts lines2 groups (with_attribute l.number (attribute_in e l.attribute) read)
     by_newest [] gs n k f =
-        record { names = n; held = all; groups_are = subst (λ ks. RepresentsGroups e (names_defined []) texts lines2 (length lines2) ks []) f (shown [] gs k) }
+        record {
+          names = n;
+          held = all;
+          groups_are = subst (λ ks. RepresentsGroups e (names_defined []) texts lines2 (length lines2) ks []) f (shown [] gs k);
+          choices_are = h.choices_are;
+        }
     by_newest (m ∷ ms) gs n k f =
         record {
           names = n;
           held = all;
           groups_are = subst (λ ks. RepresentsGroups e (names_defined (m ∷ ms)) texts lines2 (length lines2) ks
               (with_attribute l.number (attribute_in e l.attribute) (m ∷ ms))) f (shown (m ∷ ms) gs k);
+          choices_are = h.choices_are;
         }
 
 -- a stack whose top is taken off
@@ -291,8 +303,8 @@ popped_shown texts [] new None bs e v h = none new bs (sym (append-nil new) ∙ 
 popped_shown texts (o ∷ old) new None bs e v h = let f : false ≡ true = v.1 (omega arith) in cc
 
 open_grown : (texts ts : List (List ℕ)) (o : OpenBlock) (g : Group) → RepresentsOpenBlock texts o g → RepresentsOpenBlock (texts ++ ts) o g
-open_grown texts ts (opens.Block b l) g h = h
-open_grown texts ts (opens.Source t) g h = (h.0, get_more texts ts t h.0 h.1, h.2, h.3)
+open_grown texts ts (opens.Block b l c) g h = h
+open_grown texts ts (opens.Source t c) g h = (h.0, get_more texts ts t h.0 h.1, h.2, h.3)
 
 stack_grown : (texts ts : List (List ℕ)) (os : List OpenBlock) (gs : List Group) → RepresentsOpenBlocks texts os gs → RepresentsOpenBlocks (texts ++ ts) os gs
 stack_grown texts ts [] [] h = tt
@@ -346,27 +358,27 @@ module _ (r : FileSource) (texts : List (List ℕ)) (old : List OpenBlock) (choi
       rw (pushed (record { number = length read; at = at_line file line; head = m; attributes = [] }) read e, p, reverse_push old o) (s, h.stack)
 
   -- the reader's stack and counts are right (`IsCounted`) after a menu or an `if`, if it was pushed onto the stack
-  pub counted_block : (b : Block) (new : List OpenBlock) → new ≡ old ++ opens.Block b line ∷ [] → from_head block_of_head m ≡ Some b
+  pub counted_block : (b : Block) (c : Option ℕ) (new : List OpenBlock) → new ≡ old ++ opens.Block b line c ∷ [] → from_head block_of_head m ≡ Some b
       → same_block blocks.Choice b ≡ false
       → IsCounted r texts new choices files bytes (with_group (at_line file line) m read)
-  counted_block b new p e n =
+  counted_block b c new p e n =
       let q = block_path m b e in
       record {
-        stack = stack_push (opens.Block b line) new (block_side m b e) p (e, refl, q);
+        stack = stack_push (opens.Block b line c) new (block_side m b e) p (e, refl, q);
         choices_are = rw (e, n) h.choices_are;
         files_are = rw q h.files_are;
         bytes_are = rw q h.bytes_are;
       }
 
   -- the reader's stack and counts are right (`IsCounted`) after a choice, if it was pushed onto the stack and counted
-  pub counted_choice : (new : List OpenBlock) (choices2 : ℕ) → m ≡ of_head choice → new ≡ old ++ opens.Block blocks.Choice line ∷ [] → choices2 ≡ choices + 1
+  pub counted_choice : (own : Option ℕ) (new : List OpenBlock) (choices2 : ℕ) → m ≡ of_head choice → new ≡ old ++ opens.Block blocks.Choice line own ∷ [] → choices2 ≡ choices + 1
       → IsCounted r texts new choices2 files bytes (with_group (at_line file line) m read)
-  counted_choice new choices2 e p n =
+  counted_choice own new choices2 e p n =
       let c = h.choices_are in
       let block : from_head block_of_head m ≡ Some blocks.Choice = rw e refl in
       let q = block_path m blocks.Choice block in
       record {
-        stack = stack_push (opens.Block blocks.Choice line) new (block_side m blocks.Choice block) p (block, refl, q);
+        stack = stack_push (opens.Block blocks.Choice line own) new (block_side m blocks.Choice block) p (block, refl, q);
         choices_are = rw block (omega arith);
         files_are = rw q h.files_are;
         bytes_are = rw q h.bytes_are;
@@ -374,14 +386,14 @@ module _ (r : FileSource) (texts : List (List ℕ)) (old : List OpenBlock) (choi
 
   -- the reader's stack and counts are right (`IsCounted`) after a `source`, if its file was pushed onto the stack and
   -- counted with its bytes
-  pub counted_source : (t : ℕ) (path : List ℕ) (new : List OpenBlock) (files2 bytes2 : ℕ) → m ≡ of_head (source path) → slice_get texts t ≡ Some path
-      → new ≡ old ++ opens.Source t ∷ [] → files2 ≡ files + 1 → bytes2 ≡ bytes + size_in r path
+  pub counted_source : (t : ℕ) (path : List ℕ) (c : Option ℕ) (new : List OpenBlock) (files2 bytes2 : ℕ) → m ≡ of_head (source path) → slice_get texts t ≡ Some path
+      → new ≡ old ++ opens.Source t c ∷ [] → files2 ≡ files + 1 → bytes2 ≡ bytes + size_in r path
       → IsCounted r texts new choices files2 bytes2 (with_group (at_line file line) m read)
-  counted_source t path new files2 bytes2 e s p f b =
+  counted_source t path c new files2 bytes2 e s p f b =
       let fs = h.files_are in
       let bs = h.bytes_are in
       record {
-        stack = stack_push (opens.Source t) new (rw e refl) p (path, s, rw e refl, rw e refl);
+        stack = stack_push (opens.Source t c) new (rw e refl) p (path, s, rw e refl, rw e refl);
         choices_are = rw e h.choices_are;
         files_are = rw e (omega arith);
         bytes_are = rw e (let u = sum_by-cons (size_in r) r.root (path ∷ filter_map sourced_path read) in let v = sum_by-cons (size_in r) path
@@ -400,8 +412,8 @@ stack_attribute texts os line a (g ∷ before) h = by_side (side_of g.head) refl
       where
         same : (o : OpenBlock) → RepresentsOpenBlock texts o g
             → RepresentsOpenBlock texts o (record g { attributes = g.attributes ++ record { number = line; attribute = a } ∷ [] })
-        same (opens.Block b l) k = k
-        same (opens.Source t) k = k
+        same (opens.Block b l c) k = k
+        same (opens.Source t c) k = k
 
         top : (os : List OpenBlock) → RepresentsOpenBlocks texts os (g ∷ open_blocks 0 before)
             → RepresentsOpenBlocks texts os (record g { attributes = g.attributes ++ record { number = line; attribute = a } ∷ [] } ∷ open_blocks 0 before)

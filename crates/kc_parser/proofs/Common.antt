@@ -16,11 +16,12 @@ pub use Rattle.kc_expr.proofs.Places.{place_of_more, place_of_none}
 pub use Rattle.kc_expr.specs.Lookup.{index_of_name}
 pub use Rattle.kc_expr.specs.between.Arena.{Exprs, Grows, node_expr}
 pub use Rattle.kc_expr.specs.between.Names.{with_name}
+pub use Rattle.kc_parser.specs.between.EnclosingChoices.{HaveChoices, begins_choice, choices_opened, choices_opened_after, innermost_choice, is_choice_code}
 pub use Rattle.kc_parser.specs.between.ListingView.{LineNodesExist, RepresentsGroup, RepresentsGroups, RepresentsHead, RepresentsLists, line_in}
 pub use Rattle.kc_parser.specs.between.SymbolTable.{HasNames, number_in, number_in_slot}
 pub use Rattle.kc_parser.specs.checker.Faults.{fault_in}
 pub use Rattle.kc_parser.specs.checker.LinePlacement.{entry_kept, fault_before, is_allowed_here, is_stray_block}
-pub use Rattle.kc_parser.specs.checker.OpenBlockViews.{block_kept, is_block, is_choice, is_file}
+pub use Rattle.kc_parser.specs.checker.OpenBlockViews.{block_kept, choice_in, choice_kept, is_block, is_choice, is_file}
 pub use Rattle.kc_parser.specs.checker.StateViews.{IsCounted, RepresentsOpenBlock, RepresentsOpenBlocks, at_line}
 pub use Rattle.kc_parser.specs.checker.Steps.{AppendsHead, IsIndentedLeft, IsLeft, ReturnsFileRead, ReturnsLineRead, limits, line_here}
 pub use Rattle.kc_parser.specs.checker.Symbols.{is_full}
@@ -34,7 +35,9 @@ pub use Rattle.kc_tokens.specs.declared.language.Language.{Language}
 pub use Rattle.kc_tree_model.specs.Blocks.{Group, GroupHead, defined_name, file_end, from_head, innermost, is_some_block, of_head, open_blocks, opened_block, opens_choice, sourced_path}
 pub use Rattle.kc_tree_model.specs.Limits.{FileSource, bytes_in, is_in_list, names_defined, open_files, size_in}
 pub use Rattle.kc_tree_model.specs.Placement.{is_allowed, is_left_out, is_stray_end}
-pub use Rattle.kc_tree_model.specs.Statements.{Attribute, Head, choice, comment, condition, config, ends, head, mainmenu, menu, path_of_head, same_block, source}
+pub use Rattle.kc_tree_model.specs.Statements.{Attribute, Head, path_of_head, same_block}
+pub use Rattle.kc_tree_model.specs.declared.statement.Head.TheVariants.{Choice as choice, Comment as comment, Condition as condition, Config as config, Ends as ends, Mainmenu as mainmenu, Menu as menu, Source as source}
+pub use Rattle.kc_tree_model.specs.declared.statement.Statement.TheVariants.{Head as head}
 pub use Rattle.kc_tree_model.specs.TreeReading.{Outcome, at_file_end, ended_by_fault, read_file, with_group}
 pub use Rattle.kc_tree_model.specs.declared.fault.TreeFault.{TreeFault}
 pub use Rattle.kc_tree_model.specs.declared.fault.TreeKind.{TreeKind}

@@ -4,6 +4,7 @@ pub mod SymbolSteps
 pub mod ListingGrowth
 pub mod AppendSteps
 pub mod OpenBlockSteps
+pub mod ChoiceSteps
 pub mod FileTexts
 pub mod FileSteps
 pub mod HeadSteps

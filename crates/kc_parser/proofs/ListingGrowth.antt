@@ -4,7 +4,7 @@ use Rattle.kc_parser.proofs.Common.{Group, GroupHead, RepresentsHead, line_in, L
 use Rattle.kc_statements.proofs.GrownArenas.{node_held, node_same, attribute_held, attribute_same}
 use Rattle.std.proofs.lemmas.List.{take-append-le}
 use Rattle.std.proofs.lemmas.List.Elements.{All-take, All-drop}
-use Rattle.kc_statements.specs.declared.statement.Attribute.TheVariants as attributes
+use Rattle.kc_tree_model.specs.declared.statement.Attribute.TheVariants as attributes
 use Rattle.kc_parser.specs.declared.listing.Group.{Group as CodeGroup}
 use Rattle.kc_parser.specs.declared.listing.Line.{Line as CodeLine}
 use Rattle.kc_parser.specs.declared.listing.GroupHead.{GroupHead as CodeHead}

@@ -8,13 +8,13 @@ use Rattle.kc_tree_model.specs.Blocks.{in_choice, innermost_of}
 use Rattle.kc_parser.specs.declared.state.OpenBlock.TheVariants as opens
 use Rattle.kc_parser.specs.checker.OpenBlockViews.{is_file_of, block_at}
 
-block_choice : (b : Block) (l : ℕ) → is_choice (opens.Block b l) ≡ is_some_block blocks.Choice (Some b)
-block_choice blocks.Menu l = refl
-block_choice x l = refl
+block_choice : (b : Block) (l : ℕ) (c : Option ℕ) → is_choice (opens.Block b l c) ≡ is_some_block blocks.Choice (Some b)
+block_choice blocks.Menu l c = refl
+block_choice x l c = refl
 
 choice_same : (texts : List (List ℕ)) (o : OpenBlock) (g : Group) → RepresentsOpenBlock texts o g → is_choice o ≡ opens_choice g
-choice_same texts (opens.Block b l) g h = rw h.0 (block_choice b l)
-choice_same texts (opens.Source t) g h = rw h.2 refl
+choice_same texts (opens.Block b l c) g h = rw h.0 (block_choice b l c)
+choice_same texts (opens.Source t c) g h = rw h.2 refl
 
 any_choice : (texts : List (List ℕ)) (os : List OpenBlock) (gs : List Group) → RepresentsOpenBlocks texts os gs
     → list_any is_choice os ≡ list_any opens_choice gs
@@ -25,8 +25,8 @@ any_choice texts (o ∷ os) (g ∷ gs) h = rw (choice_same texts o g h.0, any_ch
 
 block_more : (texts : List (List ℕ)) (o : OpenBlock) (g : Group) (m : ℕ) (bs : List Group) → RepresentsOpenBlock texts o g
     → m ≡ length (filter_map opened_block bs) → cond (is_block o) 1 0 + m ≡ length (filter_map opened_block (g ∷ bs))
-block_more texts (opens.Block b l) g m bs h e = rw h.0 (omega arith)
-block_more texts (opens.Source t) g m bs h e = rw h.2 (omega arith)
+block_more texts (opens.Block b l c) g m bs h e = rw h.0 (omega arith)
+block_more texts (opens.Source t c) g m bs h e = rw h.2 (omega arith)
 
 count_blocks : (texts : List (List ℕ)) (os : List OpenBlock) (gs : List Group) → RepresentsOpenBlocks texts os gs
     → count_by is_block os ≡ length (filter_map opened_block gs)
@@ -38,8 +38,8 @@ count_blocks texts (o ∷ os) (g ∷ gs) h =
 
 file_more : (texts : List (List ℕ)) (o : OpenBlock) (g : Group) (m : ℕ) (bs : List Group) → RepresentsOpenBlock texts o g
     → m ≡ length (filter_map sourced_path bs) → cond (is_file o) 1 0 + m ≡ length (filter_map sourced_path (g ∷ bs))
-file_more texts (opens.Block b l) g m bs h e = rw h.2 (omega arith)
-file_more texts (opens.Source t) g m bs h e = rw h.3 (omega arith)
+file_more texts (opens.Block b l c) g m bs h e = rw h.2 (omega arith)
+file_more texts (opens.Source t c) g m bs h e = rw h.3 (omega arith)
 
 count_files : (texts : List (List ℕ)) (os : List OpenBlock) (gs : List Group) → RepresentsOpenBlocks texts os gs
     → count_by is_file os ≡ length (filter_map sourced_path gs)
@@ -51,8 +51,8 @@ count_files texts (o ∷ os) (g ∷ gs) h =
 
 path_more : (texts : List (List ℕ)) (path : List ℕ) (o : OpenBlock) (g : Group) (r : Bool) (gs : List Group) → RepresentsOpenBlock texts o g
     → r ≡ is_in_list path (filter_map sourced_path gs) → (is_file_of texts path o || r) ≡ is_in_list path (filter_map sourced_path (g ∷ gs))
-path_more texts path (opens.Block b l) g r gs h e = rw h.2 e
-path_more texts path (opens.Source t) g r gs h e = rw (h.3, h.1, e) refl
+path_more texts path (opens.Block b l c) g r gs h e = rw h.2 e
+path_more texts path (opens.Source t c) g r gs h e = rw (h.3, h.1, e) refl
 
 any_path : (texts : List (List ℕ)) (path : List ℕ) (os : List OpenBlock) (gs : List Group) → RepresentsOpenBlocks texts os gs
     → list_any (is_file_of texts path) os ≡ is_in_list path (filter_map sourced_path gs)
@@ -67,7 +67,7 @@ last_by xs h d =
     ∙ ap Some (ap (λ i. get_or xs i d) (let e : length xs - 1 ≡ length xs - 1 - 0 = omega arith in e) ∙ sym (get_or-reverse xs 0 d h))
     ∙ sym (slice_get-get_or (reverse xs) 0 d (omega (arith, length-reverse xs)))
 
-last_is : (xs : List OpenBlock) → slice_get xs (length xs - 1) ≡ slice_get (reverse xs) 0
+pub last_is : (xs : List OpenBlock) → slice_get xs (length xs - 1) ≡ slice_get (reverse xs) 0
 last_is [] = refl
 last_is (x ∷ xs) = last_by (x ∷ xs) (omega arith) x
 
@@ -82,8 +82,8 @@ innermost_top : (texts : List (List ℕ)) (os : List OpenBlock) (gs : List Group
 innermost_top texts [] [] h = tt
 innermost_top texts [] (g ∷ gs) h = absurd h
 innermost_top texts (o ∷ os) [] h = absurd h
-innermost_top texts (opens.Block b l ∷ os) (g ∷ gs) h = rw h.0.0 (refl, h.0.1)
-innermost_top texts (opens.Source t ∷ os) (g ∷ gs) h = rw h.0.2 tt
+innermost_top texts (opens.Block b l c ∷ os) (g ∷ gs) h = rw h.0.0 (refl, h.0.1)
+innermost_top texts (opens.Source t c ∷ os) (g ∷ gs) h = rw h.0.2 tt
 
 module _ (r : FileSource) (texts : List (List ℕ)) (opened : List OpenBlock) (choices files bytes : ℕ) (read : List Group)
     (h : IsCounted r texts opened choices files bytes read) where

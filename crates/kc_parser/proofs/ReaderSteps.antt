@@ -1,28 +1,28 @@
 -- Steps of the reading of a file.
 use Rattle.kc_parser.proofs.Common.{◌≡◌, ◌⊎◌, inl, inr, ℕ, suc, zero, ◌+◌, ◌≤◌, ◌<◌, ◌-◌, Bool, true, false, List, [], ◌∷◌, length, drop, refl, ap, sym, subst, ◌∙◌, arith, cond, Option, Some, None, Result, Ok, Err, Language, TreeFault, TreeKind, OutOfMemory, head, source, Block, Group, file_end}
-use Rattle.kc_parser.proofs.Common.{innermost, FileSource, bytes_in, Outcome, read_file, with_group, at_file_end, ended_by_fault, ReaderState, at_line, fault_in, line_here, ReturnsLineRead, ReturnsFileRead, IsLeft, nat_tests, nat_lt, nat_le, is_some, slice_range, is_utf8, is_in_list, open_files}
-use Rattle.kc_parser.proofs.Common.{size_in, MAX_LINE_BYTES, MAX_TREE_BYTES, MissingFile, TooDeep, TooMany, IsIndentedLeft}
+use Rattle.kc_parser.proofs.Common.{innermost, FileSource, bytes_in, Outcome, read_file, with_group, at_file_end, ended_by_fault, ReaderState, at_line, fault_in, line_here, ReturnsLineRead, ReturnsFileRead, IsLeft, nat_lt, slice_range, is_utf8, is_in_list, open_files}
+use Rattle.kc_parser.proofs.Common.{size_in, MAX_LINE_BYTES, IsIndentedLeft}
 use Rattle.std.proofs.Math.Seq.{drop-length}
 use Rattle.kc_tree_model.specs.LogicalLines.{logical_lines_from, physical_lines, begins_help, lines_of, help_line_count, first_indentation}
-use Rattle.kc_tree_model.specs.Limits.{source_fault}
+use Rattle.kc_tree_model.specs.Limits.{source_fault, files_read}
 use Rattle.kc_tree_model.specs.TreeReading.{read_lines, statement_on_line, with_statement, continue_after_line, continue_after_statement}
 use Rattle.kc_parser.specs.between.ListingView.{RepresentsListing}
-use Rattle.kc_lines.specs.between.LinePlaces.{IsLogicalAt, IsLineAt}
+use Rattle.kc_lines.specs.between.LinePlaces.{IsLogicalAt, IsLineAt, is_of_help, line_of}
 use Rattle.kc_parser.specs.checker.StateViews.{Describes}
 use Rattle.kc_parser.specs.checker.Faults.{IsMemory}
-use Rattle.kc_parser.specs.checker.Steps.{HasStatement, IsSource, IsEnded, ReturnsHelpRead, AppendsSource, IsAfter, ReturnsEndRead, IsSourceRead, ReturnsSourceRead, left_from, IsOneRead}
+use Rattle.kc_parser.specs.checker.Steps.{HasStatement, IsSource, IsEnded, ReturnsHelpRead, AppendsSource, IsAfter, ReturnsEndRead, IsSourceRead, ReturnsSourceRead, ReturnsSourceFile, ReturnsFile, found_size, kinds_for, left_from, IsOneRead, indented}
 use Rattle.kc_lines.proofs.ContinuedLines.{logical_step, help_step}
-use Rattle.std.specs.Prelude.{sum_by, take_while}
+use Rattle.std.specs.Prelude.{sum_by, take_while, is_ok}
 use Rattle.std.proofs.lemmas.List.Sums.{take_while-cons}
 use Rattle.std.proofs.Math.Dec.{eqb-suc-zero}
 use Rattle.std.specs.Str.{IsUtf8}
 use Rattle.std.proofs.lemmas.Str.{is_utf8-from_IsUtf8, IsUtf8-from_is_utf8}
-use Rattle.kc_tree_model.specs.Limits.{files_read}
-use Rattle.kc_value.specs.declared.limits.TheConstants.{MAX_OPEN_FILES, MAX_FILES}
+use Rattle.kc_tree_model.specs.SourceFaults.{fault_of_source}
+use Rattle.kc_tree_model.specs.declared.source_faults.SourceKinds.{SourceKinds}
+use Rattle.kc_tree_model.specs.declared.source_faults.TheConstants.{TREE_KINDS}
+use Rattle.kc_parser.specs.declared.state.SourceFile.{SourceFile}
 use Rattle.kc_tree_model.specs.declared.fault.TreeKind.TheVariants.{LineTooLong, NotUtf8, SourceLoop}
 use Rattle.kc_lines.specs.declared.lines.PhysicalLine.{PhysicalLine}
-use Rattle.kc_lines.specs.between.LinePlaces.{is_of_help, line_of}
-use Rattle.kc_parser.specs.checker.Steps.{indented}
 
 -- a reading that ended with a fault by one outcome ended with it by any equal outcome
 pub ended_as : (r : FileSource) (o p : Outcome) (new : ReaderState) (f : TreeFault) → o ≡ p → IsEnded r p new f → IsEnded r o new f
@@ -314,52 +314,46 @@ utf8_fails bs h = not_true (is_utf8 bs) (λ e. h (IsUtf8-from_is_utf8 bs e))
 
 -- the file of a `source`, or why there is none
 module _ (r : FileSource) (before : List Group) (path : List ℕ) where
-  pub source_open : is_in_list path (open_files r before) ≡ true → source_fault r before path ≡ Some SourceLoop
+  -- the first fault of the `source`, where its file was found or not
+  abbrev fault_by : Result SourceFile TreeKind → Option TreeKind
+  fault_by found =
+      fault_of_source (kinds_for found) (is_in_list path (open_files r before)) (is_ok found) (length (open_files r before)) (length (files_read r before))
+      (sum_by (size_in r) (files_read r before) + found_size found)
+
+  pub fault_seen : (found : Result SourceFile TreeKind) (fault : Option TreeKind) (is_open there : Bool) (open_count files bytes size : ℕ) (kinds : SourceKinds TreeKind)
+      → fault ≡ fault_of_source kinds is_open there open_count files (bytes + size) → kinds ≡ kinds_for found → is_in_list path (open_files r before) ≡ is_open
+      → there ≡ is_ok found → length (open_files r before) ≡ open_count → files ≡ length (files_read r before)
+      → bytes ≡ sum_by (size_in r) (files_read r before) → size ≡ found_size found → fault ≡ fault_by found
+  fault_seen found fault is_open there open_count files bytes size kinds e k a b c d f g = e ∙ rw (k, sym a, b, sym c, d, f, g) refl
+
+  -- the first fault of the `source` of the model, if a file is there or not
+  abbrev fault_if_there : Bool → Option TreeKind
+  fault_if_there there =
+      fault_of_source TREE_KINDS (is_in_list path (open_files r before)) there (length (open_files r before)) (length (files_read r before))
+      (sum_by (size_in r) (files_read r before) + size_in r path)
+
+  fault_of_found : (o : SourceFile) → ReturnsFile r path (Ok o) → source_fault r before path ≡ fault_by (Ok o)
   unfolding source_fault
-  source_open a = rw a refl
+  fault_of_found o h = ap fault_if_there h.0
+      ∙ ap (λ bytes. fault_of_source TREE_KINDS (is_in_list path (open_files r before)) true (length (open_files r before)) (length (files_read r before))
+      (sum_by (size_in r) (files_read r before) + length bytes)) (sym h.2)
 
-  pub source_missing : is_in_list path (open_files r before) ≡ false → is_some (r.bytes path) ≡ false → source_fault r before path ≡ Some MissingFile
+  pub source_returned : (found : Result SourceFile TreeKind) → ReturnsFile r path found → fault_by found ≡ None → ReturnsSourceFile r path before found
+  source_returned (Ok o) h e = (fault_of_found o h ∙ e, h.1, h.2)
+  source_returned (Err k) h e = absurd (by_test (is_in_list path (open_files r before)) e)
+    where
+      by_test : (b : Bool) → cond b (Some SourceLoop) (Some k) ≡ None → ⊥
+      by_test true e = cc
+      by_test false e = cc
+
+  pub source_refused : (found : Result SourceFile TreeKind) (kind : TreeKind) → ReturnsFile r path found → fault_by found ≡ Some kind
+      → ReturnsSourceFile r path before (Err kind)
   unfolding source_fault
-  source_missing a b = rw (a, b) refl
-
-  pub source_deep : is_in_list path (open_files r before) ≡ false → is_some (r.bytes path) ≡ true → nat_le MAX_OPEN_FILES (length (open_files r before)) ≡ true
-      → source_fault r before path ≡ Some TooDeep
-  unfolding source_fault
-  source_deep a b c = rw (a, b, c) refl
-
-  pub source_many : is_in_list path (open_files r before) ≡ false → is_some (r.bytes path) ≡ true → nat_le MAX_OPEN_FILES (length (open_files r before)) ≡ false
-      → nat_le MAX_FILES (length (files_read r before)) ≡ true → source_fault r before path ≡ Some TooMany
-  unfolding source_fault
-  source_many a b c d = rw (a, b, c, d) refl
-
-  pub source_large : is_in_list path (open_files r before) ≡ false → is_some (r.bytes path) ≡ true → nat_le MAX_OPEN_FILES
-      (length (open_files r before)) ≡ false
-      → nat_le MAX_FILES (length (files_read r before)) ≡ false
-      → nat_lt MAX_TREE_BYTES (sum_by (size_in r) (files_read r before) + size_in r path) ≡ true → source_fault r before path ≡ Some TooMany
-  unfolding source_fault
-  source_large a b c d e = rw (a, b, c, d, e) refl
-
-  pub source_fits : is_in_list path (open_files r before) ≡ false → is_some (r.bytes path) ≡ true → nat_le MAX_OPEN_FILES (length (open_files r before)) ≡ false
-      → nat_le MAX_FILES (length (files_read r before)) ≡ false
-      → nat_lt MAX_TREE_BYTES (sum_by (size_in r) (files_read r before) + size_in r path) ≡ false → source_fault r before path ≡ None
-  unfolding source_fault
-  source_fits a b c d e = rw (a, b, c, d, e) refl
-
--- with 31 or more sourced files open besides the first file, the limit `MAX_OPEN_FILES` is reached
-pub deep_is : (n k : ℕ) → n ≡ k + 1 → 31 ≤ k → nat_le MAX_OPEN_FILES n ≡ true
-deep_is n k e h = grind (arith, nat_tests)
-
-pub deep_not : (n k : ℕ) → n ≡ k + 1 → k < 31 → nat_le MAX_OPEN_FILES n ≡ false
-deep_not n k e h = grind (arith, nat_tests)
-
-pub many_is : (n k : ℕ) → k ≡ n → MAX_FILES ≤ k → nat_le MAX_FILES n ≡ true
-many_is n k e h = grind (arith, nat_tests)
-
-pub many_not : (n k : ℕ) → k ≡ n → k < MAX_FILES → nat_le MAX_FILES n ≡ false
-many_not n k e h = grind (arith, nat_tests)
-
-pub large_is : (n m k l : ℕ) → k ≡ n → l ≡ m → MAX_TREE_BYTES < k + l → nat_lt MAX_TREE_BYTES (n + m) ≡ true
-large_is n m k l e f h = grind (arith, nat_tests)
-
-pub large_not : (n m k l : ℕ) → k ≡ n → l ≡ m → k + l ≤ MAX_TREE_BYTES → nat_lt MAX_TREE_BYTES (n + m) ≡ false
-large_not n m k l e f h = grind (arith, nat_tests)
+  source_refused (Ok o) kind h e = inr (fault_of_found o h ∙ e)
+  source_refused (Err k) kind (inl m) e = by_test (is_in_list path (open_files r before)) _ e
+    where
+      by_test : (b : Bool) (rest : Option TreeKind) → cond b (Some SourceLoop) (Some k) ≡ Some kind → (kind ≡ OutOfMemory) ⊎ (cond b (Some SourceLoop) rest ≡ Some kind)
+      by_test true rest e = inr e
+      by_test false rest e = inl (let z : kind ≡ k = cc in z ∙ m)
+  source_refused (Err k) kind (inr m) e =
+      inr (ap fault_if_there m.1 ∙ ap (λ x. cond (is_in_list path (open_files r before)) (Some SourceLoop) (Some x)) (sym m.0) ∙ e)

@@ -1,6 +1,6 @@
 -- The reading of the first file.
-use Rattle.kc_parser.proofs.Common.{◌≡◌, ◌⊎◌, inl, inr, ℕ, ◌≤◌, ◌<◌, true, false, List, [], ◌∷◌, length, refl, ap, sym, ◌∙◌, arith, Option, Some, None, Result, Err, is_some, nat_lt, option_and_then, slice_index, MAX_TREE_BYTES, Exprs, place_of_none, TreeFault, TreeKind, MissingFile, TooMany}
-use Rattle.kc_parser.proofs.Common.{OutOfMemory, FileSource, size_in, bytes_in, Outcome, read_file, ended_by_fault, Listing, ReaderState, SourceFiles, number_in, number_in_slot, RepresentsLists, fault_in, at_line, ReturnsFileRead}
+use Rattle.kc_parser.proofs.Common.{◌≡◌, ◌⊎◌, inl, inr, ℕ, ◌≤◌, ◌<◌, true, false, List, [], ◌∷◌, length, map, reverse, refl, ap, sym, ◌∙◌, arith, Option, Some, None, Result, Err, is_some, nat_lt, option_and_then, slice_index, MAX_TREE_BYTES, Exprs, place_of_none, TreeFault, TreeKind, MissingFile, TooMany}
+use Rattle.kc_parser.proofs.Common.{OutOfMemory, FileSource, size_in, bytes_in, Outcome, read_file, ended_by_fault, Listing, ReaderState, SourceFiles, number_in, number_in_slot, RepresentsLists, fault_in, at_line, ReturnsFileRead, choice_in, names_defined}
 use Rattle.std.proofs.lemmas.Bool.{lt-ltb, le-ltb}
 use Rattle.kc_tree_model.specs.TreeReading.{read_root}
 use Rattle.kc_parser.specs.declared.listing.Group.{Group as CodeGroup}
@@ -10,6 +10,7 @@ use Rattle.kc_parser.specs.between.MemoryFaults.{no_memory}
 use Rattle.kc_parser.specs.checker.StateViews.{Describes, file_source_of}
 use Rattle.kc_parser.specs.checker.Roots.{ReturnsOutcome, of_first}
 use Rattle.kc_parser.proofs.ReaderSteps.{shown_of}
+use Rattle.kc_parser.proofs.ChoiceSteps.{none_open}
 
 no_number : (held : List (List ℕ)) (numbers name : List ℕ) → held ≡ [] → number_in held numbers name ≡ None
 no_number [] numbers name e = ap (option_and_then (λ i. number_in_slot (slice_index numbers i))) (place_of_none name)
@@ -26,6 +27,7 @@ lists_of_nothing exprs symbols numbers texts lines groups e s n l g = record {
   };
   held = λ k d h. absurd (omega (arith, h, ap length l));
   groups_are = rw g tt;
+  choices_are = rw g tt;
 }
 
 -- a listing whose lists are empty represents no statements
@@ -39,8 +41,14 @@ nothing_shown l e s n i g = lists_of_nothing l.names.arena l.names.symbols.items
 -- of the reading
 pub begun : (r : FileSource) (p : ReaderState) → RepresentsListing p.listing [] → p.stack.items ≡ [] → p.choices ≡ 0 → p.files ≡ 1 → p.bytes ≡ size_in r r.root
     → Describes r p []
-unfolding Describes
-begun r p s k c f b = record { shows = s; counted = record { stack = rw k tt; choices_are = c; files_are = f; bytes_are = omega (arith, b) } }
+unfolding Describes RepresentsListing
+begun r p s k c f b = record {
+  shows = s;
+  counted = record { stack = rw k tt; choices_are = c; files_are = f; bytes_are = omega (arith, b) };
+  enclosed = ap (λ os. map choice_in (reverse os)) k
+      ∙ sym (none_open p.listing.names.arena (names_defined []) p.listing.texts.items p.listing.lines.items (length p.listing.lines.items)
+      (reverse p.listing.groups.items) s.groups_are);
+}
 
 -- if the first file was read without a fault, its listing without a fault is the result of the reading
 pub first_read : (r : FileSource) (o : Outcome) (new : ReaderState) → (o.fault ≡ None) × Describes r new o.read → ReturnsOutcome o (new.listing, None)

@@ -9,7 +9,8 @@ use Rattle.kc_tree_model.specs.declared.fault.TreeKind.TheVariants.{UnknownState
 use Rattle.kc_tree_model.specs.Keywords.{keyword_of}
 use Rattle.kc_tree_model.specs.declared.keyword.Keyword.TheVariants as words
 use Rattle.kc_tree_model.specs.LogicalLines.{is_help_or_fault, is_help, is_help_word}
-use Rattle.kc_tree_model.specs.Statements.{Statement, attribute}
+use Rattle.kc_tree_model.specs.Statements.{Statement}
+use Rattle.kc_tree_model.specs.declared.statement.Statement.TheVariants.{Attribute as attribute}
 use Rattle.kc_tree_model.specs.Forms.{statement_of, kind_of_fault, ◌>>=◌}
 use Rattle.kc_tree_model.specs.Limits.{is_too_deep, is_too_many, too_many_by_attribute}
 use Rattle.kc_tree_model.specs.TreeReading.{fault_if, statement_by_keyword, statement_of_tokens, statement_by_word, statement_or_fault, statement_on_line}

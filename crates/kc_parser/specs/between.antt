@@ -1,3 +1,4 @@
+pub mod EnclosingChoices
 pub mod ListingView
 pub mod MemoryFaults
 pub mod SymbolTable

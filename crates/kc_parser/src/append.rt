@@ -3,25 +3,30 @@ ghost use Rattle.std.specs.Prelude.{◌≡◌, ◌<◌, ◌+◌, ◌≤◌, ℕ,
 ghost use Rattle.kc_value.specs.declared.limits.TheConstants.{MAX_CHOICES, MAX_FILES, MAX_TREE_BYTES};
 ghost use Rattle.kc_tree_model.specs.declared.fault.TreeKind.TheVariants.{OutOfMemory};
 ghost use Rattle.kc_tree_model.specs.Blocks.{Group as Placed, GroupHead as Meant, of_head, closing, inside, side_of, from_head};
-ghost use Rattle.kc_tree_model.specs.Statements.{name_of_head, block_of_head, same_block, choice, source};
+ghost use Rattle.kc_tree_model.specs.Statements.{name_of_head, block_of_head, same_block};
+ghost use Rattle.kc_tree_model.specs.declared.statement.Head.TheVariants.{Choice as choice, Source as source};
 ghost use Rattle.kc_tree_model.specs.Limits.{FileSource, size_in};
 ghost use Rattle.kc_tree_model.specs.TreeReading.{with_group};
+ghost use Rattle.kc_parser.specs.between.EnclosingChoices.{innermost_choice};
 ghost use Rattle.kc_parser.specs.between.ListingView.{RepresentsListing};
-ghost use Rattle.kc_parser.specs.checker.StateViews.{Describes, IsMeant, at_line};
+ghost use Rattle.kc_parser.specs.checker.StateViews.{Describes, IsMeant, at_line, open_choices, open_choices_after};
 
 use super::listing::{Group, GroupHead, Listing};
+use super::open_blocks::enclosing_choice;
 use super::state::{OpenBlock, Position, ReaderState};
 use kc_tree_model::{Block, TreeKind};
 use kc_value::Text;
 
-/// Appends to the listing a statement that defines no symbol, or the end of a file.
+/// Appends to the listing a statement that defines no symbol, or the end of a file, in the choice of this number.
 pub(crate) fn push_group(
     listing: &mut Listing,
     at: Position,
     head: GroupHead,
+    choice: Option<u32>,
 ) -> Result<(), TreeKind>
     ensures appends { (before : List Placed) (m : Meant) → RepresentsListing listing.old before → IsMeant listing.old before head m
-        → from_head name_of_head m ≡ None → OnOk result (RepresentsListing listing.new (with_group (at_line at.file at.line) m before)) }
+        → from_head name_of_head m ≡ None → choice ≡ innermost_choice (open_choices listing.old) → OnOk result (RepresentsListing listing.new (with_group (at_line at.file at.line) m before)) }
+    ensures choices { OnOk result (open_choices listing.new ≡ open_choices_after head listing.old) }
     ensures texts { listing.new.texts ≡ listing.old.texts }
     ensures memory { IfErr result (λ k. k ≡ OutOfMemory) }
 {
@@ -31,6 +36,7 @@ pub(crate) fn push_group(
         line: at.line,
         head,
         attributes,
+        choice,
     })
     else {
         return Err(TreeKind::OutOfMemory);
@@ -48,8 +54,9 @@ pub(crate) fn push_end(
         → side_of m ≡ closing → OnOk result (Describes r read.new (with_group (at_line at.file at.line) m before)) }
     ensures memory { IfErr result (λ k. k ≡ OutOfMemory) }
 {
+    let choice = enclosing_choice(&read.stack);
     let _ = read.stack.pop();
-    push_group(&mut read.listing, at, head)
+    push_group(&mut read.listing, at, head, choice)
 }
 
 /// Appends a statement that defines no symbol, and opens and ends no block or file.
@@ -62,7 +69,8 @@ pub(crate) fn push_plain(
         → side_of m ≡ inside → from_head name_of_head m ≡ None → OnOk result (Describes r read.new (with_group (at_line at.file at.line) m before)) }
     ensures memory { IfErr result (λ k. k ≡ OutOfMemory) }
 {
-    push_group(&mut read.listing, at, head)
+    let choice = enclosing_choice(&read.stack);
+    push_group(&mut read.listing, at, head, choice)
 }
 
 /// Appends the statement that opens a menu or an `if`.
@@ -77,10 +85,11 @@ pub(crate) fn push_block(
         → OnOk result (Describes r read.new (with_group (at_line at.file at.line) m before)) }
     ensures memory { IfErr result (λ k. k ≡ OutOfMemory) }
 {
-    let Ok(()) = read.stack.push(OpenBlock::Block(block, at.line)) else {
+    let choice = enclosing_choice(&read.stack);
+    let Ok(()) = read.stack.push(OpenBlock::Block(block, at.line, choice)) else {
         return Err(TreeKind::OutOfMemory);
     };
-    push_group(&mut read.listing, at, head)
+    push_group(&mut read.listing, at, head, choice)
 }
 
 /// Appends the statement that opens a choice.
@@ -90,11 +99,16 @@ pub(crate) fn push_choice_group(read: &mut ReaderState, at: Position) -> Result<
         → OnOk result (Describes r read.new (with_group (at_line at.file at.line) (of_head choice) before)) }
     ensures memory { IfErr result (λ k. k ≡ OutOfMemory) }
 {
-    let Ok(()) = read.stack.push(OpenBlock::Block(Block::Choice, at.line)) else {
+    let choice = enclosing_choice(&read.stack);
+    let number = Some(read.choices as u32);
+    let Ok(()) = read
+        .stack
+        .push(OpenBlock::Block(Block::Choice, at.line, number))
+    else {
         return Err(TreeKind::OutOfMemory);
     };
     read.choices += 1;
-    push_group(&mut read.listing, at, GroupHead::Choice)
+    push_group(&mut read.listing, at, GroupHead::Choice, choice)
 }
 
 /// Appends a text, which is a title or a path, and returns its index among the texts.
@@ -125,10 +139,11 @@ pub(crate) fn push_source(
         → OnOk result (Describes r read.new (with_group (at_line at.file at.line) (of_head (source path)) before)) }
     ensures memory { IfErr result (λ k. k ≡ OutOfMemory) }
 {
-    let Ok(()) = read.stack.push(OpenBlock::Source(place)) else {
+    let choice = enclosing_choice(&read.stack);
+    let Ok(()) = read.stack.push(OpenBlock::Source(place, choice)) else {
         return Err(TreeKind::OutOfMemory);
     };
     read.files += 1;
     read.bytes += size;
-    push_group(&mut read.listing, at, GroupHead::Source(place))
+    push_group(&mut read.listing, at, GroupHead::Source(place), choice)
 }

@@ -9,12 +9,12 @@ ghost use Rattle.kc_parser.specs.checker.Steps.{AppendsAttribute};
 use super::listing::Line;
 use super::state::ReaderState;
 use kc_expr::Arena;
-use kc_statements::Attribute;
-use kc_tree_model::TreeKind;
+use kc_statements::ReadAttribute;
+use kc_tree_model::{Attribute, TreeKind};
 use kc_value::MAX_NAME_BYTES;
 
 /// Whether an attribute selects or implies a name that is too long.
-fn has_long_name(arena: &Arena, attribute: &Attribute) -> bool
+fn has_long_name(arena: &Arena, attribute: &ReadAttribute) -> bool
     requires held { AttributeNodesExist arena.now attribute.now }
     ensures value { result ≡ too_many_by_attribute (attribute_in arena.now attribute.now) }
 {
@@ -29,7 +29,7 @@ fn has_long_name(arena: &Arena, attribute: &Attribute) -> bool
 pub(crate) fn push_attribute(
     read: &mut ReaderState,
     line: u32,
-    attribute: &Attribute,
+    attribute: &ReadAttribute,
 ) -> Result<(), TreeKind>
     requires held { AttributeNodesExist read.old.listing.names.arena attribute.now }
     ensures appends { (r : FileSource) (before : List Placed) → Describes r read.old before

@@ -1,31 +1,9 @@
 //! Faults with their files and lines.
-ghost use Rattle.std.specs.Prelude.{◌≡◌, ◌⊎◌, Some};
+ghost use Rattle.std.specs.Prelude.{◌≡◌, ◌⊎◌};
 ghost use Rattle.kc_tree_model.specs.declared.fault.TreeKind.TheVariants.{OutOfMemory};
 ghost use Rattle.kc_parser.specs.checker.Faults.{IsMemory, fault_in};
 
 use kc_tree_model::{TreeFault, TreeKind};
-
-/// The fault of running out of memory, which has no file and no line.
-pub(crate) fn out_of_memory() -> TreeFault
-    ensures { IsMemory result }
-{
-    TreeFault {
-        file: None,
-        line: 0,
-        kind: TreeKind::OutOfMemory,
-    }
-}
-
-/// A fault at a line of a file, which is given by its number.
-pub(crate) fn fault_at(file: u32, line: u32, kind: TreeKind) -> TreeFault
-    ensures { result ≡ fault_in file line kind }
-{
-    TreeFault {
-        file: Some(file),
-        line,
-        kind,
-    }
-}
 
 /// A fault at a line of a file; if it is out of memory, it has no file and no line.
 pub(crate) fn fault_or_out_of_memory(file: u32, line: u32, kind: TreeKind) -> TreeFault
@@ -33,7 +11,7 @@ pub(crate) fn fault_or_out_of_memory(file: u32, line: u32, kind: TreeKind) -> Tr
     ensures placed { IsMemory result ⊎ (result ≡ fault_in file line kind) }
 {
     match kind {
-        TreeKind::OutOfMemory => out_of_memory(),
-        _ => fault_at(file, line, kind),
+        TreeKind::OutOfMemory => TreeFault::out_of_memory(),
+        _ => TreeFault::at_line(file, line, kind),
     }
 }

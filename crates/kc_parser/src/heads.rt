@@ -3,14 +3,14 @@ ghost use Rattle.std.specs.Prelude.{◌≡◌, ◌<◌, List, length, count_by, 
 ghost use Rattle.kc_expr.specs.between.Arena.{node_expr};
 ghost use Rattle.kc_tree_model.specs.Blocks.{Group as Placed};
 ghost use Rattle.kc_tree_model.specs.Limits.{FileSource};
-ghost use Rattle.kc_tree_model.specs.Statements.{config, choice, menu, condition, comment};
+ghost use Rattle.kc_tree_model.specs.declared.statement.Head.TheVariants.{Config as config, Choice as choice, Menu as menu, Condition as condition, Comment as comment};
 ghost use Rattle.kc_parser.specs.checker.StateViews.{Describes};
 ghost use Rattle.kc_parser.specs.checker.OpenBlockViews.{is_block};
 ghost use Rattle.kc_parser.specs.checker.Steps.{AppendsHead};
 
 use super::append::{push_block, push_choice_group, push_plain, push_text};
 use super::listing::{Group, GroupHead};
-use super::open_blocks::open_block_count;
+use super::open_blocks::{enclosing_choice, open_block_count};
 use super::state::{OpenBlock, Position, ReaderState};
 use kc_expr::ExprId;
 use kc_tree_model::{Block, TreeKind};
@@ -91,11 +91,13 @@ pub(crate) fn push_config(read: &mut ReaderState, at: Position, name: &str) -> R
         Err(kind) => return Err(kind),
     };
     let attributes = read.listing.lines.len();
+    let choice = enclosing_choice(&read.stack);
     let Ok(()) = read.listing.groups.push(Group {
         file: at.file,
         line: at.line,
         head: GroupHead::Config(number),
         attributes,
+        choice,
     })
     else {
         return Err(TreeKind::OutOfMemory);

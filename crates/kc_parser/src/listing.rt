@@ -1,6 +1,6 @@
 //! The statements of a tree's files.
 use kc_expr::{Arena, ExprId, NameId};
-use kc_statements::Attribute;
+use kc_statements::ReadAttribute;
 use kc_tree_model::Block;
 use kc_value::Text;
 
@@ -19,21 +19,23 @@ pub enum GroupHead {
     FileEnd,
 }
 
-/// A statement other than an attribute, or the end of a sourced file, with its file and line, and the index of its
-/// first attribute among `lines`; its attributes reach up to those of the next group.
+/// A statement other than an attribute, or the end of a sourced file, with its file and line, the index of its first
+/// attribute among `lines`, and the number of the innermost choice that it is in, where the choices of all files are
+/// counted from 0 in reading order. Its attributes reach up to those of the next group.
 #[derive(Clone, Copy)]
 pub struct Group {
     pub file: u32,
     pub line: u32,
     pub head: GroupHead,
     pub attributes: usize,
+    pub choice: Option<u32>,
 }
 
 /// An attribute of a statement, such as a default, and its line.
 #[derive(Clone, Copy)]
 pub struct Line {
     pub number: u32,
-    pub attribute: Attribute,
+    pub attribute: ReadAttribute,
 }
 
 /// The names of symbols in an arena.

@@ -1,7 +1,7 @@
 //! Open blocks and open files.
 ghost use Rattle.std.specs.Prelude.{◌≡◌, count_by};
 ghost use Rattle.std.specs.List.{list_any};
-ghost use Rattle.kc_parser.specs.checker.OpenBlockViews.{is_block, is_file, is_choice, is_file_of, block_kept};
+ghost use Rattle.kc_parser.specs.checker.OpenBlockViews.{is_block, is_file, is_choice, is_file_of, block_kept, choice_kept};
 
 use super::state::OpenBlock;
 use kc_tree_model::Block;
@@ -13,7 +13,7 @@ pub(crate) fn open_block_count(stack: &[OpenBlock]) -> usize
 {
     let mut count = 0;
     for o in stack {
-        if let OpenBlock::Block(_, _) = o {
+        if let OpenBlock::Block(_, _, _) = o {
             count += 1;
         }
     }
@@ -26,7 +26,7 @@ pub(crate) fn open_file_count(stack: &[OpenBlock]) -> usize
 {
     let mut count = 0;
     for o in stack {
-        if let OpenBlock::Source(_) = o {
+        if let OpenBlock::Source(_, _) = o {
             count += 1;
         }
     }
@@ -36,7 +36,7 @@ pub(crate) fn open_file_count(stack: &[OpenBlock]) -> usize
 fn opens_choice(kept: &OpenBlock) -> bool
     ensures { result ≡ is_choice kept.now }
 {
-    matches!(kept, OpenBlock::Block(Block::Choice, _))
+    matches!(kept, OpenBlock::Block(Block::Choice, _, _))
 }
 
 /// Whether a choice is open.
@@ -50,11 +50,11 @@ fn is_of(kept: &OpenBlock, texts: &[Text], path: &str) -> bool
     ensures { result ≡ is_file_of texts.now path.now kept.now }
 {
     match kept {
-        OpenBlock::Source(place) => match texts.get(*place) {
+        OpenBlock::Source(place, _) => match texts.get(*place) {
             Some(text) => text.as_str() == path,
             None => false,
         },
-        OpenBlock::Block(_, _) => false,
+        OpenBlock::Block(_, _, _) => false,
     }
 }
 
@@ -70,7 +70,18 @@ pub(crate) fn innermost(stack: &[OpenBlock]) -> Option<(Block, u32)>
     ensures { result ≡ block_kept stack.now }
 {
     match stack.last() {
-        Some(OpenBlock::Block(block, line)) => Some((*block, *line)),
+        Some(OpenBlock::Block(block, line, _)) => Some((*block, *line)),
         _ => None,
+    }
+}
+
+/// The number of the innermost choice that is open, over all open files; `None` outside choices.
+pub(crate) fn enclosing_choice(stack: &[OpenBlock]) -> Option<u32>
+    ensures { result ≡ choice_kept stack.now }
+{
+    match stack.last() {
+        Some(OpenBlock::Block(_, _, choice)) => *choice,
+        Some(OpenBlock::Source(_, choice)) => *choice,
+        None => None,
     }
 }

@@ -6,7 +6,7 @@ ghost use Rattle.kc_tree_model.specs.TreeReading.{read_file};
 ghost use Rattle.kc_parser.specs.checker.StateViews.{Describes, file_source_of};
 ghost use Rattle.kc_parser.specs.checker.Steps.{ReturnsHelpRead, indented, ReturnsSourceRead, ReturnsOneRead, IsForward, ReturnsReadOfFile};
 
-use super::fault::{fault_at, fault_or_out_of_memory, out_of_memory};
+use super::fault::fault_or_out_of_memory;
 use super::line::read_logical;
 use super::sources::{close_source, end_of_file, open_source};
 use super::state::{Position, ReaderState, SourceFile, SourceFiles, Step};
@@ -36,7 +36,7 @@ fn read_indented(
             return Ok((begin, lines));
         }
         if let Err(kind) = text_between(file, begin, line.end) {
-            return Err(fault_at(file.number, number + lines, kind));
+            return Err(TreeFault::at_line(file.number, number + lines, kind));
         }
         begin = line.next;
         lines += 1;
@@ -94,7 +94,7 @@ fn read_statement<'a>(
         → ReturnsOneRead (file_source_of from.entry) (read_file depth (file_source_of from.entry)) file.entry.number file.entry.bytes.now at number before read.new result }
 {
     let Ok(line) = logical_at(read.alloc, file.bytes, at) else {
-        return Err(out_of_memory());
+        return Err(TreeFault::out_of_memory());
     };
     let next = line.next;
     let lines = line.lines as u32;

@@ -7,7 +7,6 @@ ghost use Rattle.kc_parser.specs.between.MemoryFaults.{no_memory};
 ghost use Rattle.kc_parser.specs.checker.StateViews.{Describes, file_source_of};
 ghost use Rattle.kc_parser.specs.checker.Roots.{ReturnsOutcome, of_first};
 
-use super::fault::fault_at;
 use super::listing::{Listing, SymbolTable};
 use super::reader::read_open_file;
 use super::sources::file_of;
@@ -86,7 +85,7 @@ fn read_all(alloc: Global, from: SourceFiles<'_>) -> (Listing, Option<TreeFault>
         }
     };
     if file.bytes.len() > MAX_TREE_BYTES {
-        let fault = fault_at(file.number, 0, TreeKind::TooMany);
+        let fault = TreeFault::at_line(file.number, 0, TreeKind::TooMany);
         return (Listing::new(alloc, from.texts.seed()), Some(fault));
     }
     read_first(alloc, from, file)

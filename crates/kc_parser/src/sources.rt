@@ -4,16 +4,16 @@ ghost use Rattle.std.specs.List.{list_any};
 ghost use Rattle.kc_tree_model.specs.Blocks.{Group};
 ghost use Rattle.kc_parser.specs.checker.StateViews.{Describes, file_source_of};
 ghost use Rattle.kc_parser.specs.checker.OpenBlockViews.{is_file_of};
-ghost use Rattle.kc_parser.specs.checker.Steps.{AppendsSource, IsAfter, ReturnsEndRead, ReturnsSourceFile, ReturnsFile};
+ghost use Rattle.kc_parser.specs.checker.Steps.{AppendsSource, IsAfter, found_size, kinds_for, ReturnsEndRead, ReturnsSourceFile, ReturnsFile};
 
 use super::append::{push_end, push_group, push_source, push_text};
-use super::fault::{fault_at, fault_or_out_of_memory, out_of_memory};
+use super::fault::fault_or_out_of_memory;
 use super::listing::GroupHead;
-use super::open_blocks::{innermost, is_path_open, open_file_count};
+use super::open_blocks::{enclosing_choice, innermost, is_path_open, open_file_count};
 use super::state::{Position, ReaderState, SourceFile, SourceFiles};
 use super::text::whole_text;
-use kc_tree_model::{TreeFault, TreeKind};
-use kc_value::{MAX_FILES, MAX_OPEN_FILES, MAX_TREE_BYTES, Text};
+use kc_tree_model::{SourceKinds, TREE_KINDS, TreeFault, TreeKind, source_fault};
+use kc_value::{MAX_FILES, MAX_TREE_BYTES, Text};
 
 /// The file of a path. An absent file is `MissingFile` or read as empty; a file whose number doesn't fit 32 bits is
 /// out of memory.
@@ -45,6 +45,29 @@ fn is_open(read: &ReaderState, from: SourceFiles<'_>, path: &str) -> bool
     from.root == path || is_path_open(&read.stack, &read.listing.texts, path)
 }
 
+/// How many bytes a file has, 0 if it isn't found.
+fn size_of(found: &Result<SourceFile<'_>, TreeKind>) -> usize
+    ensures { result ≡ found_size found.now }
+{
+    match found {
+        Ok(file) => file.bytes.len(),
+        Err(_) => 0,
+    }
+}
+
+/// The kinds of faults of a `source`; if its file isn't found, that is the fault of `file_of`, which may be out of memory.
+fn kinds_for(found: &Result<SourceFile<'_>, TreeKind>) -> SourceKinds<TreeKind>
+    ensures { result ≡ kinds_for found.now }
+{
+    match found {
+        Ok(_) => TREE_KINDS,
+        Err(kind) => SourceKinds {
+            missing_file: *kind,
+            ..TREE_KINDS
+        },
+    }
+}
+
 /// The file that a `source` may read here.
 fn sourced<'a>(
     read: &ReaderState,
@@ -56,23 +79,19 @@ fn sourced<'a>(
     ensures sourced { (before : List Group) → Describes (file_source_of from.entry) read.now before
         → ReturnsSourceFile (file_source_of from.entry) path.now before result }
 {
-    if is_open(read, from, path) {
-        return Err(TreeKind::SourceLoop);
+    let found = file_of(from, path);
+    match source_fault(
+        &kinds_for(&found),
+        is_open(read, from, path),
+        found.is_ok(),
+        open_file_count(&read.stack) + 1,
+        read.files,
+        read.bytes,
+        size_of(&found),
+    ) {
+        Some(kind) => Err(kind),
+        None => found,
     }
-    let file = match file_of(from, path) {
-        Ok(file) => file,
-        Err(kind) => return Err(kind),
-    };
-    if open_file_count(&read.stack) >= MAX_OPEN_FILES - 1 {
-        return Err(TreeKind::TooDeep);
-    }
-    if read.files >= MAX_FILES {
-        return Err(TreeKind::TooMany);
-    }
-    if file.bytes.len() > MAX_TREE_BYTES - read.bytes {
-        return Err(TreeKind::TooMany);
-    }
-    Ok(file)
 }
 
 /// Appends a `source`, and returns the file of its path, or the fault of the `source`.
@@ -88,16 +107,17 @@ pub(crate) fn open_source<'a>(
 {
     let found = sourced(read, from, path.as_str());
     let Ok(place) = push_text(read, path) else {
-        return Err(out_of_memory());
+        return Err(TreeFault::out_of_memory());
     };
+    let choice = enclosing_choice(&read.stack);
     match found {
         Ok(opened) => match push_source(read, at, place, opened.bytes.len()) {
             Ok(()) => Ok(opened),
-            Err(_) => Err(out_of_memory()),
+            Err(_) => Err(TreeFault::out_of_memory()),
         },
-        Err(kind) => match push_group(&mut read.listing, at, GroupHead::Source(place)) {
+        Err(kind) => match push_group(&mut read.listing, at, GroupHead::Source(place), choice) {
             Ok(()) => Err(fault_or_out_of_memory(at.file, at.line, kind)),
-            Err(_) => Err(out_of_memory()),
+            Err(_) => Err(TreeFault::out_of_memory()),
         },
     }
 }
@@ -112,7 +132,7 @@ pub(crate) fn close_source(
 {
     match push_end(read, at, GroupHead::FileEnd) {
         Ok(()) => Ok(()),
-        Err(_) => Err(out_of_memory()),
+        Err(_) => Err(TreeFault::out_of_memory()),
     }
 }
 
@@ -125,7 +145,7 @@ pub(crate) fn end_of_file(
     ensures { (before : List Group) → Describes (file_source_of from.entry) read.now before → ReturnsEndRead file before result }
 {
     match innermost(&read.stack) {
-        Some((_, line)) => Err(fault_at(file, line, TreeKind::Unclosed)),
+        Some((_, line)) => Err(TreeFault::at_line(file, line, TreeKind::Unclosed)),
         None => Ok(()),
     }
 }

@@ -14,11 +14,12 @@ pub(crate) struct Position {
     pub line: u32,
 }
 
-/// An open block with its first line, or an open sourced file, by the index of its path among the texts.
+/// An open block with its first line, or an open sourced file, by the index of its path among the texts; each with the
+/// number of the choice that the statements in it are in, which may be the block itself.
 #[derive(Clone, Copy)]
 pub(crate) enum OpenBlock {
-    Block(Block, u32),
-    Source(usize),
+    Block(Block, u32, Option<u32>),
+    Source(usize, Option<u32>),
 }
 
 /// The state of the reader: the listing so far, the open blocks and files with the innermost last, and the counts of

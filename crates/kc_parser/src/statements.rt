@@ -2,7 +2,7 @@
 ghost use Rattle.std.specs.Prelude.{◌≡◌, List};
 ghost use Rattle.kc_tree_model.specs.Blocks.{Group as Placed};
 ghost use Rattle.kc_tree_model.specs.Limits.{FileSource};
-ghost use Rattle.kc_tree_model.specs.Statements.{head as said_by_head};
+ghost use Rattle.kc_tree_model.specs.declared.statement.Statement.TheVariants.{Head as said_by_head};
 ghost use Rattle.kc_statements.specs.between.StatementViews.{head_in, HeadNodesExist, statement_in, StatementNodesExist};
 ghost use Rattle.kc_parser.specs.checker.StateViews.{Describes};
 ghost use Rattle.kc_parser.specs.checker.StatementResults.{no_path, AppendsStatement};
@@ -12,8 +12,8 @@ use super::attributes::push_attribute;
 use super::heads::{push_choice, push_comment, push_config, push_if_block, push_menu};
 use super::listing::GroupHead;
 use super::state::{Position, ReaderState};
-use kc_statements::{Head, Statement};
-use kc_tree_model::TreeKind;
+use kc_statements::{ReadHead, ReadStatement};
+use kc_tree_model::{Head, Statement, TreeKind};
 use kc_value::Text;
 
 /// The result for a statement that names no file to read.
@@ -27,7 +27,11 @@ fn without_path(pushed: Result<(), TreeKind>) -> Result<Option<Text>, TreeKind>
 }
 
 /// Appends a statement that closes the open entry; of a `source` only the path is returned, and nothing appended yet.
-fn push_head(read: &mut ReaderState, at: Position, head: Head<'_>) -> Result<Option<Text>, TreeKind>
+fn push_head(
+    read: &mut ReaderState,
+    at: Position,
+    head: ReadHead<'_>,
+) -> Result<Option<Text>, TreeKind>
     requires held { HeadNodesExist read.old.listing.names.arena head }
     ensures appends { (r : FileSource) (before : List Placed) → Describes r read.old before
         → AppendsStatement r at.file at.line before (said_by_head (head_in read.old.listing.names.arena head.entry)) read.new result }
@@ -48,7 +52,7 @@ fn push_head(read: &mut ReaderState, at: Position, head: Head<'_>) -> Result<Opt
 pub(crate) fn push_statement(
     read: &mut ReaderState,
     at: Position,
-    statement: Statement<'_>,
+    statement: ReadStatement<'_>,
 ) -> Result<Option<Text>, TreeKind>
     requires held { StatementNodesExist read.old.listing.names.arena statement }
     ensures appends { (r : FileSource) (before : List Placed) → Describes r read.old before

@@ -6,7 +6,7 @@ use Rattle.kc_reasons.proofs.Common.{◌≡◌, ℕ, Bool, true, false, cond, Li
 use Rattle.kc_value.specs.declared.tri.Tri.TheVariants.{M}
 use Rattle.kc_expr.specs.Expr.{Expr, alone, related, negated, both, either, shown, Environment, value}
 use Rattle.kc_expr.specs.between.Arena.{Exprs}
-use Rattle.kc_rules_model.specs.Kinds.{is_n}
+use Rattle.kc_value.specs.Tri.{is_n}
 use Rattle.kc_reasons_model.specs.Conjuncts.{below, conjuncts, lacks}
 use Rattle.kc_reasons.specs.checker.LackingWalk.{if_low}
 

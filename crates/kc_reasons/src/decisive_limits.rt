@@ -3,12 +3,12 @@ ghost use Rattle.std.specs.Prelude.{◌≡◌, ◌<◌, length, map, IfOk};
 ghost use Rattle.kc_tree.specs.between.Views.{reverse_dependency_view};
 ghost use Rattle.kc_dependencies.specs.checker.StoredRules.{AreReverseDependencies};
 ghost use Rattle.kc_evaluation.specs.checker.ValuationView.{valuation_tree, valuation_exprs, valuation_values};
-ghost use Rattle.kc_rules_model.specs.Kinds.{is_n};
+ghost use Rattle.kc_value.specs.Tri.{is_n};
 ghost use Rattle.kc_rules_model.specs.Rule.{reverse_dependency_value};
 ghost use Rattle.kc_reasons_model.specs.DecisiveLimits.{decisive_numbers};
 ghost use Rattle.kc_reasons.specs.checker.LargestLimits.{is_largest};
 
-use kc_evaluation::{Valuation, is_n, reverse_limit, reverse_value};
+use kc_evaluation::{Valuation, reverse_limit, reverse_value};
 use kc_tree::ReverseDependency;
 use kc_value::Tri;
 use std::alloc::{AllocError, Global};
@@ -20,7 +20,7 @@ fn is_largest(under: &Valuation<'_>, force: ReverseDependency, most: Tri) -> boo
     ensures value { result ≡ is_largest (valuation_tree under.now) (valuation_values under.now) most (reverse_dependency_view (valuation_exprs under.now) force) }
 {
     let value = reverse_value(under, force);
-    !is_n(value) && value == most
+    !value.is_n() && value == most
 }
 
 /// The numbers, from 0, of those selects or implies that demand as much as all of them together, if that isn't `n`. An `Err`

@@ -3,14 +3,14 @@ ghost use Rattle.std.specs.Prelude.{◌≡◌, ◌<◌, length, Some, unwrap_or,
 ghost use Rattle.kc_value.specs.Number.{number_of_text};
 ghost use Rattle.kc_tree.specs.between.Views.{symbol_view, SymbolFits};
 ghost use Rattle.kc_evaluation.specs.checker.ValuationView.{valuation_tree, valuation_exprs, valuation_values};
-ghost use Rattle.kc_rules_model.specs.Kinds.{is_m};
+ghost use Rattle.kc_value.specs.Tri.{is_m};
 ghost use Rattle.kc_rules_model.specs.Rule.{active_range, is_upside_down, is_within};
 ghost use Rattle.kc_reasons_model.specs.Hindrances.{hinders_symbol, hinders_tri, hinders_text, holds_of_tri, holds_of_text};
 
 use super::tristates::{is_without_m, leaves_no_m};
 use kc_evaluation::{
-    Valuation, active_range, is_below, is_from_environment, is_n, is_upside_down, is_visible,
-    is_within, number_of, reverse_limit, visibility,
+    Valuation, active_range, is_below, is_from_environment, is_upside_down, is_visible, is_within,
+    number_of, reverse_limit, visibility,
 };
 use kc_reasons_model::Hindrance;
 use kc_rules_model::{Profile, UserValue};
@@ -32,8 +32,8 @@ fn holds_of_tri(
     match hindrance {
         Hindrance::BelowSelected => is_below(asked, selected),
         Hindrance::FromEnvironment => env,
-        Hindrance::Hidden => is_n(visibility),
-        Hindrance::AboveVisibility => !is_n(visibility) && is_below(visibility, asked),
+        Hindrance::Hidden => visibility.is_n(),
+        Hindrance::AboveVisibility => !visibility.is_n() && is_below(visibility, asked),
         Hindrance::Promoted => is_m(asked) && without_m,
         Hindrance::ImpliedY => is_m(asked) && no_m_left,
         Hindrance::UpsideDown => false,

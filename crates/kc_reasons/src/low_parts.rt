@@ -9,7 +9,7 @@ ghost use Rattle.kc_reasons_model.specs.Conjuncts.{below, lacking};
 ghost use Rattle.kc_reasons.specs.between.Parts.{parts_view, alternatives_view, IsThere, AreThere};
 ghost use Rattle.kc_reasons.specs.checker.LackingWalk.{lacking_in_reverse};
 
-use kc_evaluation::{Valuation, is_below, is_n};
+use kc_evaluation::{Valuation, is_below};
 use kc_expr::{ExprId, ExprParts};
 use kc_value::Tri;
 use std::alloc::{AllocError, Global};
@@ -73,7 +73,7 @@ fn push_lacking(
                 at = left;
             }
             ExprParts::Shown(part) => {
-                if is_n(least) {
+                if least.is_n() {
                     return Ok(());
                 }
                 least = Tri::M;

@@ -12,8 +12,8 @@ ghost use Rattle.kc_reasons_model.specs.Cases.{is_environment, by_default, asked
 ghost use Rattle.kc_reasons.specs.checker.CaseParts.{mark_of, unasked_of};
 
 use kc_evaluation::{
-    Valuation, assigned_tri, base, default_value, implied_effect, is_below, is_n, largest,
-    reverse_limit, visibility,
+    Valuation, assigned_tri, base, default_value, implied_effect, is_below, largest, reverse_limit,
+    visibility,
 };
 use kc_reasons_model::{Lift, TriCase};
 use kc_rules_model::{Profile, UserValue};
@@ -26,7 +26,7 @@ pub(crate) fn active_mark(under: &Valuation<'_>, defaults: &[Default]) -> Option
     ensures value { result ≡ mark_of (active_default_of (valuation_tree under.now) (valuation_values under.now) (map (default_view (valuation_exprs under.now)) defaults.now)) }
 {
     for default in defaults {
-        if !is_n(under.condition(default.condition)) {
+        if !under.condition(default.condition).is_n() {
             return Some(default.from_environment);
         }
     }
@@ -52,7 +52,7 @@ fn unasked_by(profile: Profile, other: TriCase, default: Tri, implied: Tri, dire
 {
     match profile {
         Profile::Present => {
-            if !is_n(implied) && is_below(direct, default.or(implied)) {
+            if !implied.is_n() && is_below(direct, default.or(implied)) {
                 return TriCase::Dependency;
             }
             if is_below(default, implied) {
@@ -61,10 +61,10 @@ fn unasked_by(profile: Profile, other: TriCase, default: Tri, implied: Tri, dire
             other
         }
         Profile::Classic => {
-            if !is_n(implied) && is_n(direct) && is_n(default) {
+            if !implied.is_n() && direct.is_n() && default.is_n() {
                 return TriCase::Dependency;
             }
-            if is_below(default, implied) && !is_n(direct) {
+            if is_below(default, implied) && !direct.is_n() {
                 return TriCase::Imply;
             }
             other
@@ -91,7 +91,7 @@ fn base_case(under: &Valuation<'_>, symbol: &Symbol<'_>, asked: Option<Tri>) -> 
 {
     if let Some(asked) = asked {
         let visibility = visibility(under, symbol);
-        if !is_n(visibility) {
+        if !visibility.is_n() {
             return asked_by(visibility, asked);
         }
     }
@@ -126,7 +126,7 @@ pub(crate) fn is_without_m(under: &Valuation<'_>, kind: Kind) -> bool
 {
     match kind {
         Kind::Bool => true,
-        Kind::Tristate => is_n(under.modules()),
+        Kind::Tristate => under.modules().is_n(),
         Kind::Text | Kind::Int | Kind::Hex => false,
     }
 }

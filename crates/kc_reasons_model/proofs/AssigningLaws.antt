@@ -2,19 +2,19 @@
 use Rattle.std.proofs.Common.{slice_set}
 use Rattle.std.specs.Prelude.{⊤}
 use Rattle.kc_reasons_model.proofs.Common.{◌≡◌, ℕ, zero, suc, ◌+◌, ◌<◌, Bool, true, false, not, ◌||◌, cond, eqb, List, [], ◌∷◌, ◌++◌, filter, append-nil, subst, Option, Some, None, IsTrue, IfSome, length, slice_get, refl, sym, ◌∙◌, ap, arith, ◌==◌, AllByRecursion, eqb-true, false≢true, true≢false}
-use Rattle.kc_reasons_model.proofs.Common.{and_parts, not-true, filter-append, recursion_from_All, user_of, Language, is_linux_6_12, Tree, Choice, Symbol, UserValue, MemberLine, is_listed, laid_over, unit_user_fits, symbol_user_fits, choice_user_fits, option_or, LineMeaning, assigns}
-use Rattle.kc_reasons_model.proofs.Common.{assigns_escaped, over, assigned, assigned_over, if_any, said_to, user_by_line, AssigningLine, assigning_line, AssigningPlace, place_giving, FitUnit, assigned_length}
+use Rattle.kc_reasons_model.proofs.Common.{and_parts, not-true, filter-append, recursion_from_All, user_of, Language, is_linux_6_12, Tree, Choice, Symbol, UserValue, MemberLine, is_listed, merged_lines, unit_user_fits, symbol_user_fits, choice_user_fits, option_or, LineMeaning, assigns}
+use Rattle.kc_reasons_model.proofs.Common.{assigns_escaped, merged_user, assigned, assigned_over, if_any, said_to, user_by_line, AssigningLine, assigning_line, AssigningPlace, place_giving, FitUnit, assigned_length}
 use Rattle.std.proofs.lemmas.Bool.{eqb-false}
 use Rattle.std.proofs.lemmas.List.{get_or-set_same, get_or-set_other}
 use Rattle.kc_tree_model.specs.declared.ids.Unit.{Unit as TreeUnit}
 use Rattle.kc_tree_model.specs.declared.ids.Unit.TheVariants.{Symbol as of_symbol, Choice as of_choice}
 use Rattle.kc_rules_model.specs.declared.values.UserValue.TheVariants.{Tri as TriUser, Text as TextUser, Member as MemberUser, Lines as LinesUser}
 use Rattle.kc_rules_model.specs.Shapes.{user_fits}
-use Rattle.kc_dotconfig_model.proofs.Overlays.{file_over as lie_over}
-use Rattle.kc_dotconfig_model.specs.ConfigFiles.{overlaid_by}
+use Rattle.kc_dotconfig_model.proofs.MergedUsers.{file_over as file_merged}
+use Rattle.kc_dotconfig_model.specs.ConfigFiles.{merged_files}
 use Rattle.kc_reasons_model.specs.AssigningLines.{said_of, line_giving, assigning_place, all_over, FilesAreOverAssignments}
 use Rattle.kc_reasons_model.specs.Laws.{IsLastAssigning, LinesAssign, IsLastAssigningPlace, FilesAssign}
-use Rattle.kc_dotconfig_model.proofs.Overlays.{file_length}
+use Rattle.kc_dotconfig_model.proofs.MergedUsers.{file_length}
 
 -- ---- the units that have assignments of members
 
@@ -97,7 +97,7 @@ module _ (s : ℕ) (later : List MemberLine) where
     go true e rest = refl
     go false e rest = rest e
 
-  lines_said : (earlier : List MemberLine) → said_of s (LinesUser (laid_over later earlier)) ≡ option_or (said_of s (LinesUser later)) (said_of s (LinesUser earlier))
+  lines_said : (earlier : List MemberLine) → said_of s (LinesUser (merged_lines later earlier)) ≡ option_or (said_of s (LinesUser later)) (said_of s (LinesUser earlier))
   lines_said earlier = ap if_any (filter-append of_s (filter is_kept earlier) later) ∙ go (is_listed later s) refl where
     go : (b : Bool) → is_listed later s ≡ b → if_any (filter of_s (filter is_kept earlier) ++ filter of_s later) ≡ option_or (if_any (filter of_s later)) (if_any (filter of_s earlier))
     go true e = ap (λ xs. if_any (xs ++ filter of_s later)) (none_kept e earlier) ∙ listed_there later e (if_any (filter of_s earlier))
@@ -105,7 +105,7 @@ module _ (s : ℕ) (later : List MemberLine) where
         ap (λ xs. if_any (filter of_s (filter is_kept earlier) ++ xs)) (not_listed later e) ∙ ap if_any (append-nil (filter of_s (filter is_kept earlier))) ∙ ap if_any (all_kept e earlier)
         ∙ ap (λ xs. option_or (if_any xs) (if_any (filter of_s earlier))) (sym (not_listed later e))
 
-over_said : (b : Bool) (s : ℕ) (x : UserValue) (o : Option UserValue) → is_lines x ≡ b → IsSorted b o → said_of s (over x o) ≡ option_or (said_of s x) (said_to s o)
+over_said : (b : Bool) (s : ℕ) (x : UserValue) (o : Option UserValue) → is_lines x ≡ b → IsSorted b o → said_of s (merged_user x o) ≡ option_or (said_of s x) (said_to s o)
 over_said b s (LinesUser later) None e f = or_none (said_of s (LinesUser later))
 over_said b s (LinesUser later) (Some (LinesUser earlier)) e f = lines_said s later earlier
 over_said b s (LinesUser later) (Some (TriUser t)) e f = absurd (false≢true (f ∙ sym e))
@@ -113,7 +113,7 @@ over_said b s (LinesUser later) (Some (TextUser text)) e f = absurd (false≢tru
 over_said b s (LinesUser later) (Some (MemberUser m)) e f = absurd (false≢true (f ∙ sym e))
 over_said b s _ o e f = refl
 
-over_sorted : (b : Bool) (x : UserValue) (o : Option UserValue) → is_lines x ≡ b → IsSorted b o → is_lines (over x o) ≡ b
+over_sorted : (b : Bool) (x : UserValue) (o : Option UserValue) → is_lines x ≡ b → IsSorted b o → is_lines (merged_user x o) ≡ b
 over_sorted b (LinesUser later) None e f = e
 over_sorted b (LinesUser later) (Some (LinesUser earlier)) e f = e
 over_sorted b (LinesUser later) (Some (TriUser t)) e f = f
@@ -121,23 +121,23 @@ over_sorted b (LinesUser later) (Some (TextUser text)) e f = f
 over_sorted b (LinesUser later) (Some (MemberUser m)) e f = f
 over_sorted b _ o e f = e
 
--- what a line gives a unit, laid over what it has
-abbrev pub laid : Option UserValue → Option UserValue → Option UserValue
-laid None o = o
-laid (Some x) o = Some (over x o)
+-- what a line gives a unit, merged with what it has
+abbrev pub merged_if_given : Option UserValue → Option UserValue → Option UserValue
+merged_if_given None o = o
+merged_if_given (Some x) o = Some (merged_user x o)
 
 set_user : (u w : ℕ) (x : UserValue) (users : List (Option UserValue)) → u < length users
-    → user_of (slice_set users w (Some (over x (user_of users w)))) u ≡ laid (cond (eqb w u) (Some x) None) (user_of users u)
+    → user_of (slice_set users w (Some (merged_user x (user_of users w)))) u ≡ merged_if_given (cond (eqb w u) (Some x) None) (user_of users u)
 set_user u w x users inside = go (eqb w u) refl where
-  go : (c : Bool) → eqb w u ≡ c → user_of (slice_set users w (Some (over x (user_of users w)))) u ≡ laid (cond c (Some x) None) (user_of users u)
+  go : (c : Bool) → eqb w u ≡ c → user_of (slice_set users w (Some (merged_user x (user_of users w)))) u ≡ merged_if_given (cond c (Some x) None) (user_of users u)
   go true g =
-      ap (λ k. user_of (slice_set users k (Some (over x (user_of users k)))) u) (eqb-true w u g)
-      ∙ get_or-set_same users u (Some (over x (user_of users u))) None inside
-  go false g = get_or-set_other users w u (Some (over x (user_of users w))) None (λ same. eqb-false w u g (sym same))
+      ap (λ k. user_of (slice_set users k (Some (merged_user x (user_of users k)))) u) (eqb-true w u g)
+      ∙ get_or-set_same users u (Some (merged_user x (user_of users u))) None inside
+  go false g = get_or-set_other users w u (Some (merged_user x (user_of users w))) None (λ same. eqb-false w u g (sym same))
 
 -- the user value of a unit after a line
 pub user_after : (u : ℕ) (meaning : LineMeaning) (users : List (Option UserValue)) → u < length users
-    → user_of (assigned meaning users) u ≡ laid (user_by_line u meaning) (user_of users u)
+    → user_of (assigned meaning users) u ≡ merged_if_given (user_by_line u meaning) (user_of users u)
 user_after u (assigns w x) users inside = set_user u w x users inside
 user_after u (assigns_escaped w text) users inside = set_user u w (TextUser text) users inside
 user_after u _ users inside = refl
@@ -161,7 +161,7 @@ module _ (b : Bool) (u s : ℕ) where
       subst (λ o. (said_to s o ≡ option_or (says meaning) (held users)) × IsSorted b o) (sym (user_after u meaning users inside))
       (go (user_by_line u meaning) e) where
         go : (o : Option UserValue) → IsSorted b o
-            → (said_to s (laid o (user_of users u)) ≡ option_or (said_to s o) (held users)) × IsSorted b (laid o (user_of users u))
+            → (said_to s (merged_if_given o (user_of users u)) ≡ option_or (said_to s o) (held users)) × IsSorted b (merged_if_given o (user_of users u))
         go None e = (refl, f)
         go (Some x) e = (over_said b s x (user_of users u) e f, over_sorted b x (user_of users u) e f)
 
@@ -296,4 +296,4 @@ files_assign tree u s first files users inside fits held =
 pub files_over : FilesAreOverAssignments
 files_over tree [] users long = refl
 files_over tree (meanings ∷ files) users long =
-    files_over tree files (assigned_over meanings users) (file_length meanings users ∙ long) ∙ ap (λ us. overlaid_by tree us files) (lie_over tree meanings users long)
+    files_over tree files (assigned_over meanings users) (file_length meanings users ∙ long) ∙ ap (λ us. merged_files tree us files) (file_merged tree meanings users long)

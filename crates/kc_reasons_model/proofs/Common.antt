@@ -11,9 +11,9 @@ pub use Rattle.std.proofs.lemmas.Slice.Eq.{bytes_eq-Decides}
 pub use Rattle.std.specs.List.{All, AllByRecursion, cons_option, list_all, list_any}
 pub use Rattle.std.specs.Option.{option_and_then, option_or}
 pub use Rattle.std.specs.Prelude.{bytes_eq, codes, filter_map, find, flat_map, int_lt, is_none, is_some, option_map, option_to_list, ◌==◌}
-pub use Rattle.kc_dotconfig_model.proofs.Overlays.{assigned_length}
+pub use Rattle.kc_dotconfig_model.proofs.MergedUsers.{assigned_length}
 pub use Rattle.kc_dotconfig_model.proofs.Tables.{after, at, at2, at3, same_bool, same_from}
-pub use Rattle.kc_dotconfig_model.specs.ConfigFiles.{assigned, assigned_over, over}
+pub use Rattle.kc_dotconfig_model.specs.ConfigFiles.{assigned, assigned_over, merged_user}
 pub use Rattle.kc_dotconfig_model.specs.ConfigLines.{LineMeaning, assigns, assigns_escaped}
 pub use Rattle.kc_dotconfig_model.specs.MissedAssignments.{is_given_n}
 pub use Rattle.kc_expr.specs.Expr.{Environment, Expr, alone, both, constant, either, named, negated, quoted, related, shown, value}
@@ -41,8 +41,8 @@ pub use Rattle.kc_reasons_model.specs.declared.cases.TextCase.TheVariants.{HighB
 pub use Rattle.kc_reasons_model.specs.declared.cases.TriCase.{TriCase}
 pub use Rattle.kc_rules_model.proofs.RowTrees.{m, n, sets, text, tree_a, tree_from_environment, tree_imply, tree_int, tree_pick, tree_select, tree_shown_if, writes, y}
 pub use Rattle.kc_rules_model.specs.Equality.{same_tri, same_value}
-pub use Rattle.kc_rules_model.specs.Kinds.{is_m, is_n, largest}
-pub use Rattle.kc_rules_model.specs.MemberLines.{first_listed, is_listed, laid_over, last_y, selected_by_lines, selected_without_y}
+pub use Rattle.kc_value.specs.Tri.{largest, is_m, is_n, tri_and, tri_or, y_for_m}
+pub use Rattle.kc_rules_model.specs.MemberLines.{first_listed, is_listed, merged_lines, last_y, selected_by_lines, selected_without_y}
 pub use Rattle.kc_rules_model.specs.Reports.{allowed}
 pub use Rattle.kc_rules_model.specs.Rule.{active_default, active_range, assigned_lines, assigned_member, assigned_text, assigned_tri, base, bound, choice_rule, clamped, counted_prompts, default_member, default_text, direct_dependency, is_from_environment, is_shown, is_upside_down, is_visible}
 pub use Rattle.kc_rules_model.specs.Rule.{is_visible_member, is_within, leaves_no_m, number_default, rule_of_choice, rule_of_symbol, rule_of_unit, selected, shown_choice_rule, symbol_rule, tri_rule, unassigned_value, user_number, visibility}
@@ -69,7 +69,6 @@ pub use Rattle.kc_tree_model.specs.Trees.{Choice, Default, MemberDefault, Range,
 pub use Rattle.kc_value.specs.Kinds.{is_tri_kind}
 pub use Rattle.kc_value.specs.Number.{number_of_text}
 pub use Rattle.kc_value.specs.QuotedTexts.{escaped_byte}
-pub use Rattle.kc_value.specs.Tri.{tri_and, tri_or, y_for_m}
 pub use Rattle.kc_value.specs.declared.tri.Tri.{Tri}
 pub use Rattle.kc_value.specs.declared.tri.Tri.TheVariants.{M, N, Y}
 pub use Rattle.kc_value.specs.declared.value.Kind.{Kind}

@@ -1,29 +1,15 @@
 -- The blamed names of a symbol's or a choice's conditions are of units on which it depends.
 use Rattle.std.proofs.Common.{Contains}
-use Rattle.kc_reasons_model.proofs.Common.{◌≡◌, inl, inr, ℕ, zero, suc, ◌+◌, ◌<◌, ◌≤◌, Bool, true, false, cond, List, [], ◌∷◌, ◌++◌, filter, Option, Some, None, length, slice_get, refl, sym, ◌∙◌, ap, subst, arith, ◌==◌, flat_map, option_map, option_to_list, list_any, cons_option, All}
-use Rattle.kc_reasons_model.proofs.Common.{AllByRecursion, cases_eq, or_left, or_right, eq-eqb, All-weaker, All-contains, All-from_recursion, All-append, Tri, Expr, Environment, names_in, operand_names, Tree, Symbol, Choice, Default, Range, MemberDefault, unit_of, parts, blamed, IsDependency}
+use Rattle.kc_reasons_model.proofs.Common.{◌≡◌, ℕ, ◌+◌, ◌<◌, Bool, true, false, cond, List, [], ◌∷◌, ◌++◌, Option, Some, None, length, slice_get, refl, subst, arith, ◌==◌, flat_map, option_map, option_to_list, list_any, cons_option, All}
+use Rattle.kc_reasons_model.proofs.Common.{AllByRecursion, All-weaker, All-contains, All-from_recursion, All-append, Tri, Expr, Environment, names_in, operand_names, Tree, Symbol, Choice, Default, Range, MemberDefault, unit_of, parts, blamed, IsDependency}
 use Rattle.kc_reasons_model.proofs.Common.{counted_conditions, is_linux_6_12}
-use Rattle.std.specs.List.{range_with_len}
 use Rattle.kc_expr.specs.Expr.{modules}
 use Rattle.kc_tree_model.specs.TreeLookup.{symbol_named}
 use Rattle.kc_value.specs.Kinds.{is_tristate}
 use Rattle.kc_rules_model.specs.Dependencies.{dependencies, needed_by, needed_by_symbol_at, needed_by_symbol, needed_by_choice_at, needed_by_choice, names_in_prompt, names_in_shown, names_in_prompts, names_in_member_prompts, units_named, units_of_reverse_dependencies}
+use Rattle.kc_rules_model.specs.checker.FrameLaw.{in_filter, each_of}
 use Rattle.kc_reasons_model.specs.Laws.{BlamedAreDependencies, ChoiceBlamedAreDependencies}
 use Rattle.kc_reasons_model.proofs.BlameLaws.{are_named}
-
-in_filter : (p : ℕ → Bool) (n a d : ℕ) → a ≤ d → d < a + n → p d ≡ true → Contains (filter p (range_with_len a n)) d
-in_filter p zero a d low high passes = absurd (omega arith)
-in_filter p (suc n) a d low high passes = elim (cases_eq d a) [
-  | inl same ↦ subst (λ b. Contains (cond b (a ∷ filter p (range_with_len (a + 1) n)) (filter p (range_with_len (a + 1) n))) d) (sym (ap p (sym same) ∙ passes)) (0, omega arith, sym same)
-  | inr other ↦ onto (p a) (in_filter p n (a + 1) d (omega arith) (omega arith) passes)
-] where
-  onto : (b : Bool) → Contains (filter p (range_with_len (a + 1) n)) d → Contains (cond b (a ∷ filter p (range_with_len (a + 1) n)) (filter p (range_with_len (a + 1) n))) d
-  onto true has = (suc has.0, omega (arith, has.1), has.2)
-  onto false has = has
-
-each_of : (P : ℕ → Type 0) (xs : List ℕ) → ((d : ℕ) → list_any (λ e. e == d) xs ≡ true → P d) → AllByRecursion P xs
-each_of P [] h = tt
-each_of P (x ∷ xs) h = (h x (or_left (x == x) (list_any (λ e. e == x) xs) (eq-eqb x x refl)), each_of P xs (λ d t. h d (or_right (x == d) (list_any (λ e. e == d) xs) t)))
 
 module _ (tree : Tree) (u : ℕ) where
   -- a unit that is there is a dependency

@@ -1,7 +1,7 @@
 -- No member is given both `y` and `n`, and a choice can be set to a member that is visible.
 use Rattle.kc_reasons_model.proofs.Common.{◌≡◌, ℕ, ◌<◌, Bool, true, false, not, ◌&&◌, ◌||◌, cond, List, [], ◌∷◌, ◌++◌, filter, Option, Some, None, length, refl, sym, ◌∙◌, ap, ◌↔◌, ◌==◌, find, option_or, list_any, list_all, AllByRecursion, eqb-true, false≢true, true≢false, and_parts}
-use Rattle.kc_reasons_model.proofs.Common.{recursion_from_All, user_of, N, Language, is_linux_6_12, is_tri_kind, Tree, Choice, Symbol, MemberDefault, unit_of, UnitValue, UserValue, MemberLine, is_listed, laid_over, last_y, first_listed, selected_without_y, selected_by_lines, is_n, condition}
-use Rattle.kc_reasons_model.proofs.Common.{assigned_lines, is_shown, is_visible_member, default_member, shown_choice_rule, LineMeaning, assigns, assigns_escaped, over, assigned, assigned_over, user_by_line, is_given_both, assigned_length}
+use Rattle.kc_reasons_model.proofs.Common.{recursion_from_All, user_of, N, Language, is_linux_6_12, is_tri_kind, Tree, Choice, Symbol, MemberDefault, unit_of, UnitValue, UserValue, MemberLine, is_listed, merged_lines, last_y, first_listed, selected_without_y, selected_by_lines, is_n, condition}
+use Rattle.kc_reasons_model.proofs.Common.{assigned_lines, is_shown, is_visible_member, default_member, shown_choice_rule, LineMeaning, assigns, assigns_escaped, merged_user, assigned, assigned_over, user_by_line, is_given_both, assigned_length}
 use Rattle.std.proofs.Math.Bool.{or-false}
 use Rattle.kc_rules_model.specs.declared.values.UserValue.TheVariants.{Tri as TriUser, Text as TextUser, Member as MemberUser, Lines as LinesUser}
 use Rattle.kc_rules_model.specs.Rule.{member_user}
@@ -9,7 +9,7 @@ use Rattle.kc_rules_model.specs.checker.RestoreLaw.{last_passes, first_passes, d
 use Rattle.kc_dotconfig_model.specs.declared.format.Strings.{Strings}
 use Rattle.kc_dotconfig_model.specs.Formats.{FileFormat}
 use Rattle.kc_dotconfig_model.specs.ConfigLines.{unchosen, silent, unchosen_meaning, text_meaning, has_escape_notice, unset_meaning, ValueMeans, Means, tri, chosen, not_chosen, quoted, number, no_tri, no_text, value, unset, empty}
-use Rattle.kc_reasons_model.proofs.AssigningLaws.{laid, user_after}
+use Rattle.kc_reasons_model.proofs.AssigningLaws.{merged_if_given, user_after}
 use Rattle.kc_reasons_model.specs.Laws.{MembersHaveOneLine, LinesGiveOne, SelectableAreTaken}
 
 -- whether a member is listed with this value
@@ -54,14 +54,14 @@ module _ (s : ℕ) (k : MemberLine → Bool) where
       go false g false f rest = rest
       go true g false f rest = absurd (true≢false (sym (ap not e) ∙ ap (λ m. not (is_listed later m)) (sym (eqb-true l.member s g)) ∙ f))
 
-    given_over : (earlier : List MemberLine) → given s k (laid_over later earlier) ≡ cond (is_listed later s) (given s k later) (given s k earlier)
+    given_over : (earlier : List MemberLine) → given s k (merged_lines later earlier) ≡ cond (is_listed later s) (given s k later) (given s k earlier)
     given_over earlier = given_joined (filter is_kept earlier) later ∙ go (is_listed later s) refl where
       go : (b : Bool) → is_listed later s ≡ b → (given s k (filter is_kept earlier) || given s k later) ≡ cond b (given s k later) (given s k earlier)
       go true e = ap (λ d. d || given s k later) (given_dropped e earlier)
       go false e = ap (λ d. given s k (filter is_kept earlier) || d) (given_unlisted later e) ∙ or-false (given s k (filter is_kept earlier))
           ∙ given_kept e earlier
 
-over_one : (s : ℕ) (x : UserValue) (o : Option UserValue) → is_given_both s (Some x) ≡ false → is_given_both s o ≡ false → is_given_both s (Some (over x o)) ≡ false
+over_one : (s : ℕ) (x : UserValue) (o : Option UserValue) → is_given_both s (Some x) ≡ false → is_given_both s o ≡ false → is_given_both s (Some (merged_user x o)) ≡ false
 over_one s (TriUser t) o e f = refl
 over_one s (TextUser text) o e f = refl
 over_one s (MemberUser m) o e f = refl
@@ -70,7 +70,7 @@ over_one s (LinesUser later) (Some (TriUser t)) e f = refl
 over_one s (LinesUser later) (Some (TextUser text)) e f = refl
 over_one s (LinesUser later) (Some (MemberUser m)) e f = refl
 over_one s (LinesUser later) (Some (LinesUser earlier)) e f =
-    ap (λ b. b && given s (λ (l : MemberLine). not l.is_y) (laid_over later earlier)) (given_over s (λ (l : MemberLine). l.is_y) later earlier)
+    ap (λ b. b && given s (λ (l : MemberLine). not l.is_y) (merged_lines later earlier)) (given_over s (λ (l : MemberLine). l.is_y) later earlier)
     ∙ ap (λ b. cond (is_listed later s) (given s (λ (l : MemberLine). l.is_y) later) (given s (λ (l : MemberLine). l.is_y) earlier) && b) (given_over s (λ (l : MemberLine). not l.is_y) later earlier)
     ∙ go (is_listed later s) where
       go : (b : Bool) → (cond b (given s (λ (l : MemberLine). l.is_y) later) (given s (λ (l : MemberLine). l.is_y) earlier)
@@ -82,7 +82,7 @@ module _ (u s : ℕ) where
   one_after : (meaning : LineMeaning) (users : List (Option UserValue)) → u < length users → is_given_both s (user_by_line u meaning) ≡ false → is_given_both s (user_of users u) ≡ false
       → is_given_both s (user_of (assigned meaning users) u) ≡ false
   one_after meaning users inside e f = ap (is_given_both s) (user_after u meaning users inside) ∙ go (user_by_line u meaning) e where
-    go : (o : Option UserValue) → is_given_both s o ≡ false → is_given_both s (laid o (user_of users u)) ≡ false
+    go : (o : Option UserValue) → is_given_both s o ≡ false → is_given_both s (merged_if_given o (user_of users u)) ≡ false
     go None e = f
     go (Some x) e = over_one s x (user_of users u) e f
 

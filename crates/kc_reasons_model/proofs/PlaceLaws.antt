@@ -3,7 +3,8 @@ use Rattle.kc_reasons_model.proofs.Common.{◌≡◌, ℕ, Bool, true, false, co
 use Rattle.kc_reasons_model.proofs.Common.{Environment, alone, constant, both, shown, is_n, Attribute, prompt_of, Group, Line, Context, context, attribute_values, attribute_condition, prompt_condition, Part, conjuncts, lacks, lacking, LocatedExpr, LocatedContext, located_dependencies}
 use Rattle.kc_reasons_model.proofs.Common.{located_prompt, located_context, wanted_of, lacking_located}
 use Rattle.std.proofs.lemmas.Grind.{flat_map-append}
-use Rattle.kc_tree_model.specs.Statements.{Head, config, choice, menu, condition, depends_of, visible_of}
+use Rattle.kc_tree_model.specs.Statements.{Head, depends_of, visible_of}
+use Rattle.kc_tree_model.specs.declared.statement.Head.TheVariants.{Config as config, Choice as choice, Menu as menu, Condition as condition}
 use Rattle.kc_tree_model.specs.Blocks.{GroupHead, of_head, file_end}
 use Rattle.kc_tree_model.specs.Conditions.{inside_menu, inner_context_of_group_head, inner_context_of_head, conjunction_from, conjunction_of, dependencies_of, visible_conjunct}
 use Rattle.kc_reasons_model.specs.Laws.{PromptPartsAreLocated, ConditionPartsAreLocated, DependencyPartsAreLocated}

@@ -7,7 +7,7 @@ use Rattle.std.proofs.Math.Seq.{take-append_seam, drop-append_seam}
 use Rattle.std.proofs.lemmas.Bool.{and_parts, or_parts, cases_eq, ne_eqb, false≢true}
 use Rattle.std.proofs.lemmas.List.Sums.{take_while-cons}
 use Rattle.kc_value.specs.declared.tri.Tri.TheVariants.{N}
-use Rattle.kc_value.specs.QuotedTexts.{escaped_byte, quoted as quoted_spelling, IsBody, none, plain, pair}
+use Rattle.kc_value.specs.QuotedTexts.{escaped_byte, quoted as quoted_spelling, IsBetweenQuotes, none, plain, pair}
 use Rattle.kc_tokens.specs.declared.language.Language.TheVariants.{Strict, Linux}
 use Rattle.kc_tokens.specs.declared.token.Relop.TheVariants.{Equal, NotEqual, Less, Greater, LessEqual, GreaterEqual}
 use Rattle.kc_tokens.specs.declared.token.TokenKind.{TokenKind}
@@ -148,11 +148,11 @@ no_dollars (c ∷ cs) clean =
       go true rest e = ap (λ b. b || list_any (λ d. d == 36) (flat_map escaped_byte cs)) e ∙ rest
       go false rest e = ap (λ b. b || list_any (λ d. d == 36) (flat_map escaped_byte cs)) e ∙ rest
 
-body_at : (b : Bool) (c : ℕ) (bs cs : List ℕ) → (c == 34 || (c == 92)) ≡ b → IsBody 34 bs cs → IsBody 34 (cond b (92 ∷ c ∷ []) (c ∷ []) ++ bs) (c ∷ cs)
+body_at : (b : Bool) (c : ℕ) (bs cs : List ℕ) → (c == 34 || (c == 92)) ≡ b → IsBetweenQuotes 34 bs cs → IsBetweenQuotes 34 (cond b (92 ∷ c ∷ []) (c ∷ []) ++ bs) (c ∷ cs)
 body_at true c bs cs e h = pair h
 body_at false c bs cs e h = let both = or_parts (c == 34) (c == 92) e in plain both.0 both.1 h
 
-escapes_body : (x : List ℕ) → IsBody 34 (flat_map escaped_byte x) x
+escapes_body : (x : List ℕ) → IsBetweenQuotes 34 (flat_map escaped_byte x) x
 escapes_body [] = none
 escapes_body (c ∷ cs) = body_at (c == 34 || (c == 92)) c (flat_map escaped_byte cs) cs refl (escapes_body cs)
 
@@ -163,7 +163,7 @@ quoted_token x clean = record {
   means = x;
   sort = refl;
   parts = refl;
-  is_body = escapes_body x;
+  is_between_quotes = escapes_body x;
   dollars = no_dollars x clean;
 }
 

@@ -6,7 +6,7 @@ use Rattle.kc_rules_model.specs.declared.values.UserValue.{UserValue}
 use Rattle.kc_rules_model.specs.declared.values.UserValue.TheVariants.{Tri as TriUser, Text as TextUser, Member as MemberUser, Lines as LinesUser}
 use Rattle.kc_rules_model.specs.declared.values.MemberLine.{MemberLine}
 use Rattle.kc_dotconfig_model.specs.ConfigLines.{LineMeaning, assigns, assigns_escaped, unchosen, notice, silent}
-use Rattle.kc_dotconfig_model.specs.ConfigFiles.{assigned_over, overlaid_by}
+use Rattle.kc_dotconfig_model.specs.ConfigFiles.{assigned_over, merged_files}
 
 -- assignments of members, if there are any
 abbrev pub if_any : List MemberLine → Option UserValue
@@ -66,7 +66,7 @@ abbrev pub all_over : List (List LineMeaning) → List (Option UserValue) → Li
 all_over [] users = users
 all_over (meanings ∷ files) users = all_over files (assigned_over meanings users)
 
--- law: that is what the files' own assignments give, each laid over those before it
+-- law: that is what the files' own assignments give, each merged with those before it
 abbrev pub FilesAreOverAssignments : Type 0
 FilesAreOverAssignments = (tree : Tree) (files : List (List LineMeaning)) (users : List (Option UserValue)) → length users ≡ length tree.units
-    → all_over files users ≡ overlaid_by tree users files
+    → all_over files users ≡ merged_files tree users files

@@ -6,7 +6,7 @@ use Rattle.kc_value.specs.declared.tri.Tri.TheVariants.{N}
 use Rattle.kc_value.specs.declared.value.Kind.{Kind}
 use Rattle.kc_value.specs.declared.value.Kind.TheVariants.{Bool as Boolean, Tristate, Text as String, Int, Hex}
 use Rattle.kc_value.specs.Number.{number_of_text, number_spelling}
-use Rattle.kc_value.specs.Tri.{tri_or, y_for_m}
+use Rattle.kc_value.specs.Tri.{tri_or, y_for_m, is_n, is_m}
 use Rattle.kc_expr.specs.Expr.{Operand}
 use Rattle.kc_tree_model.specs.Trees.{Tree, Symbol, Choice, Default, Range, MemberDefault}
 use Rattle.kc_tokens.specs.Languages.{is_linux_6_12}
@@ -19,7 +19,6 @@ use Rattle.kc_rules_model.specs.declared.values.UnitValue.TheVariants.{Tri as Tr
 use Rattle.kc_rules_model.specs.declared.values.UserValue.{UserValue}
 use Rattle.kc_rules_model.specs.declared.values.MemberLine.{MemberLine}
 use Rattle.kc_rules_model.specs.MemberLines.{is_listed, last_y, first_listed}
-use Rattle.kc_rules_model.specs.Kinds.{is_m, is_n}
 use Rattle.kc_value.specs.Kinds.{is_bool, is_tristate, is_text_kind}
 use Rattle.kc_rules_model.specs.SymbolValues.{condition}
 use Rattle.kc_rules_model.specs.Rule.{modules_value, visibility, is_visible, direct_dependency, selected, implied, active_default, default_tri, default_text, assigned_tri, assigned_text, assigned_member, assigned_lines, base, leaves_no_m, visible_text, active_range, user_number, bound, bound_text, is_visible_member, is_shown, default_member}

@@ -6,14 +6,13 @@ use Rattle.kc_value.specs.declared.tri.Tri.TheVariants.{N}
 use Rattle.kc_value.specs.Number.{number_of_text}
 use Rattle.kc_value.specs.Kinds.{is_text_kind}
 use Rattle.kc_tokens.specs.Languages.{is_linux_6_12}
-use Rattle.kc_value.specs.Tri.{tri_or}
+use Rattle.kc_value.specs.Tri.{tri_or, is_n, is_m}
 use Rattle.kc_tree_model.specs.Trees.{Tree, Symbol, Choice, Range}
 use Rattle.kc_tree_model.specs.declared.ids.Unit.{Unit as TreeUnit}
 use Rattle.kc_tree_model.specs.declared.ids.Unit.TheVariants.{Symbol as of_symbol, Choice as of_choice}
 use Rattle.kc_rules_model.specs.declared.profile.Profile.{Profile}
 use Rattle.kc_rules_model.specs.declared.values.UnitValue.{UnitValue}
 use Rattle.kc_rules_model.specs.declared.values.UserValue.{UserValue}
-use Rattle.kc_rules_model.specs.Kinds.{is_m, is_n}
 use Rattle.kc_rules_model.specs.Rule.{visibility, is_visible, implied, direct_dependency, selected, active_default, default_text, assigned_tri, leaves_no_m, active_range, is_within, bound, default_member}
 use Rattle.kc_reasons_model.specs.declared.cases.Case.{Case}
 use Rattle.kc_reasons_model.specs.declared.cases.Case.TheVariants.{Tri as TriGiven, Text as TextGiven, Choice as ChoiceGiven}

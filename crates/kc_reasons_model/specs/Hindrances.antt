@@ -4,7 +4,7 @@ use Rattle.std.specs.List.{list_any}
 use Rattle.kc_value.specs.declared.tri.Tri.{Tri}
 use Rattle.kc_value.specs.declared.tri.Tri.TheVariants.{M}
 use Rattle.kc_value.specs.Number.{number_of_text}
-use Rattle.kc_value.specs.Tri.{tri_or}
+use Rattle.kc_value.specs.Tri.{tri_or, is_n, is_m}
 use Rattle.kc_tree_model.specs.Trees.{Tree, Symbol, Choice}
 use Rattle.kc_tree_model.specs.declared.ids.Unit.{Unit as TreeUnit}
 use Rattle.kc_tree_model.specs.declared.ids.Unit.TheVariants.{Symbol as of_symbol, Choice as of_choice}
@@ -17,7 +17,6 @@ use Rattle.kc_rules_model.specs.declared.values.MemberLine.{MemberLine}
 use Rattle.kc_rules_model.specs.MemberLines.{last_y, first_listed}
 use Rattle.kc_dotconfig_model.specs.MissedAssignments.{is_given_n, is_last_y}
 use Rattle.kc_rules_model.specs.Equality.{same_value}
-use Rattle.kc_rules_model.specs.Kinds.{is_m, is_n}
 use Rattle.kc_rules_model.specs.Rule.{rule, selected, visibility, is_visible, leaves_no_m, is_shown, is_visible_member, active_range, is_within, is_upside_down, is_from_environment}
 use Rattle.kc_reasons_model.specs.declared.cases.Hindrance.{Hindrance}
 use Rattle.kc_reasons_model.specs.declared.cases.Hindrance.TheVariants.{BelowSelected, FromEnvironment, Hidden, AboveVisibility, Promoted, ImpliedY, UpsideDown, OutOfRange, ChoiceNotShown, MemberHidden, LaterY, FirstOfAll}

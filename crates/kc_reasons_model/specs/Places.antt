@@ -3,7 +3,8 @@ use Rattle.std.specs.Prelude.{ℕ, Bool, true, false, List, [], ◌∷◌, ◌++
 use Rattle.kc_value.specs.declared.tri.Tri.{Tri}
 use Rattle.kc_value.specs.declared.tri.Tri.TheVariants.{N, M}
 use Rattle.kc_expr.specs.Expr.{Expr, Environment, alone, constant}
-use Rattle.kc_tree_model.specs.Statements.{Head, choice, menu, condition, Attribute, depends_of, visible_of, prompt_of}
+use Rattle.kc_tree_model.specs.Statements.{Head, Attribute, depends_of, visible_of, prompt_of}
+use Rattle.kc_tree_model.specs.declared.statement.Head.TheVariants.{Choice as choice, Menu as menu, Condition as condition}
 use Rattle.kc_tree_model.specs.Blocks.{Group, GroupHead, of_head, file_end, Line, Position}
 use Rattle.kc_tree_model.specs.Conditions.{GroupInContext}
 use Rattle.kc_tokens.specs.declared.language.Language.{Language}

@@ -6,7 +6,7 @@ use Rattle.kc_expr.specs.Expr.{value}
 use Rattle.kc_expr.specs.Grammar.{ors}
 use Rattle.kc_tree_model.specs.Trees.{Symbol, ReverseDependency}
 use Rattle.kc_tree_model.specs.TreeLookup.{unit_of}
-use Rattle.kc_rules_model.specs.Kinds.{is_n}
+use Rattle.kc_value.specs.Tri.{is_n}
 use Rattle.kc_reasons_model.specs.Conjuncts.{Part}
 use Rattle.kc_reasons_model.specs.Spelling.{spelling}
 use Rattle.kc_reasons_model.specs.SymbolLines.{SymbolLines}

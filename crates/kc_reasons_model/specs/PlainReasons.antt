@@ -9,7 +9,7 @@ use Rattle.kc_tree_model.specs.TreeLookup.{unit_of}
 use Rattle.kc_rules_model.specs.declared.profile.Profile.{Profile}
 use Rattle.kc_rules_model.specs.declared.values.UnitValue.{UnitValue}
 use Rattle.kc_rules_model.specs.declared.values.UserValue.{UserValue}
-use Rattle.kc_rules_model.specs.Kinds.{is_n}
+use Rattle.kc_value.specs.Tri.{is_n}
 use Rattle.kc_rules_model.specs.SymbolValues.{environment, condition, member_of}
 use Rattle.kc_rules_model.specs.Rule.{assigned_tri, selected, is_from_environment}
 use Rattle.kc_rules_model.specs.Reports.{is_unmet_symbol}

@@ -9,7 +9,8 @@ use Rattle.kc_value.specs.Number.{loose_number}
 use Rattle.kc_tokens.specs.declared.token.TokenKind.{TokenKind}
 use Rattle.kc_tokens.specs.declared.token.TokenKind.TheVariants.{Word}
 use Rattle.kc_tokens.specs.Token.{Lexeme}
-use Rattle.kc_expr.specs.Expr.{Expr, Environment, SymbolValue, letter, value}
+use Rattle.kc_expr.specs.Expr.{Expr, Environment, SymbolValue, value}
+use Rattle.kc_value.specs.Tri.{letter, is_n}
 use Rattle.kc_expr.specs.Grammar.{ors, letter_value}
 use Rattle.kc_tree_model.specs.Trees.{Tree, Symbol, Default, Range, ReverseDependency}
 use Rattle.kc_tree_model.specs.TreeLookup.{unit_of}
@@ -20,7 +21,6 @@ use Rattle.kc_rules_model.specs.declared.values.UnitValue.{UnitValue}
 use Rattle.kc_rules_model.specs.declared.values.UserValue.{UserValue}
 use Rattle.kc_rules_model.specs.declared.values.UserValue.TheVariants.{Tri as TriUser, Text as TextUser, Member as MemberUser, Lines as LinesUser}
 use Rattle.kc_solver.specs.Solutions.{user_of}
-use Rattle.kc_rules_model.specs.Kinds.{is_n}
 use Rattle.kc_rules_model.specs.SymbolValues.{environment, value_of_symbol, condition, member_of}
 use Rattle.kc_rules_model.specs.Rule.{assigned_tri, selected, is_from_environment}
 use Rattle.kc_rules_model.specs.Reports.{is_unmet_symbol}

@@ -7,7 +7,8 @@ use Rattle.kc_tokens.specs.declared.token.TokenKind.{TokenKind}
 use Rattle.kc_tokens.specs.declared.token.TokenKind.TheVariants.{Word, Quoted, Relation, Not, And, Or, Open, Close}
 use Rattle.kc_tokens.specs.declared.language.Language.{Language}
 use Rattle.kc_tokens.specs.Token.{Lexeme, is_word_byte, lexemes_from}
-use Rattle.kc_expr.specs.Expr.{Expr, Operand, constant, named, quoted, alone, related, negated, both, either, shown, letter}
+use Rattle.kc_expr.specs.Expr.{Expr, Operand, constant, named, quoted, alone, related, negated, both, either, shown}
+use Rattle.kc_value.specs.Tri.{letter}
 use Rattle.kc_expr.specs.Grammar.{Level, ors, ands, factor, operand_of_lexeme}
 
 -- a token, at no place

@@ -226,7 +226,7 @@ pub fn overridden_lines_are_listed()
     ensures all { OverriddenAreListed }
 {}
 
-/// The lines of several files, one after another, give what their own assignments give, each laid over those before it.
+/// The lines of several files, one after another, give what their own assignments give, each merged with those before it.
 pub fn files_are_over_assignments()
     ensures { FilesAreOverAssignments }
 {}

@@ -2,7 +2,7 @@
 ghost use Rattle.std.specs.Prelude.{◌≡◌, ◌<◌, ◌&&◌, ◌||◌, not, length, IfOk};
 ghost use Rattle.kc_tree.specs.between.Views.{SymbolFits, symbol_view};
 ghost use Rattle.kc_tokens.specs.Languages.{is_linux_6_12};
-ghost use Rattle.kc_rules_model.specs.Kinds.{is_n};
+ghost use Rattle.kc_value.specs.Tri.{is_n};
 ghost use Rattle.kc_rules_model.specs.Rule.{implied, direct_dependency};
 ghost use Rattle.kc_rules_model.specs.Reports.{has_default, is_unselected, is_written_symbol, is_written, is_unmet, unmet};
 ghost use Rattle.kc_rules.specs.between.SettledViews.{tree_of_settled};
@@ -10,8 +10,8 @@ ghost use Rattle.kc_evaluation.specs.checker.ValuationView.{valuation_tree, valu
 
 use super::rules::Settled;
 use kc_evaluation::{
-    Valuation, active_default, default_value, has_no_member, is_from_environment, is_n,
-    is_symbol_unmet, is_visible, largest, reverse_limit,
+    Valuation, active_default, default_value, has_no_member, is_from_environment, is_symbol_unmet,
+    is_visible, largest, reverse_limit,
 };
 use kc_rules_model::UnitValue;
 use kc_tree::{Sym, Symbol};
@@ -24,8 +24,8 @@ fn has_default(under: &Valuation<'_>, symbol: &Symbol<'_>) -> bool
     ensures value { result ≡ has_default (valuation_tree under.now) (valuation_values under.now) (symbol_view (valuation_exprs under.now) symbol.now) }
 {
     match symbol.kind {
-        Kind::Bool => !is_n(default_value(under, symbol.defaults)),
-        Kind::Tristate => !is_n(default_value(under, symbol.defaults)),
+        Kind::Bool => !default_value(under, symbol.defaults).is_n(),
+        Kind::Tristate => !default_value(under, symbol.defaults).is_n(),
         Kind::Text => active_default(under, symbol.defaults).is_some(),
         Kind::Int => active_default(under, symbol.defaults).is_some(),
         Kind::Hex => active_default(under, symbol.defaults).is_some(),
@@ -51,8 +51,8 @@ fn is_implied(under: &Valuation<'_>, symbol: &Symbol<'_>) -> bool
     requires fits { SymbolFits (valuation_exprs under.now) (length (valuation_tree under.now).symbols) symbol.now }
     ensures value { let tree = valuation_tree under.now in let values = valuation_values under.now in let seen = symbol_view (valuation_exprs under.now) symbol.now in result ≡ (not (is_n (implied tree values seen)) && (is_linux_6_12 tree.language || not (is_n (direct_dependency tree values seen)))) }
 {
-    !is_n(reverse_limit(under, symbol.impliers))
-        && (under.rules.tree.language().is_linux_6_12() || !is_n(largest(under, symbol.direct)))
+    !reverse_limit(under, symbol.impliers).is_n()
+        && (under.rules.tree.language().is_linux_6_12() || !largest(under, symbol.direct).is_n())
 }
 
 /// Whether a full file has the symbol.
@@ -67,7 +67,7 @@ fn is_symbol_written(under: &Valuation<'_>, symbol: &Symbol<'_>) -> bool
         return false;
     }
     has_default(under, symbol)
-        || !is_n(reverse_limit(under, symbol.selectors))
+        || !reverse_limit(under, symbol.selectors).is_n()
         || is_implied(under, symbol)
 }
 

@@ -6,7 +6,7 @@ pub use Rattle.std.specs.List.{list_all, list_any}
 pub use Rattle.std.specs.Option.{option_and_then, option_map, option_or}
 pub use Rattle.std.specs.Prelude.{codes, is_none, is_some, nat_lt}
 pub use Rattle.kc_expr.specs.Expr.{Expr, alone, both, constant, named, quoted, shown}
-pub use Rattle.kc_rules_model.specs.Kinds.{is_n}
+pub use Rattle.kc_value.specs.Tri.{is_n}
 pub use Rattle.kc_rules_model.specs.MemberLines.{first_listed, is_listed, last_y, selected_by_lines, selected_without_y}
 pub use Rattle.kc_rules_model.specs.Rule.{active_range, choice_rule, default_member, default_text, is_shown, is_visible, is_visible_member, is_within, modules_value, number_default, number_rule, rule_of_choice, rule_of_symbol, rule_of_unit, string_rule, symbol_rule, user_number}
 pub use Rattle.kc_rules_model.specs.Shapes.{symbol_value_fits, text_fits, unit_value_fits}

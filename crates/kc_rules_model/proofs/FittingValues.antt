@@ -12,7 +12,8 @@ use Rattle.std.proofs.lemmas.Option.{slice_get-get_or}
 use Rattle.kc_value.specs.declared.value.Kind.TheVariants.{Bool as Boolean}
 use Rattle.kc_value.specs.Number.{number_spelling}
 use Rattle.kc_value.proofs.NumberSpelling.{spelling_read_back}
-use Rattle.kc_expr.specs.Expr.{related, negated, either, Operand, SymbolValue, letter, symbol_text, operand_text}
+use Rattle.kc_expr.specs.Expr.{related, negated, either, Operand, SymbolValue, symbol_text, operand_text}
+use Rattle.kc_value.specs.Tri.{letter}
 use Rattle.kc_tree_model.specs.Trees.{Range, MemberDefault}
 use Rattle.kc_tree_model.specs.declared.ids.Unit.{Unit as TreeUnit}
 use Rattle.kc_tree_model.specs.declared.ids.Unit.TheVariants.{Symbol as of_symbol, Choice as of_choice}
@@ -31,8 +32,8 @@ use Rattle.kc_rules_model.proofs.Ink.{is_ink, isn't}
 use Rattle.kc_rules_model.proofs.Numbers.{number_ink}
 use Rattle.kc_rules_model.specs.checker.PrintableBounds.{bound_read_back, zero_printable}
 
--- bytes below 128 are UTF-8
-low_utf8 : (text : List ℕ) → list_all (λ b. nat_lt b 128) text ≡ true → IsUtf8 text
+-- a text whose bytes are all below 128 is UTF-8
+pub low_utf8 : (text : List ℕ) → list_all (λ b. nat_lt b 128) text ≡ true → IsUtf8 text
 low_utf8 [] all = IsUtf8-nil
 low_utf8 (b ∷ text) all =
     let parts = and_parts (nat_lt b 128) (list_all (λ c. nat_lt c 128) text) all in ascii_then b text (ltb-true b 128 parts.0) (low_utf8 text parts.1)

@@ -1,8 +1,7 @@
 -- A symbol with an `option env` is never visible, and no full file has it.
 use Rattle.kc_rules_model.proofs.Common.{◌≡◌, Bool, true, false, not, ◌&&◌, ◌||◌, cond, List, [], refl, ap, ◌∙◌, is_none, Tri, N, is_tristate, is_linux_6_12, Tree, Symbol, UnitValue, is_n, modules_value, is_visible}
-use Rattle.kc_value.specs.Tri.{y_for_m}
+use Rattle.kc_value.specs.Tri.{y_for_m, largest}
 use Rattle.kc_value.specs.Kinds.{is_bool}
-use Rattle.kc_rules_model.specs.Kinds.{largest}
 use Rattle.kc_rules_model.specs.Rule.{is_from_environment, conditions, promoted, selected, implied, direct_dependency}
 use Rattle.kc_rules_model.specs.Reports.{has_default, is_unselected, is_written_symbol}
 

@@ -1,4 +1,3 @@
-pub mod Kinds
 pub mod SymbolValues
 pub mod MemberLines
 pub mod Rule

@@ -9,10 +9,10 @@ use Rattle.kc_rules_model.specs.declared.values.MemberLine.{MemberLine}
 abbrev pub is_listed : List MemberLine → ℕ → Bool
 is_listed lines s = list_any (λ (l : MemberLine). l.member == s) lines
 
--- the assignments of a later file laid over those of an earlier one: those of members that the later one doesn't list, and after
+-- the assignments of a later file merged with those of an earlier one: those of members that the later one doesn't list, and after
 -- them the later ones
-abbrev pub laid_over : List MemberLine → List MemberLine → List MemberLine
-laid_over later earlier = filter (λ (l : MemberLine). not (is_listed later l.member)) earlier ++ later
+abbrev pub merged_lines : List MemberLine → List MemberLine → List MemberLine
+merged_lines later earlier = filter (λ (l : MemberLine). not (is_listed later l.member)) earlier ++ later
 
 -- the last listed member that has `y` and passes a test
 abbrev pub last_y : (ℕ → Bool) → List MemberLine → Option ℕ

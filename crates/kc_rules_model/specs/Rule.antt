@@ -7,7 +7,7 @@ use Rattle.kc_value.specs.declared.tri.Tri.{Tri}
 use Rattle.kc_value.specs.declared.tri.Tri.TheVariants.{N}
 use Rattle.kc_value.specs.declared.value.Kind.{Kind}
 use Rattle.kc_value.specs.declared.value.Kind.TheVariants.{Bool as Boolean, Tristate, Text}
-use Rattle.kc_value.specs.Tri.{tri_and, tri_or}
+use Rattle.kc_value.specs.Tri.{tri_and, tri_or, is_n, y_for_m, largest, is_y}
 use Rattle.kc_tokens.specs.declared.language.Language.{Language}
 use Rattle.kc_tokens.specs.Languages.{is_linux_6_12}
 use Rattle.kc_expr.specs.Expr.{Expr, alone, Operand, operand_text, symbol_tri, modules}
@@ -21,8 +21,6 @@ use Rattle.kc_rules_model.specs.declared.values.UnitValue.TheVariants.{Tri as Tr
 use Rattle.kc_rules_model.specs.declared.values.UserValue.{UserValue}
 use Rattle.kc_rules_model.specs.declared.values.UserValue.TheVariants.{Tri as TriUser, Text as TextUser, Member as MemberUser, Lines as LinesUser}
 use Rattle.kc_rules_model.specs.declared.values.MemberLine.{MemberLine}
-use Rattle.kc_rules_model.specs.Kinds.{is_n, is_y, largest}
-use Rattle.kc_value.specs.Tri.{y_for_m}
 use Rattle.kc_value.specs.Kinds.{is_bool, is_tristate}
 use Rattle.kc_value.specs.Number.{number_of_text, number_spelling}
 use Rattle.kc_rules_model.specs.MemberLines.{selected_by_lines}

@@ -11,7 +11,7 @@ use Rattle.kc_tree_model.specs.Trees.{Tree, Symbol, Choice}
 use Rattle.kc_tree_model.specs.declared.ids.Unit.{Unit as TreeUnit}
 use Rattle.kc_tree_model.specs.declared.ids.Unit.TheVariants.{Symbol as of_symbol, Choice as of_choice}
 use Rattle.kc_value.specs.Lines.{has_newline}
-use Rattle.kc_rules_model.specs.Kinds.{is_m}
+use Rattle.kc_value.specs.Tri.{is_m}
 use Rattle.kc_rules_model.specs.declared.values.UnitValue.{UnitValue}
 use Rattle.kc_rules_model.specs.declared.values.UnitValue.TheVariants.{Tri as TriValue, Text as TextValue, Member as MemberValue}
 use Rattle.kc_rules_model.specs.declared.values.UserValue.{UserValue}

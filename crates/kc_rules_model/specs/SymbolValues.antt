@@ -4,7 +4,8 @@ use Rattle.std.specs.Option.{option_map, option_and_then}
 use Rattle.kc_value.specs.declared.tri.Tri.{Tri}
 use Rattle.kc_value.specs.declared.tri.Tri.TheVariants.{N, Y}
 use Rattle.kc_value.specs.declared.value.Kind.{Kind}
-use Rattle.kc_expr.specs.Expr.{Expr, Environment, SymbolValue, letter, value}
+use Rattle.kc_expr.specs.Expr.{Expr, Environment, SymbolValue, value}
+use Rattle.kc_value.specs.Tri.{letter}
 use Rattle.kc_tree_model.specs.Trees.{Tree, Symbol}
 use Rattle.kc_tree_model.specs.declared.ids.Unit.TheVariants.{Choice as of_choice}
 use Rattle.kc_tree_model.specs.TreeLookup.{unit_of, index_of_unit, symbol_named}

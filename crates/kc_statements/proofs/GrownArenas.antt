@@ -4,14 +4,10 @@ use Rattle.std.proofs.lemmas.List.{take-append-drop, length-take, get_or_append_
 use Rattle.kc_value.specs.declared.tri.Tri.TheVariants.{N}
 use Rattle.kc_expr.specs.between.Arena.{Exprs, node_expr, Grows}
 use Rattle.kc_expr.specs.Expr.{Expr, alone, constant}
-use Rattle.kc_tree_model.specs.Statements.{DefaultAttribute, TargetAttribute, typed_prompt, typed_default, prompt, default, depends, select, imply, range, visible, condition}
-use Rattle.kc_statements.specs.declared.statement.Head.{Head as CodeHead}
-use Rattle.kc_statements.specs.declared.statement.Head.TheVariants as heads
-use Rattle.kc_statements.specs.declared.statement.DefaultAttribute.{DefaultAttribute as CodeDefaultAttribute}
-use Rattle.kc_statements.specs.declared.statement.TargetAttribute.{TargetAttribute as CodeTargetAttribute}
-use Rattle.kc_statements.specs.declared.statement.RangeAttribute.{RangeAttribute as CodeRangeAttribute}
-use Rattle.kc_statements.specs.declared.statement.Attribute.{Attribute as CodeAttribute}
-use Rattle.kc_statements.specs.declared.statement.Attribute.TheVariants as attributes
+use Rattle.kc_tree_model.specs.Statements.{DefaultAttribute, TargetAttribute}
+use Rattle.kc_tree_model.specs.declared.statement.Head.TheVariants as heads
+use Rattle.kc_tree_model.specs.declared.statement.Attribute.TheVariants as attributes
+use Rattle.kc_statements.specs.between.StatementViews.{ReadHead, ReadDefault, ReadTarget, ReadRange, ReadAttribute}
 use Rattle.kc_statements.specs.between.StatementViews.{if_in, operand_of_expr, operand_or_n, default_in, target_in, range_in, attribute_in, head_in, NodeExists, IfNodeExists, OperandNodeExists, DefaultNodesExist, TargetNodesExist, RangeNodesExist, AttributeNodesExist, HeadNodesExist}
 
 -- a list is no shorter than its front
@@ -53,54 +49,54 @@ operand_held old new id g h = record {
 }
 
 -- a `default` attribute means the same over the grown arena
-pub valued_same : (old new : Exprs) (d : CodeDefaultAttribute) → Grows old new → DefaultNodesExist old d → default_in new d ≡ default_in old d
+pub valued_same : (old new : Exprs) (d : ReadDefault) → Grows old new → DefaultNodesExist old d → default_in new d ≡ default_in old d
 valued_same old new d g h =
     ap (λ (v : Expr). let r : DefaultAttribute = record { value = v; single = d.single; condition = if_in new d.condition; from_environment = d.from_environment } in r)
     (node_same old new d.value g h.0)
     ∙ ap (λ (c : Option Expr). let r : DefaultAttribute = record { value = node_expr old d.value; single = d.single; condition = c; from_environment = d.from_environment } in r)
     (if_same old new d.condition g h.1)
 
-pub valued_held : (old new : Exprs) (d : CodeDefaultAttribute) → Grows old new → DefaultNodesExist old d → DefaultNodesExist new d
+pub valued_held : (old new : Exprs) (d : ReadDefault) → Grows old new → DefaultNodesExist old d → DefaultNodesExist new d
 valued_held old new d g h = (node_held old new d.value g h.0, if_held old new d.condition g h.1)
 
 -- a `select` or `imply` attribute means the same over the grown arena
-pub target_same : (old new : Exprs) (s : CodeTargetAttribute) → Grows old new → TargetNodesExist old s → target_in new s ≡ target_in old s
+pub target_same : (old new : Exprs) (s : ReadTarget) → Grows old new → TargetNodesExist old s → target_in new s ≡ target_in old s
 target_same old new s g h =
     ap (λ (x : List ℕ). let r : TargetAttribute = record { name = x; condition = if_in new s.condition } in r)
     (front_get old.names new.names s.name [] g.names h.0)
     ∙ ap (λ (c : Option Expr). let r : TargetAttribute = record { name = get_or old.names s.name []; condition = c } in r) (if_same old new s.condition g h.1)
 
-pub target_held : (old new : Exprs) (s : CodeTargetAttribute) → Grows old new → TargetNodesExist old s → TargetNodesExist new s
+pub target_held : (old new : Exprs) (s : ReadTarget) → Grows old new → TargetNodesExist old s → TargetNodesExist new s
 target_held old new s g h = let l = front_long old.names new.names g.names in (omega (arith, h.0), if_held old new s.condition g h.1)
 
 -- a `range` attribute means the same over the grown arena
-pub bounded_same : (old new : Exprs) (r : CodeRangeAttribute) → Grows old new → RangeNodesExist old r → range_in new r ≡ range_in old r
+pub bounded_same : (old new : Exprs) (r : ReadRange) → Grows old new → RangeNodesExist old r → range_in new r ≡ range_in old r
 bounded_same old new r g h =
     let low = operand_same old new r.low g h.0 in
     let high = operand_same old new r.high g h.1 in
     let c = if_same old new r.condition g h.2 in
     cc
 
-pub bounded_held : (old new : Exprs) (r : CodeRangeAttribute) → Grows old new → RangeNodesExist old r → RangeNodesExist new r
+pub bounded_held : (old new : Exprs) (r : ReadRange) → Grows old new → RangeNodesExist old r → RangeNodesExist new r
 bounded_held old new r g h = (operand_held old new r.low g h.0, operand_held old new r.high g h.1, if_held old new r.condition g h.2)
 
 -- an attribute means the same over the grown arena
-pub attribute_same : (old new : Exprs) (a : CodeAttribute) → Grows old new → AttributeNodesExist old a → attribute_in new a ≡ attribute_in old a
+pub attribute_same : (old new : Exprs) (a : ReadAttribute) → Grows old new → AttributeNodesExist old a → attribute_in new a ≡ attribute_in old a
 attribute_same old new (attributes.Typed k) g h = refl
-attribute_same old new (attributes.TypedPrompt k c) g h = ap (typed_prompt k) (if_same old new c g h)
-attribute_same old new (attributes.TypedDefault k d) g h = ap (typed_default k) (valued_same old new d g h)
-attribute_same old new (attributes.Prompt c) g h = ap prompt (if_same old new c g h)
-attribute_same old new (attributes.Default d) g h = ap default (valued_same old new d g h)
-attribute_same old new (attributes.Depends id) g h = ap depends (node_same old new id g h)
-attribute_same old new (attributes.Select s) g h = ap select (target_same old new s g h)
-attribute_same old new (attributes.Imply s) g h = ap imply (target_same old new s g h)
-attribute_same old new (attributes.Range r) g h = ap range (bounded_same old new r g h)
-attribute_same old new (attributes.Visible id) g h = ap visible (node_same old new id g h)
+attribute_same old new (attributes.TypedPrompt k c) g h = ap (attributes.TypedPrompt k) (if_same old new c g h)
+attribute_same old new (attributes.TypedDefault k d) g h = ap (attributes.TypedDefault k) (valued_same old new d g h)
+attribute_same old new (attributes.Prompt c) g h = ap attributes.Prompt (if_same old new c g h)
+attribute_same old new (attributes.Default d) g h = ap attributes.Default (valued_same old new d g h)
+attribute_same old new (attributes.Depends id) g h = ap attributes.Depends (node_same old new id g h)
+attribute_same old new (attributes.Select s) g h = ap attributes.Select (target_same old new s g h)
+attribute_same old new (attributes.Imply s) g h = ap attributes.Imply (target_same old new s g h)
+attribute_same old new (attributes.Range r) g h = ap attributes.Range (bounded_same old new r g h)
+attribute_same old new (attributes.Visible id) g h = ap attributes.Visible (node_same old new id g h)
 attribute_same old new attributes.Help g h = refl
 attribute_same old new attributes.Modules g h = refl
 attribute_same old new attributes.Optional g h = refl
 
-pub attribute_held : (old new : Exprs) (a : CodeAttribute) → Grows old new → AttributeNodesExist old a → AttributeNodesExist new a
+pub attribute_held : (old new : Exprs) (a : ReadAttribute) → Grows old new → AttributeNodesExist old a → AttributeNodesExist new a
 attribute_held old new (attributes.Typed k) g h = tt
 attribute_held old new (attributes.TypedPrompt k c) g h = if_held old new c g h
 attribute_held old new (attributes.TypedDefault k d) g h = valued_held old new d g h
@@ -116,11 +112,11 @@ attribute_held old new attributes.Modules g h = tt
 attribute_held old new attributes.Optional g h = tt
 
 -- a statement other than an attribute means the same over the grown arena
-pub head_same : (old new : Exprs) (h : CodeHead) → Grows old new → HeadNodesExist old h → head_in new h ≡ head_in old h
+pub head_same : (old new : Exprs) (h : ReadHead) → Grows old new → HeadNodesExist old h → head_in new h ≡ head_in old h
 head_same old new (heads.Config name) g h = refl
 head_same old new heads.Choice g h = refl
 head_same old new (heads.Menu title) g h = refl
-head_same old new (heads.Condition id) g h = ap condition (node_same old new id g h)
+head_same old new (heads.Condition id) g h = ap heads.Condition (node_same old new id g h)
 head_same old new (heads.Comment title) g h = refl
 head_same old new (heads.Source path) g h = refl
 head_same old new heads.Mainmenu g h = refl

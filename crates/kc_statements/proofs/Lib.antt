@@ -3,6 +3,7 @@ pub mod FormLemmas
 pub mod RangeLemmas
 pub mod TitleLemmas
 pub mod AttributeLemmas
+pub mod AttributeViews
 pub mod GrownArenas
 pub mod ValueLemmas
 pub mod GlobLemmas

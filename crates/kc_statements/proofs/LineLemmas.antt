@@ -7,7 +7,7 @@ use Rattle.kc_tokens.specs.declared.token.Token.{Token as CodeToken}
 use Rattle.kc_tree_model.specs.Forms.{target_line, config_line, source_line, path_of}
 use Rattle.kc_tree_model.specs.Keywords.{is_name, is_quoted_kind}
 use Rattle.kc_tree_model.specs.Placement.{first_is}
-use Rattle.kc_tree_model.specs.Statements.{config, source}
+use Rattle.kc_tree_model.specs.declared.statement.Head.TheVariants.{Config as config, Source as source}
 use Rattle.kc_statements.proofs.FormLemmas.{first_of, none_there, stepped}
 use Rattle.kc_statements.proofs.GrownArenas.{if_same}
 

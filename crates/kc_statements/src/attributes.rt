@@ -4,7 +4,8 @@ ghost use Rattle.kc_expr.specs.between.Arena.{Grows, node_expr};
 ghost use Rattle.kc_expr.specs.Expr.{Expr};
 ghost use Rattle.kc_tokens.specs.Token.{lexemes_of};
 ghost use Rattle.kc_tree_model.specs.Forms.{type_line, prompt_line, default_line, target_line, condition_line, statement_of};
-ghost use Rattle.kc_tree_model.specs.Statements.{Attribute as DefinedAttribute, DefaultAttribute as DefinedValued, TargetAttribute as DefinedAimed, attribute};
+ghost use Rattle.kc_tree_model.specs.Statements.{Attribute as DefinedAttribute, DefaultAttribute as DefinedValued, TargetAttribute as DefinedAimed};
+ghost use Rattle.kc_tree_model.specs.declared.statement.Statement.TheVariants.{Attribute as attribute};
 ghost use Rattle.kc_statements.specs.between.StatementViews.{ReturnsOrFails, AttributeNodesExist, NodeExists, IfNodeExists, DefaultNodesExist, TargetNodesExist, attribute_in, if_in, default_in, target_in};
 ghost use Rattle.kc_statements.specs.checker.Heads.{begins_head};
 
@@ -12,11 +13,11 @@ use super::condition::{last_condition, no_more, optional_if};
 use super::fault::tree_kind_of;
 use super::options::option_attribute;
 use super::range::range_attribute;
-use super::statement::{Attribute, DefaultAttribute, TargetAttribute};
+use super::statement::{ReadAttribute, ReadDefault, ReadTarget};
 use super::token::{is_name, is_quoted, is_the_word};
 use kc_expr::{Arena, ExprId};
 use kc_tokens::Token;
-use kc_tree_model::{Keyword, TreeKind};
+use kc_tree_model::{Attribute, DefaultAttribute, Keyword, TargetAttribute, TreeKind};
 use kc_value::Kind;
 
 /// Reads a quoted text and maybe a condition, `Q [if E]`, and gives the condition.
@@ -39,7 +40,7 @@ fn typed_attribute(
     arena: &mut Arena,
     kind: Kind,
     tokens: &[Token<'_>],
-) -> Result<Attribute, TreeKind>
+) -> Result<ReadAttribute, TreeKind>
     ensures grows { Grows arena.old arena.new }
     ensures gives { ReturnsOrFails (λ a. attribute (attribute_in arena.new a)) result (type_line kind (lexemes_of tokens.now)) }
     ensures held { IfOk result (AttributeNodesExist arena.new) }
@@ -52,7 +53,7 @@ fn typed_attribute(
 
 /// Reads the value of a default and maybe a condition, `E [if E]`. The constant `m` in the value stays `m`.
 #[inline(always)]
-fn default_attribute(arena: &mut Arena, tokens: &[Token<'_>]) -> Result<DefaultAttribute, TreeKind>
+fn default_attribute(arena: &mut Arena, tokens: &[Token<'_>]) -> Result<ReadDefault, TreeKind>
     ensures grows { Grows arena.old arena.new }
     ensures gives { (f : DefinedValued → DefinedAttribute) → ReturnsOrFails (λ d. attribute (f (default_in arena.new d))) result (default_line f (lexemes_of tokens.now)) }
     ensures held { IfOk result (DefaultNodesExist arena.new) }
@@ -90,7 +91,7 @@ fn condition_after_word(
 }
 
 /// Reads the tokens after `select` or `imply`: the name of a symbol and maybe a condition, `NAME [if E]`.
-fn target_attribute(arena: &mut Arena, tokens: &[Token<'_>]) -> Result<TargetAttribute, TreeKind>
+fn target_attribute(arena: &mut Arena, tokens: &[Token<'_>]) -> Result<ReadTarget, TreeKind>
     ensures grows { Grows arena.old arena.new }
     ensures gives { (f : DefinedAimed → DefinedAttribute) → ReturnsOrFails (λ s. attribute (f (target_in arena.new s))) result (target_line f (lexemes_of tokens.now)) }
     ensures held { IfOk result (TargetNodesExist arena.new) }
@@ -113,7 +114,7 @@ pub(crate) fn attribute_of(
     arena: &mut Arena,
     keyword: Keyword,
     tokens: &[Token<'_>],
-) -> Result<Attribute, TreeKind>
+) -> Result<ReadAttribute, TreeKind>
     requires keyword { begins_head keyword ≡ false }
     ensures grows { Grows arena.old arena.new }
     ensures gives { ReturnsOrFails (λ a. attribute (attribute_in arena.new a)) result (statement_of keyword (lexemes_of tokens.now)) }

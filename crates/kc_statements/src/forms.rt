@@ -8,10 +8,10 @@ ghost use Rattle.kc_statements.specs.between.StatementViews.{ReturnsOrFails, Sta
 use super::attributes::attribute_of;
 use super::condition::{last_condition, no_more};
 use super::heads::{config_line, mainmenu_line, source_line, title};
-use super::statement::{Head, Statement};
+use super::statement::ReadStatement;
 use kc_expr::Arena;
 use kc_tokens::Token;
-use kc_tree_model::{Keyword, TreeKind};
+use kc_tree_model::{Head, Keyword, Statement, TreeKind};
 use std::alloc::Global;
 
 /// The statement of a line, by the keyword of its first token and the tokens after that ("Kconfig syntax", "Menu attributes").
@@ -24,7 +24,7 @@ pub fn statement_of<'a>(
     arena: &mut Arena,
     keyword: Keyword,
     tokens: &[Token<'a>],
-) -> Result<Statement<'a>, TreeKind>
+) -> Result<ReadStatement<'a>, TreeKind>
     ensures grows { Grows arena.old arena.new }
     ensures gives { ReturnsOrFails (statement_in arena.new) result (defined_statement keyword (lexemes_of tokens.now)) }
     ensures held { IfOk result (StatementNodesExist arena.new) }

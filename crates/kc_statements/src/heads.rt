@@ -5,19 +5,21 @@ ghost use Rattle.kc_tokens.specs.QuotedTexts.{quoted_text as text_meant};
 ghost use Rattle.kc_tokens.specs.Token.{lexemes_of, lexeme_of};
 ghost use Rattle.kc_tree_model.specs.declared.fault.TreeKind.TheVariants.{OutOfMemory};
 ghost use Rattle.kc_tree_model.specs.Forms.{config_line, titled_line, source_line, path_of};
-ghost use Rattle.kc_tree_model.specs.Statements.{Head as DefinedHead, head, mainmenu};
+ghost use Rattle.kc_tree_model.specs.Statements.{Head as DefinedHead};
+ghost use Rattle.kc_tree_model.specs.declared.statement.Head.TheVariants.{Mainmenu as mainmenu};
+ghost use Rattle.kc_tree_model.specs.declared.statement.Statement.TheVariants.{Head as head};
 ghost use Rattle.kc_statements.specs.checker.Titles.{is_one_quoted};
 ghost use Rattle.kc_statements.specs.between.StatementViews.{ReturnsOrFails, StatementNodesExist, statement_in};
 
-use super::statement::{Head, Statement};
+use super::statement::ReadStatement;
 use super::token::{is_name, is_quoted, is_word};
 use kc_tokens::{Token, quoted_text};
-use kc_tree_model::TreeKind;
+use kc_tree_model::{Head, Statement, TreeKind};
 use kc_value::Text;
 use std::alloc::{AllocError, Global};
 
 /// Reads the tokens after `config`: the name of a symbol alone.
-pub(crate) fn config_line<'a>(tokens: &[Token<'a>]) -> Result<Statement<'a>, TreeKind>
+pub(crate) fn config_line<'a>(tokens: &[Token<'a>]) -> Result<ReadStatement<'a>, TreeKind>
     ensures gives { (e : Exprs) → ReturnsOrFails (statement_in e) result (config_line (lexemes_of tokens.now)) }
     ensures held { (e : Exprs) → IfOk result (StatementNodesExist e) }
 {
@@ -59,7 +61,7 @@ pub(crate) fn title(alloc: Global, tokens: &[Token<'_>]) -> Result<Text, TreeKin
 }
 
 /// Reads the tokens after `mainmenu`: a title, one quoted text, which isn't kept.
-pub(crate) fn mainmenu_line<'a>(tokens: &[Token<'_>]) -> Result<Statement<'a>, TreeKind>
+pub(crate) fn mainmenu_line<'a>(tokens: &[Token<'_>]) -> Result<ReadStatement<'a>, TreeKind>
     ensures gives { (e : Exprs) → ReturnsOrFails (statement_in e) result (titled_line (λ _. mainmenu) (lexemes_of tokens.now)) }
     ensures held { (e : Exprs) → IfOk result (StatementNodesExist e) }
 {
@@ -89,7 +91,7 @@ fn path_of(alloc: Global, token: &Token<'_>) -> Result<Option<Text>, AllocError>
 pub(crate) fn source_line<'a>(
     alloc: Global,
     tokens: &[Token<'_>],
-) -> Result<Statement<'a>, TreeKind>
+) -> Result<ReadStatement<'a>, TreeKind>
     ensures gives { (e : Exprs) → ReturnsOrFails (statement_in e) result (source_line (lexemes_of tokens.now)) }
     ensures held { (e : Exprs) → IfOk result (StatementNodesExist e) }
 {

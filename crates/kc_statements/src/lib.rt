@@ -17,7 +17,4 @@ pub use fault::tree_kind_of;
 pub use forms::statement_of;
 pub use keyword::keyword_of;
 pub use placement::{allows_attribute, is_left_out};
-pub use statement::{
-    Attribute, Conjuncts, DefaultAttribute, Head, RangeAttribute, ReverseKind, Statement,
-    TargetAttribute,
-};
+pub use statement::{ReadAttribute, ReadDefault, ReadHead, ReadRange, ReadStatement, ReadTarget};

@@ -5,15 +5,16 @@ ghost use Rattle.kc_expr.specs.Grammar.{is_operand_kind, operand_of_lexeme};
 ghost use Rattle.kc_tokens.specs.Token.{lexemes_of, lexeme_of};
 ghost use Rattle.kc_tree_model.specs.declared.fault.TreeKind.TheVariants.{OutOfMemory};
 ghost use Rattle.kc_tree_model.specs.Forms.{range_line};
-ghost use Rattle.kc_tree_model.specs.Statements.{attribute, range};
+ghost use Rattle.kc_tree_model.specs.declared.statement.Attribute.TheVariants.{Range as range};
+ghost use Rattle.kc_tree_model.specs.declared.statement.Statement.TheVariants.{Attribute as attribute};
 ghost use Rattle.kc_statements.specs.between.StatementViews.{ReturnsOrFails, RangeNodesExist, OperandNodeExists, range_in, operand_or_n};
 
 use super::condition::optional_if;
-use super::statement::RangeAttribute;
+use super::statement::ReadRange;
 use super::token::is_operand;
 use kc_expr::{Arena, ExprId};
 use kc_tokens::Token;
-use kc_tree_model::TreeKind;
+use kc_tree_model::{RangeAttribute, TreeKind};
 
 /// Adds a bare word or a quoted text to the arena, as an expression of one operand.
 pub(crate) fn operand(arena: &mut Arena, token: &Token<'_>) -> Result<ExprId, TreeKind>
@@ -34,7 +35,7 @@ pub(crate) fn operand(arena: &mut Arena, token: &Token<'_>) -> Result<ExprId, Tr
 pub(crate) fn range_attribute(
     arena: &mut Arena,
     tokens: &[Token<'_>],
-) -> Result<RangeAttribute, TreeKind>
+) -> Result<ReadRange, TreeKind>
     ensures grows { Grows arena.old arena.new }
     ensures gives { ReturnsOrFails (λ r. attribute (range (range_in arena.new r))) result (range_line (lexemes_of tokens.now)) }
     ensures held { IfOk result (RangeNodesExist arena.new) }

@@ -17,11 +17,12 @@ pub use Rattle.kc_parser.specs.declared.listing.GroupHead.{GroupHead as CodeHead
 pub use Rattle.kc_parser.specs.declared.listing.Line.{Line as CodeLine}
 pub use Rattle.kc_reasons_model.specs.Places.{LocatedContext, located_at, located_context, located_dependencies, located_prompts}
 pub use Rattle.kc_reasons_model.specs.SymbolLines.{attribute_positions, position_of}
-pub use Rattle.kc_statements.specs.between.StatementViews.{AttributeNodesExist, attribute_in, conjunct_given, if_in, prompt_given}
-pub use Rattle.kc_statements.specs.declared.statement.Attribute.{Attribute as CodeAttribute}
-pub use Rattle.kc_statements.specs.declared.statement.Conjuncts.{Conjuncts}
-pub use Rattle.kc_statements.specs.declared.statement.Conjuncts.TheVariants.{Dependencies, Visibles}
-pub use Rattle.kc_statements.specs.declared.statement.ReverseKind.{ReverseKind}
+pub use Rattle.kc_statements.specs.between.StatementViews.{AttributeNodesExist, attribute_in, if_in, ReadAttribute}
+pub use Rattle.kc_tree_model.specs.between.Attributes.{conjunct_given}
+pub use Rattle.kc_tree_model.specs.Statements.{prompt_of, Attribute, TargetAttribute}
+pub use Rattle.kc_tree_model.specs.declared.statement.Conjuncts.{Conjuncts}
+pub use Rattle.kc_tree_model.specs.declared.statement.Conjuncts.TheVariants.{Dependencies, Visibles}
+pub use Rattle.kc_tree_model.specs.declared.statement.ReverseKind.{ReverseKind}
 pub use Rattle.kc_symbol_lines.specs.between.LinesView.{AreHeld, IsHeld, all_located, located_view, position_view}
 pub use Rattle.kc_symbol_lines.specs.checker.Blocks.{HasBlocks, HasBlocksTo, IsChain, block_after, block_at, open_numbers}
 pub use Rattle.kc_symbol_lines.specs.checker.Contexts.{as_choice_part, inside_blocks, inside_choice, inside_head, inside_menu, lines_at, lists_of, shown_parts}
@@ -42,5 +43,4 @@ pub use Rattle.kc_tree_model.specs.Conditions.{GroupInContext, group_in_context,
 pub use Rattle.kc_tree_model.specs.Contents.{Contents, contents_of, definitions_of, symbol_of}
 unfoldable pub use Rattle.kc_tree_model.specs.Contents.{tree_of_groups}
 pub use Rattle.kc_tree_model.specs.Limits.{names_defined}
-pub use Rattle.kc_tree_model.specs.Statements.{Attribute, TargetAttribute}
 pub use Rattle.kc_tree_model.specs.Trees.{Symbol, Tree}

@@ -6,7 +6,7 @@ use Rattle.std.proofs.lemmas.Option.{slice_get-map}
 use Rattle.kc_value.specs.declared.tri.Tri.TheVariants.{N}
 use Rattle.kc_expr.specs.Expr.{alone, constant}
 use Rattle.kc_parser.specs.declared.listing.GroupHead.TheVariants as codes
-use Rattle.kc_tree_model.specs.Statements as model
+use Rattle.kc_tree_model.specs.declared.statement.Head.TheVariants as heads
 use Rattle.kc_tree_model.specs.Blocks.{of_head}
 use Rattle.kc_reasons_model.specs.Places.{LocatedExpr, as_choice_parts, located_choice, located_inside_menu, located_inside}
 use Rattle.kc_symbol_lines.proofs.OwnLineLaws.{context_view, parts_located, dependencies_located, prompts_located}
@@ -43,7 +43,7 @@ module _ (e : Exprs) (off : ℕ) (is_n : node_expr e off ≡ alone (constant N))
       ∙ ap (λ ps. slice_get ps 0) (prompts_located e g code.file ls r.file_is r.attributes a)))
 
   choice_by : (through : Bool) → context_view e (inside_head through off codes.Choice a code.file code.line ls)
-      ≡ located_inside through (of_head model.choice) (context_view e a) g
+      ≡ located_inside through (of_head heads.Choice) (context_view e a) g
   choice_by true = menu_located
   choice_by false = choice_located
 

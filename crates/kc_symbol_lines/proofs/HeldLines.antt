@@ -1,6 +1,6 @@
 -- What is on the lines of a tree are expressions of its arena.
 use Rattle.kc_symbol_lines.proofs.Common.{◌≡◌, inl, inr, ℕ, suc, ◌<◌, Bool, true, false, List, [], ◌∷◌, ◌++◌, length, map, Option, Some, None, refl, sym, subst, arith, slice_get, flat_map, All, IfSome, Vec, All-nil, All-cons, Exprs, RepresentsHead, LineNodesExist, Group, GroupHead, names_defined}
-use Rattle.kc_symbol_lines.proofs.Common.{Has, HasLines, TreeLines, Conjuncts, Dependencies, Visibles, LocatedExpr, IsHeld, AreHeld, conjunct_given, prompt_given, each_items, EnclosingLists, position_at, located_if, parts_in, dependency_parts, prompt_at, prompts_in, as_choice_part, shown_parts}
+use Rattle.kc_symbol_lines.proofs.Common.{Has, HasLines, TreeLines, Conjuncts, Dependencies, Visibles, LocatedExpr, IsHeld, AreHeld, conjunct_given, prompt_of, each_items, EnclosingLists, position_at, located_if, parts_in, dependency_parts, prompt_at, prompts_in, as_choice_part, shown_parts}
 use Rattle.kc_symbol_lines.proofs.Common.{inside_menu, inside_choice, inside_head, inside_blocks, lines_at, All-take, CodeGroup, CodeLine, CodeHead}
 use Rattle.std.proofs.lemmas.List.Elements.{All-append, All-map}
 use Rattle.kc_parser.specs.declared.listing.GroupHead.TheVariants as codes
@@ -41,8 +41,8 @@ module _ (e : Exprs) where
     pub prompts_held : (some : List CodeLine) → All (LineNodesExist e) some → All (All (IsHeld e)) (prompts_in a file all some)
     prompts_held [] h = All-nil (All (IsHeld e))
     prompts_held (l ∷ some) h =
-        All-append (All (IsHeld e)) (prompt_at a file all l.number (prompt_given l.attribute)) (prompts_in a file all some)
-        (prompt_at_held l.number (prompt_given l.attribute) (prompt_held e l.attribute (h 0 l (omega arith))))
+        All-append (All (IsHeld e)) (prompt_at a file all l.number (prompt_of l.attribute)) (prompts_in a file all some)
+        (prompt_at_held l.number (prompt_of l.attribute) (prompt_held e l.attribute (h 0 l (omega arith))))
         (prompts_held some (λ i d b. h (suc i) d (omega arith)))
 
     first_held : (pss : List (List LocatedExpr)) → All (All (IsHeld e)) pss → (off : ℕ) (at : Position) → off < length e.nodes

@@ -1,12 +1,12 @@
 -- What the code finds on a group's lines is what the definitions say.
 use Rattle.kc_symbol_lines.proofs.Common.{◌≡◌, ℕ, Bool, true, false, cond, List, [], ◌∷◌, ◌++◌, map, Option, Some, None, refl, ap, sym, ◌∙◌, filter_map, option_map, option_to_list, cons_option, map-append, Exprs, node_expr, attribute_in, if_in, line_in, Attribute, Group, Line, Position}
-use Rattle.kc_symbol_lines.proofs.Common.{LocatedContext, located_at, located_dependencies, located_prompts, attribute_positions, position_of, Conjuncts, Dependencies, position_view, located_view, all_located, conjunct_given, prompt_given, is_given, EnclosingLists, position_at, located_if, parts_in}
-use Rattle.kc_symbol_lines.proofs.Common.{places_in, dependency_parts, prompt_parts, prompt_at, prompts_in, CodeAttribute, CodeLine, CodeLocated}
+use Rattle.kc_symbol_lines.proofs.Common.{LocatedContext, located_at, located_dependencies, located_prompts, attribute_positions, position_of, Conjuncts, Dependencies, position_view, located_view, all_located, conjunct_given, prompt_of, is_given, EnclosingLists, position_at, located_if, parts_in}
+use Rattle.kc_symbol_lines.proofs.Common.{places_in, dependency_parts, prompt_parts, prompt_at, prompts_in, ReadAttribute, CodeLine, CodeLocated}
 use Rattle.kc_tree_model.specs.Statements as model
 use Rattle.kc_reasons_model.specs.Places.{LocatedExpr, located_attributes, located_prompt}
 use Rattle.kc_symbol_lines.specs.declared.own_lines.Given.{Given}
 use Rattle.kc_conditions.proofs.Growth.{part_meant, part_is}
-use Rattle.kc_symbol_lines.proofs.AttributeViews.{prompt_is}
+use Rattle.kc_statements.proofs.AttributeViews.{prompt_same}
 
 -- the conditions that some of the code represent
 abbrev pub context_view : Exprs → EnclosingLists → LocatedContext
@@ -34,7 +34,7 @@ module _ (e : Exprs) where
   one_place g file line false ys zs f h = h
 
   places_of_lines : {A : Type 0} (given : Given) (D : Attribute → Option A) (g : Group) (file : ℕ) (ls : List CodeLine) → g.at.file ≡ file
-      → ((x : Position) (a : CodeAttribute) → option_map (λ _. x) (D (attribute_in e a)) ≡ cond (is_given given a) (Some x) None)
+      → ((x : Position) (a : ReadAttribute) → option_map (λ _. x) (D (attribute_in e a)) ≡ cond (is_given given a) (Some x) None)
       → map position_view (places_in given file ls) ≡ filter_map (λ (l : Line). option_map (λ a. position_of g l) (D l.attribute)) (map (line_in e) ls)
   places_of_lines given D g file [] f h = refl
   places_of_lines given D g file (l ∷ ls) f h =
@@ -51,7 +51,7 @@ module _ (e : Exprs) where
         ∙ ap (λ xs. filter_map (λ (l : Line). option_map (located_at g l.number) (part_meant part l.attribute)) xs) (sym own)
 
     pub places_located : {A : Type 0} (given : Given) (D : Attribute → Option A)
-        → ((x : Position) (a : CodeAttribute) → option_map (λ _. x) (D (attribute_in e a)) ≡ cond (is_given given a) (Some x) None)
+        → ((x : Position) (a : ReadAttribute) → option_map (λ _. x) (D (attribute_in e a)) ≡ cond (is_given given a) (Some x) None)
         → map position_view (places_in given file ls) ≡ attribute_positions D g
     places_located given D h =
         places_of_lines given D g file ls f h
@@ -85,9 +85,9 @@ module _ (e : Exprs) where
     prompts_of_lines a [] = refl
     prompts_of_lines a (l ∷ some) =
         let rest : List (List LocatedExpr) = filter_map (λ (k : Line). option_map (located_prompt (context_view e a) g k.number) (model.prompt_of k.attribute)) (map (line_in e) some) in
-        map-append (all_located e) (prompt_at a file ls l.number (prompt_given l.attribute)) (prompts_in a file ls some)
-        ∙ one_prompt a l.number (prompt_given l.attribute) (map (all_located e) (prompts_in a file ls some)) rest (prompts_of_lines a some)
-        ∙ ap (λ o. cons_option (option_map (located_prompt (context_view e a) g l.number) o) rest) (prompt_is e l.attribute)
+        map-append (all_located e) (prompt_at a file ls l.number (prompt_of l.attribute)) (prompts_in a file ls some)
+        ∙ one_prompt a l.number (prompt_of l.attribute) (map (all_located e) (prompts_in a file ls some)) rest (prompts_of_lines a some)
+        ∙ ap (λ o. cons_option (option_map (located_prompt (context_view e a) g l.number) o) rest) (prompt_same e l.attribute)
 
     pub prompts_located : (a : EnclosingLists) → map (all_located e) (prompts_in a file ls ls) ≡ located_prompts (context_view e a) g
     prompts_located a =

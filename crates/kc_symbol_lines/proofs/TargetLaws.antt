@@ -5,10 +5,10 @@ use Rattle.std.specs.List.{position_or_len}
 use Rattle.kc_symbol_lines.proofs.Common.{◌≡◌, ℕ, suc, ◌+◌, ◌<◌, Bool, true, false, cond, List, [], ◌∷◌, ◌++◌, length, map, Option, Some, None, refl, ap, sym, ◌∙◌, subst, arith, slice_get, filter_map, flat_map, option_map, option_to_list, unwrap_or, All, cons_option, length-map, All-nil, All-cons}
 use Rattle.kc_symbol_lines.proofs.Common.{Language, attribute_in, AttributeNodesExist, RepresentsHead, LineNodesExist, line_in, Tree, Symbol, Attribute, TargetAttribute, Group, Line, Position, open_blocks, GroupInContext, group_in_context, groups_in_context, Contents, contents_of, symbol_of}
 use Rattle.kc_symbol_lines.proofs.Common.{names_defined, Has, get_below, position_of, attribute_positions, TreeModel, HasLines, TreeLines, shown_at, all_before, read_before, group_at, ReverseKind, GatheredLines, position_view, position_at, target_keys, target_places, AreGathered, lines_at}
-use Rattle.kc_symbol_lines.proofs.Common.{CodeAttribute, CodeLine, tree_of_groups}
+use Rattle.kc_symbol_lines.proofs.Common.{ReadAttribute, CodeLine, tree_of_groups}
 use Rattle.std.proofs.lemmas.Option.{slice_get-get_or}
 use Rattle.kc_expr.specs.Lookup.{index_of_name}
-use Rattle.kc_statements.specs.declared.statement.Attribute.TheVariants as attributes
+use Rattle.kc_tree_model.specs.declared.statement.Attribute.TheVariants as attributes
 use Rattle.kc_parser.specs.declared.listing.GroupHead.TheVariants as codes
 use Rattle.kc_tree_model.specs.TreeLookup.{symbol_named}
 use Rattle.kc_tree_model.specs.Statements.{select_of, imply_of, name_of_head}
@@ -21,7 +21,7 @@ use Rattle.kc_builder.proofs.ItemLaw.{by_name, AreListed, listed_more, listed_sa
 use Rattle.kc_checks.proofs.GroupPlaces.{placed_more}
 use Rattle.kc_conditions.proofs.Growth.{option_front}
 use Rattle.kc_checks.proofs.Symbols.{named_there, nameless, place_is}
-use Rattle.kc_statements.specs.declared.statement.ReverseKind.TheVariants.{Select, Imply}
+use Rattle.kc_tree_model.specs.declared.statement.ReverseKind.TheVariants.{Select, Imply}
 use Rattle.kc_symbol_lines.specs.declared.located.Position.{Position as CodePosition}
 use Rattle.kc_symbol_lines.specs.checker.Targets.{target_symbol, HasDefinition}
 use Rattle.kc_symbol_lines.proofs.AttributeViews.{target_meant}
@@ -125,7 +125,7 @@ module _ (t : TreeModel) (read : List Group) (tree_is : t.tree ≡ tree_of_group
       ∙ ap (λ (w : Tree). symbol_named w (slice_index_or t.exprs.names id [])) tree_is
       ∙ named_in_tree t.tree.language read (slice_index_or t.exprs.names id [])
 
-  target_is : (f : ReverseKind) (a : CodeAttribute) → AttributeNodesExist t.exprs a
+  target_is : (f : ReverseKind) (a : ReadAttribute) → AttributeNodesExist t.exprs a
       → target_symbol t f a ≡ option_and_then (λ (b : TargetAttribute). index_of_name b.name names) (target_meant f (attribute_in t.exprs a))
   target_is Select (attributes.Select s) h = name_found s.name h.0
   target_is Select a h = refl

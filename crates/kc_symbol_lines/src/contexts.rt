@@ -12,8 +12,8 @@ use kc_builder::TreeLines;
 use kc_checks::{end_of, part};
 use kc_expr::ExprId;
 use kc_parser::{Group, GroupHead, Line};
-use kc_statements::Conjuncts;
 use kc_tokens::Language;
+use kc_tree_model::Conjuncts;
 use std::alloc::{AllocError, Global};
 
 /// The dependencies and `visible if`s that enclose what is inside some blocks, outermost first.

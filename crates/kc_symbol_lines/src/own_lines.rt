@@ -10,7 +10,8 @@ use super::contexts::Enclosing;
 use super::located::{LocatedExpr, Position};
 use kc_expr::ExprId;
 use kc_parser::Line;
-use kc_statements::{Attribute, Conjuncts};
+use kc_statements::ReadAttribute;
+use kc_tree_model::Conjuncts;
 use std::alloc::{AllocError, Global};
 
 /// What gives a value, or limits it.
@@ -21,7 +22,7 @@ pub(crate) enum Given {
 }
 
 /// Whether an attribute is a default, or a range.
-fn is_given(given: Given, attribute: &Attribute) -> bool
+fn is_given(given: Given, attribute: &ReadAttribute) -> bool
     ensures { result ≡ is_given given attribute.now }
 {
     match given {

@@ -11,9 +11,9 @@ use super::contexts::lines_at;
 use super::located::Position;
 use kc_builder::TreeLines;
 use kc_parser::{GroupHead, Line};
-use kc_statements::{Attribute, ReverseKind};
+use kc_statements::ReadAttribute;
 use kc_tree::{ItemsWithKeys, Tree};
-use kc_tree_model::Sym;
+use kc_tree_model::{ReverseKind, Sym};
 use std::alloc::{AllocError, Global};
 
 /// The number of the group of each definition, under that of its symbol; the places of selects and implies, under the numbers of
@@ -26,7 +26,7 @@ pub(crate) struct GatheredLines {
 }
 
 /// The symbol that an attribute selects, or implies, if an entry defines it.
-fn target_symbol(tree: &Tree, which: ReverseKind, attribute: &Attribute) -> Option<Sym>
+fn target_symbol(tree: &Tree, which: ReverseKind, attribute: &ReadAttribute) -> Option<Sym>
     ensures { result ≡ target_symbol tree.now which attribute.now }
 {
     match attribute.target_given(which) {

@@ -22,4 +22,4 @@ pub use Rattle.kc_tokens.specs.declared.token.TokenKind.{TokenKind}
 pub use Rattle.kc_tokens.specs.declared.token.TokenKind.TheVariants.{And, Close, Not, Open, Or, Quoted, Relation, Word}
 pub use Rattle.kc_value.proofs.ClosingSteps.{further}
 pub use Rattle.kc_value.proofs.QuotedLaws.{body_closes}
-pub use Rattle.kc_value.specs.QuotedTexts.{IsBody, closing}
+pub use Rattle.kc_value.specs.QuotedTexts.{IsBetweenQuotes, closing}

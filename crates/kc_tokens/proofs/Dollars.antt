@@ -3,7 +3,7 @@ use Rattle.std.proofs.Common.{ltb}
 use Rattle.std.specs.Prelude.{position}
 use Rattle.std.specs.List.{position_or_len}
 use Rattle.std.proofs.lemmas.Bool.{le-ltb, lt-ltb, ltb-true}
-use Rattle.kc_tokens.proofs.Common.{◌≡◌, ℕ, suc, ◌+◌, ◌<◌, Bool, true, false, eqb, cond, List, [], ◌∷◌, ◌++◌, length, Option, Some, None, refl, ap, sym, ◌∙◌, append_assoc, length-append, arith, option_map, list_any, or_parts, eqb-true, further, IsBody, Language, Strict, Linux, bare_dollar}
+use Rattle.kc_tokens.proofs.Common.{◌≡◌, ℕ, suc, ◌+◌, ◌<◌, Bool, true, false, eqb, cond, List, [], ◌∷◌, ◌++◌, length, Option, Some, None, refl, ap, sym, ◌∙◌, append_assoc, length-append, arith, option_map, list_any, or_parts, eqb-true, further, IsBetweenQuotes, Language, Strict, Linux, bare_dollar}
 use Rattle.kc_tokens.proofs.Common.{dollar_left_out}
 use Rattle.kc_value.specs.QuotedTexts.{none, plain, pair}
 use Rattle.kc_tokens.specs.declared.language.LinuxVersion.{LinuxVersion}
@@ -67,7 +67,7 @@ no_first true o h = cc
 no_first false o h = (refl, none_under o h)
 
 -- a body in which each `$` that there is is in a pair
-bare_body : (quote : ℕ) (body means rest : List ℕ) → IsBody quote body means → bare_dollar false (body ++ rest) ≡ None → HasDollarsInPairs body
+bare_body : (quote : ℕ) (body means rest : List ℕ) → IsBetweenQuotes quote body means → bare_dollar false (body ++ rest) ≡ None → HasDollarsInPairs body
 bare_body quote body means rest none h = empty
 bare_body quote body means rest (plain {c = c} {bs = bs} {cs = cs} q s p) h =
     let g : cond (eqb c 36) (Some 0) (option_map suc (bare_dollar false (bs ++ rest))) ≡ None = rw s at h in
@@ -104,7 +104,7 @@ first_at k h = cc
 dollar_first : (language : Language) (c k : ℕ) (bs : List ℕ) → HasDollarsOf language [] → eqb c 36 ≡ true → k ≡ 0 → IsFirstDollar language (c ∷ bs) k
 dollar_first language c k bs h d e = record { front = []; back = bs; parts = ap (λ x. x ∷ bs) (eqb-true c 36 d); is_place = e; dollars = h }
 
-bare_found : (version : LinuxVersion) (quote : ℕ) (body means : List ℕ) (k : ℕ) → eqb quote 36 ≡ false → IsBody quote body means → bare_dollar false (body ++ quote ∷ []) ≡ Some k
+bare_found : (version : LinuxVersion) (quote : ℕ) (body means : List ℕ) (k : ℕ) → eqb quote 36 ≡ false → IsBetweenQuotes quote body means → bare_dollar false (body ++ quote ∷ []) ≡ Some k
     → IsFirstDollar (Linux version) body k
 bare_found version quote body means k q none h = let g : None ≡ Some k = rw q at h in cc
 bare_found version quote body means k q (plain {c = c} {bs = bs} {cs = cs} n s p) h = by_dollar (eqb c 36) refl (rw s at h) (λ m e. bare_found version quote bs cs m q p e)
@@ -162,7 +162,7 @@ module _ (q : ℕ) (body : List ℕ) (dollar : eqb q 36 ≡ false) (slash : eqb 
       let last : bare_dollar false (q ∷ []) ≡ None = rw dollar refl in
       rw (dollar, slash) (ap (option_map suc) (bare_none body (q ∷ []) h last))
 
-  pub dollars_between : (language : Language) (means : List ℕ) → IsBody q body means → dollar_left_out language (q ∷ (body ++ q ∷ [])) ≡ None
+  pub dollars_between : (language : Language) (means : List ℕ) → IsBetweenQuotes q body means → dollar_left_out language (q ∷ (body ++ q ∷ [])) ≡ None
       → HasDollarsOf language body
   dollars_between Strict means b h =
       let clean = none_any (λ c. eqb c 36) (q ∷ (body ++ q ∷ [])) (list_any (λ c. eqb c 36) (q ∷ (body ++ q ∷ []))) refl h in
@@ -184,7 +184,7 @@ module _ (q : ℕ) (body : List ℕ) (dollar : eqb q 36 ≡ false) (slash : eqb 
       let whole : body ++ q ∷ [] ≡ front ++ 36 ∷ (back ++ q ∷ []) = ap (λ x. x ++ q ∷ []) e ∙ append_assoc front (36 ∷ back) (q ∷ []) in
       ap (λ x. bare_dollar false (q ∷ x)) whole ∙ rw (dollar, slash) (ap (option_map suc) (bare_first front (back ++ q ∷ []) h))
 
-  pub first_left_out : (language : Language) (means : List ℕ) (k : ℕ) → IsBody q body means → dollar_left_out language (q ∷ (body ++ q ∷ [])) ≡ Some k
+  pub first_left_out : (language : Language) (means : List ℕ) (k : ℕ) → IsBetweenQuotes q body means → dollar_left_out language (q ∷ (body ++ q ∷ [])) ≡ Some k
       → (m : ℕ) × (k ≡ suc m) × IsFirstDollar language body m
   first_left_out Strict means k b h =
       let (l, e) = at_place (λ c. eqb c 36) (q ∷ (body ++ q ∷ [])) k h in

@@ -1,6 +1,6 @@
 -- What begins bytes: a white byte, a comment, the longest token, or nothing.
 use Rattle.kc_tokens.proofs.Common.{◌≡◌, ℕ, suc, ◌+◌, ◌<◌, ◌≤◌, Bool, true, false, ◌&&◌, ◌||◌, eqb, cond, List, [], ◌∷◌, ◌++◌, length, take, drop, get_or, Option, Some, None, refl, ap, sym, ◌∙◌, subst, append_assoc, length-append, arith, take_while, list_all, and_parts, eqb-true, take-append_seam}
-use Rattle.kc_tokens.proofs.Common.{IsBody, closing, body_closes, ExprKind, Language, NextToken, White, Comment, Token, Fault, Equal, NotEqual, Less, Greater, LessEqual, GreaterEqual, TokenKind, Word, Quoted, Relation, Not, And, Or, Open, Close, is_quote, is_white_byte, is_word_byte}
+use Rattle.kc_tokens.proofs.Common.{IsBetweenQuotes, closing, body_closes, ExprKind, Language, NextToken, White, Comment, Token, Fault, Equal, NotEqual, Less, Greater, LessEqual, GreaterEqual, TokenKind, Word, Quoted, Relation, Not, And, Or, Open, Close, is_quote, is_white_byte, is_word_byte}
 use Rattle.kc_tokens.proofs.Common.{dollar_left_out, quoted_up_to, quoted_or_left_out, IsQuotedToken, IsToken, IsLongest}
 use Rattle.std.proofs.lemmas.Bool.{both_ways}
 use Rattle.kc_value.specs.QuotedTexts.{unescaped}
@@ -302,7 +302,7 @@ quoted_len language b n bs front rest c e is =
     ∙ append_assoc is.body (is.quote ∷ []) rest in
     let close : closing b false bs ≡ Some (suc (length is.body)) =
     ap (λ x. closing x false bs) same ∙ ap (closing is.quote false) tail ∙ body_closes is.quote is.body is.means rest
-    (quote_facts is.quote is.sort).0 is.is_body in
+    (quote_facts is.quote is.sort).0 is.is_between_quotes in
     let k = same_some (suc (length is.body)) n (sym close ∙ c) in
     omega (arith, k, ap length is.parts, length-append is.body (is.quote ∷ []))
 
@@ -328,13 +328,13 @@ quoted_at language b n bs q c none = by_body (closed b false bs n c)
         let parts : b ∷ bs ≡ whole ++ k.rest = ap (λ x. b ∷ x) (k.parts ∙ sym (append_assoc k.body (b ∷ []) k.rest)) in
         let size : length whole ≡ n + 1 = omega (arith, k.len, length-append k.body (b ∷ [])) in
         let inside : dollar_left_out language whole ≡ None = sym (ap (dollar_left_out language) (up_to_quote b n bs k)) ∙ none in
-        let dollars = dollars_between b k.body (quote_facts b q).1 (quote_no_slash b q) language _ k.is_body inside in
+        let dollars = dollars_between b k.body (quote_facts b q).1 (quote_no_slash b q) language _ k.is_between_quotes inside in
         record {
           text = whole;
           rest = k.rest;
           parts = parts;
           size = size;
-          is = record { quote = b; body = k.body; means = _; sort = q; parts = refl; is_body = k.is_body; dollars = dollars };
+          is = record { quote = b; body = k.body; means = _; sort = q; parts = refl; is_between_quotes = k.is_between_quotes; dollars = dollars };
           longest = λ j front rest e is. rw size (quoted_longest language j b n bs front rest q c e is);
         }
 
@@ -353,7 +353,7 @@ module _ (language : Language) (b : ℕ) (bs : List ℕ) (q : is_quote b ≡ tru
     here_at language UnclosedQuote (b ∷ bs) (λ at. unclosed q open_to_the_end),
   )
     where
-      open_to_the_end : (body means rest : List ℕ) → IsBody b body means → bs ≡ body ++ b ∷ rest → ⊥
+      open_to_the_end : (body means rest : List ℕ) → IsBetweenQuotes b body means → bs ≡ body ++ b ∷ rest → ⊥
       open_to_the_end body means rest is e =
           let both : None ≡ Some (suc (length body)) = sym c ∙ ap (closing b false) e ∙ body_closes b body means rest (quote_facts b q).0 is in cc
 
@@ -367,10 +367,10 @@ module _ (language : Language) (b : ℕ) (bs : List ℕ) (q : is_quote b ≡ tru
       by_body : IsClosed b false bs n → (at : ℕ) → IsFaultAt language at (b ∷ bs) (record { offset = at + k; kind = LeftOut })
       by_body w at =
           let inside : dollar_left_out language (b ∷ (w.body ++ b ∷ [])) ≡ Some k = sym (ap (dollar_left_out language) (up_to_quote b n bs w)) ∙ e in
-          let (m, after, f) = first_left_out b w.body (quote_facts b q).1 (quote_no_slash b q) language (unescaped false w.body) k w.is_body inside in
+          let (m, after, f) = first_left_out b w.body (quote_facts b q).1 (quote_no_slash b q) language (unescaped false w.body) k w.is_between_quotes inside in
           let parts : bs ≡ (f.front ++ 36 ∷ f.back) ++ b ∷ w.rest = w.parts ∙ ap (λ x. x ++ b ∷ w.rest) f.parts in
           let there : at + 1 + length f.front ≡ at + k = omega (arith, after, f.is_place) in
-          let is : IsBody b (f.front ++ 36 ∷ f.back) (unescaped false w.body) = subst (λ x. IsBody b x (unescaped false w.body)) f.parts w.is_body in
+          let is : IsBetweenQuotes b (f.front ++ 36 ∷ f.back) (unescaped false w.body) = subst (λ x. IsBetweenQuotes b x (unescaped false w.body)) f.parts w.is_between_quotes in
           subst (λ n. IsFaultAt language at (b ∷ bs) (record { offset = n; kind = LeftOut })) there
           (subst (λ x. IsFaultAt language at (b ∷ x) (record { offset = at + 1 + length f.front; kind = LeftOut })) (sym parts)
           (dollar_between f.front f.back (unescaped false w.body) w.rest q is f.dollars))

@@ -82,7 +82,7 @@ quoted_lead language text rest t =
     let (slash, dollar, word) = quote_facts t.quote t.sort in
     let whole : List ℕ = t.quote ∷ (t.body ++ t.quote ∷ []) in
     let close : closing t.quote false ((t.body ++ t.quote ∷ []) ++ rest) ≡ Some (suc (length t.body)) =
-    ap (closing t.quote false) (append_assoc t.body (t.quote ∷ []) rest) ∙ body_closes t.quote t.body t.means rest slash t.is_body in
+    ap (closing t.quote false) (append_assoc t.body (t.quote ∷ []) rest) ∙ body_closes t.quote t.body t.means rest slash t.is_between_quotes in
     let size : suc (length t.body) + 1 ≡ length whole = omega (arith, length-append t.body (t.quote ∷ [])) in
     let none : dollar_left_out language (take (suc (length t.body) + 1) (whole ++ rest)) ≡ None =
     ap (λ n. dollar_left_out language (take n (whole ++ rest))) size ∙ ap (dollar_left_out language) (take-append_seam whole rest)

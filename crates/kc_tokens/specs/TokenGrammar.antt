@@ -1,7 +1,7 @@
 -- The token language, apart from how a line is scanned ("Menu dependencies").
 use Rattle.std.specs.Prelude.{◌≡◌, ℕ, ◌+◌, ◌<◌, ◌≤◌, true, false, ◌==◌, List, [], ◌∷◌, ◌++◌, length, codes}
 use Rattle.std.specs.List.{list_all, list_any}
-use Rattle.kc_value.specs.QuotedTexts.{IsBody}
+use Rattle.kc_value.specs.QuotedTexts.{IsBetweenQuotes}
 use Rattle.kc_tokens.specs.declared.fault.ExprFault.{ExprFault}
 use Rattle.kc_tokens.specs.declared.fault.ExprKind.TheVariants.{BadToken, UnclosedQuote, LeftOut}
 use Rattle.kc_tokens.specs.declared.language.Language.{Language}
@@ -16,26 +16,26 @@ use Rattle.kc_tokens.specs.Token.{is_quote, Lexeme, is_white_byte, is_word_byte}
 abbrev pub relation_text : Relop → List ℕ
 relation_text op = elim op [ Equal ↦ codes "=" | NotEqual ↦ codes "!=" | Less ↦ codes "<" | Greater ↦ codes ">" | LessEqual ↦ codes "<=" | GreaterEqual ↦ codes ">=" ]
 
--- in a body between quotes each `$` is in a pair of a backslash and a character
+-- in bytes between quotes each `$` is in a pair of a backslash and a character
 pub data HasDollarsInPairs : List ℕ → Type 0 where
   empty : HasDollarsInPairs []
   other : {c : ℕ} {bs : List ℕ} → (c == 36) ≡ false → (c == 92) ≡ false → HasDollarsInPairs bs → HasDollarsInPairs (c ∷ bs)
   paired : {c : ℕ} {bs : List ℕ} → HasDollarsInPairs bs → HasDollarsInPairs (92 ∷ c ∷ bs)
 
--- a body between quotes has only `$` that its language allows: in the strict one none, in that of Linux those in pairs of a
+-- bytes between quotes have only `$` that their language allows: in the strict one none, in that of Linux those in pairs of a
 -- backslash and a character
 abbrev pub HasDollarsOf : Language → List ℕ → Type 0
 HasDollarsOf Strict body = list_any (λ c. c == 36) body ≡ false
 HasDollarsOf (Linux version) body = HasDollarsInPairs body
 
--- a text is a quoted token: a body between two quotes of one sort, with no `$` that the language leaves out
+-- a text is a quoted token: bytes between two quotes of one sort, with no `$` that the language leaves out
 pub record IsQuotedToken (language : Language) (text : List ℕ) : Type 0 where
   pub quote : ℕ
   pub body : List ℕ
   pub means : List ℕ
   pub sort : is_quote quote ≡ true
   pub parts : text ≡ quote ∷ (body ++ quote ∷ [])
-  pub is_body : IsBody quote body means
+  pub is_between_quotes : IsBetweenQuotes quote body means
   pub dollars : HasDollarsOf language body
 
 -- a text is a token of a kind
@@ -69,8 +69,8 @@ NothingBegins language c bytes = (is_white_byte c ≡ false) × ((c == 35) ≡ f
 -- LeftOut of the first `$` between quotes that is left out, BadToken of any other byte
 pub data IsFaultAt (language : Language) (at : ℕ) : List ℕ → ExprFault → Type 0 where
   dollar : {bytes : List ℕ} → IsFaultAt language at (36 ∷ bytes) (record { offset = at; kind = LeftOut })
-  unclosed : {quote : ℕ} {bytes : List ℕ} → is_quote quote ≡ true → ((body means rest : List ℕ) → IsBody quote body means → bytes ≡ body ++ quote ∷ rest → ⊥) → IsFaultAt language at (quote ∷ bytes) (record { offset = at; kind = UnclosedQuote })
-  dollar_between : {quote : ℕ} (front back means rest : List ℕ) → is_quote quote ≡ true → IsBody quote (front ++ 36 ∷ back) means → HasDollarsOf language front → IsFaultAt language at (quote ∷ ((front ++ 36 ∷ back) ++ quote ∷ rest)) (record { offset = at + 1 + length front; kind = LeftOut })
+  unclosed : {quote : ℕ} {bytes : List ℕ} → is_quote quote ≡ true → ((body means rest : List ℕ) → IsBetweenQuotes quote body means → bytes ≡ body ++ quote ∷ rest → ⊥) → IsFaultAt language at (quote ∷ bytes) (record { offset = at; kind = UnclosedQuote })
+  dollar_between : {quote : ℕ} (front back means rest : List ℕ) → is_quote quote ≡ true → IsBetweenQuotes quote (front ++ 36 ∷ back) means → HasDollarsOf language front → IsFaultAt language at (quote ∷ ((front ++ 36 ∷ back) ++ quote ∷ rest)) (record { offset = at + 1 + length front; kind = LeftOut })
   other_byte : {c : ℕ} {bytes : List ℕ} → (c == 36) ≡ false → is_quote c ≡ false → IsFaultAt language at (c ∷ bytes) (record { offset = at; kind = BadToken })
 
 -- a fault is the first of a line from a place on: the line is white bytes and tokens, each the longest that fits, up to a byte at

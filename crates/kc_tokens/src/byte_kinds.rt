@@ -1,6 +1,6 @@
 //! The bytes of white space, words and names.
-ghost use Rattle.std.specs.Prelude.{◌≡◌, ◌<◌, ◌≤◌, ◌-◌, true, length, take_while, slice_index};
-ghost use Rattle.std.specs.List.{list_all};
+ghost use Rattle.std.specs.Prelude.{◌≡◌, ◌+◌, ◌<◌, ◌≤◌, ◌-◌, true, length, get_or, take_while, slice_index};
+ghost use Rattle.std.specs.List.{list_all, suffix_len};
 ghost use Rattle.kc_tokens.specs.Token.{is_white_byte, is_word_byte, is_name_byte};
 
 /// The bytes of words, each at its own place; a `!` at the place of any other byte.
@@ -55,4 +55,16 @@ pub fn word_len(bytes: &[u8]) -> usize
         }
     }
     bytes.len()
+}
+
+/// Where the white bytes at the end of a text begin.
+pub fn white_end(text: &[u8]) -> usize
+    ensures place { result + suffix_len is_white_byte text.now ≡ length text.now }
+    ensures white { result < length text.now → is_white_byte (get_or text.now result 0) ≡ true }
+{
+    let mut end = text.len();
+    while end > 0 && is_white(text[end - 1]) {
+        end -= 1;
+    }
+    end
 }

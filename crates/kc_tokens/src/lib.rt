@@ -8,7 +8,7 @@ mod plain_quotes;
 mod quoted_texts;
 mod token;
 
-pub use byte_kinds::{are_name_bytes, is_white, is_word, word_len};
+pub use byte_kinds::{are_name_bytes, is_white, is_word, white_end, word_len};
 pub use fault::{ExprFault, ExprKind};
 pub use language::{Language, LinuxVersion};
 pub use quoted_texts::quoted_text;

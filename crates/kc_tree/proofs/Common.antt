@@ -11,15 +11,15 @@ pub use Rattle.kc_expr.specs.Lookup.{index_of_name}
 pub use Rattle.kc_tree.specs.TreeModel.{TreeModel}
 pub use Rattle.kc_tree.specs.between.GatheredView.{choice_gathered, gathered_tree, symbol_gathered}
 pub use Rattle.kc_tree.specs.between.GroupedItems.{items_at, items_of}
-pub use Rattle.kc_tree.specs.between.PartsView.{choice_from_row, entry_from_row, from_rows, symbol_from_row, tree_from_rows}
-pub use Rattle.kc_tree.specs.between.StoredParts.{AreSoundParts}
+pub use Rattle.kc_tree.specs.between.StoredView.{choice_from_row, entry_from_row, from_rows, symbol_from_row, tree_from_rows}
+pub use Rattle.kc_tree.specs.between.StoredFits.{IsSoundTree}
 pub use Rattle.kc_tree.specs.between.Views.{DefaultFits, HasOperands, MemberDefaultFits, RangeFits, ReverseDependencyFits}
 pub use Rattle.kc_tree.specs.checker.NameTable.{IsTable}
 pub use Rattle.kc_tree.specs.checker.Places.{AreStarts}
 pub use Rattle.kc_tree.specs.checker.UnitNumbers.{AreNumbered, own_or_choice}
 pub use Rattle.kc_tree.specs.checker.Units.{HasUnits}
-pub use Rattle.kc_tree.specs.declared.parts.Parts.{Parts}
-pub use Rattle.kc_tree.specs.declared.parts.SymbolRow.{SymbolRow}
+pub use Rattle.kc_tree.specs.declared.tree.Tree.TheInside.{Inside}
+pub use Rattle.kc_tree.specs.declared.rows.SymbolRow.{SymbolRow}
 pub use Rattle.kc_tree.specs.declared.tree_lists.TreeLists.{TreeLists}
 pub use Rattle.kc_tree_model.specs.TreeLookup.{IsConsistent, index_of_unit, symbol_named, unit_of}
 pub use Rattle.kc_tree_model.specs.Trees.{Tree}

@@ -1,7 +1,7 @@
 -- The tree of the collected lists.
 use Rattle.kc_tree.proofs.Common.{◌≡◌, ℕ, suc, ◌+◌, ◌<◌, List, [], ◌∷◌, length, map, get_or, Option, Some, None, refl, ap, sym, subst, ◌∙◌, arith, cond, Bool, true, false, All, Contains, slice_get, slice_index, bytes_eq, position_or_len, ltb-true, slice_get_within, get_or_from_slice_get, length-map}
-use Rattle.kc_tree.proofs.Common.{get_or-map, index_of_name, Tree, IsConsistent, unit_of, index_of_unit, symbol_named, DefaultFits, RangeFits, HasOperands, ReverseDependencyFits, MemberDefaultFits, gathered_tree, symbol_gathered, choice_gathered, AreSoundParts, IsTable, tree_from_rows}
-use Rattle.kc_tree.proofs.Common.{symbol_from_row, choice_from_row, from_rows, HasUnits, SymbolRow, Parts, TreeLists}
+use Rattle.kc_tree.proofs.Common.{get_or-map, index_of_name, Tree, IsConsistent, unit_of, index_of_unit, symbol_named, DefaultFits, RangeFits, HasOperands, ReverseDependencyFits, MemberDefaultFits, gathered_tree, symbol_gathered, choice_gathered, IsSoundTree, IsTable, tree_from_rows}
+use Rattle.kc_tree.proofs.Common.{symbol_from_row, choice_from_row, from_rows, HasUnits, SymbolRow, Inside, TreeLists}
 use Rattle.std.specs.Prelude.{IfSome, slice_index_or}
 use Rattle.std.proofs.lemmas.List.{ext_get_or}
 use Rattle.std.proofs.lemmas.List.Elements.{All-weaker, All-contains}
@@ -14,12 +14,13 @@ use Rattle.kc_tree_model.specs.declared.ids.Unit.TheVariants.{Choice as of_choic
 use Rattle.kc_tree.specs.between.GatheredAttributes.{AreGrouped}
 use Rattle.kc_tree.specs.between.GatheredFits.{GatheredFit}
 use Rattle.kc_tree.specs.between.GroupedItems.{IsGrouped}
-use Rattle.kc_tree.specs.between.StoredParts.{PartsFit, HasPlaces}
-use Rattle.kc_tree.specs.declared.parts.ChoiceRow.{ChoiceRow}
+use Rattle.kc_tree.specs.between.StoredFits.{StoredFit, HasPlaces}
+use Rattle.kc_tree.specs.declared.rows.ChoiceRow.{ChoiceRow}
 use Rattle.kc_tree.specs.declared.symbol.MemberDefault.{MemberDefault}
-use Rattle.kc_tree.specs.declared.items_with_keys.ItemsWithKeys.{ItemsWithKeys}
-use Rattle.kc_tree.specs.declared.tree_lists.Attributes.{Attributes}
-use Rattle.kc_tree.specs.declared.tree_lists.GroupedAttributes.{GroupedAttributes}
+use Rattle.kc_tree.specs.declared.items_by_number.ItemsByNumber.{ItemsByNumber}
+use Rattle.kc_tree.specs.declared.attributes.GroupedAttributes.{GroupedAttributes}
+use Rattle.kc_tree.specs.declared.unit_numbers.UnitNumbers.{UnitNumbers}
+use Rattle.std.specs.Global.{Vec}
 use Rattle.kc_tree.proofs.UnitLists.{got, all_got, symbol_at, symbols_count, choices_count, symbols_there, choices_there}
 use Rattle.kc_tree_model.proofs.Lookups.{found_by_name}
 use Rattle.kc_tree.proofs.SymbolNames.{named_there}
@@ -104,90 +105,86 @@ module _ (g : TreeLists) (sound : IsConsistent (gathered_tree g)) (distinct : Ar
         (λ j h. (let l : j < length g.arena.names = omega (arith, t.len) in reported_same j (get_or table j None) l refl
         ∙ sym (get_or-map (symbol_named (gathered_tree g)) g.arena.names j [] None l)))
 
--- collected lists with the rows, entries, titles and units of a stored tree, and with these attributes, members and defaults
-abbrev pub gathered_in : Parts → Attributes → ItemsWithKeys ℕ → ItemsWithKeys MemberDefault → TreeLists
-gathered_in p A M D =
-    record {
-      arena = p.arena;
-      symbols = p.symbols;
-      attributes = A;
-      choices = p.choices;
-      members = M;
-      member_defaults = D;
-      entries = p.entries;
-      titles =
-          p.titles;
-      units = p.units;
-      language = p.language;
-    }
+-- the lists of the tree that collected lists, their groups, the numbers of units and the symbols of names make
+abbrev pub finished : TreeLists → GroupedAttributes → ItemsByNumber ℕ → ItemsByNumber MemberDefault → UnitNumbers → Vec (Option ℕ) → Inside
+finished g a m d n table = record {
+  arena = g.arena;
+  symbols = g.symbols;
+  attributes = a;
+  choices = g.choices;
+  members = m;
+  member_defaults = d;
+  entries = g.entries;
+  titles = g.titles;
+  units = g.units;
+  unit_numbers = n;
+  symbol_of_name = table;
+  language = g.language;
+}
 
-abbrev pub grouped_in : Parts → GroupedAttributes
-grouped_in p = record { prompts = p.prompts; defaults = p.defaults; ranges = p.ranges; selectors = p.selectors; impliers = p.impliers; direct = p.direct }
+module _ (g : TreeLists) (attributes : GroupedAttributes) (members : ItemsByNumber ℕ) (member_defaults : ItemsByNumber MemberDefault)
+    (numbers : UnitNumbers) (table : Vec (Option ℕ)) (a : AreGrouped (length g.symbols.items) g.attributes attributes)
+    (m : IsGrouped (length g.choices.items) g.members.keys.items g.members.items.items members.starts.items members.items.items)
+    (d : IsGrouped (length g.choices.items) g.member_defaults.keys.items g.member_defaults.items.items member_defaults.starts.items member_defaults.items.items) where
+  abbrev made : Inside
+  made = finished g attributes members member_defaults numbers table
 
-module _ (p : Parts) (A : Attributes) (M : ItemsWithKeys ℕ) (D : ItemsWithKeys MemberDefault) (a : AreGrouped (length p.symbols.items) A (grouped_in p))
-    (m : IsGrouped (length p.choices.items) M.keys.items M.items.items p.members.starts.items p.members.items.items)
-    (d : IsGrouped (length p.choices.items) D.keys.items D.items.items p.member_defaults.starts.items p.member_defaults.items.items) where
-  same_symbol : (s : ℕ) (r : SymbolRow) → s < 0 + length p.symbols.items → symbol_from_row p s r ≡ symbol_gathered (gathered_in p A M D) s r
+  same_symbol : (s : ℕ) (r : SymbolRow) → s < 0 + length g.symbols.items → symbol_from_row made s r ≡ symbol_gathered g s r
   same_symbol s r l =
-      let h : s < length p.symbols.items = omega arith in
+      let h : s < length g.symbols.items = omega arith in
       rw (a.prompts.of_key s h, a.defaults.of_key s h, a.ranges.of_key s h, a.selectors.of_key s h, a.impliers.of_key s h, a.direct.of_key s h) refl
 
-  same_choice : (c : ℕ) (r : ChoiceRow) → c < 0 + length p.choices.items → choice_from_row p c r ≡ choice_gathered (gathered_in p A M D) c r
+  same_choice : (c : ℕ) (r : ChoiceRow) → c < 0 + length g.choices.items → choice_from_row made c r ≡ choice_gathered g c r
   same_choice c r l =
-      let h : c < length p.choices.items = omega arith in
+      let h : c < length g.choices.items = omega arith in
       rw (m.of_key c h, d.of_key c h) refl
 
   -- the stored lists and the collected lists represent the same tree
-  pub whole_same : tree_from_rows p ≡ gathered_tree (gathered_in p A M D)
+  pub whole_same : tree_from_rows made ≡ gathered_tree g
   whole_same =
-      let made : List tree.Symbol → List tree.Choice → Tree = λ s c. record {
+      let of : List tree.Symbol → List tree.Choice → Tree = λ s c. record {
         symbols = s;
         choices = c;
-        entries = (tree_from_rows p).entries;
-        units =
-            (tree_from_rows p).units;
-        language = p.language;
+        entries = (gathered_tree g).entries;
+        units = g.units.items;
+        language = g.language;
       } in
-      ap (λ s. made s (tree_from_rows p).choices) (seen_same (symbol_from_row p) (symbol_gathered (gathered_in p A M D)) 0 p.symbols.items same_symbol)
-      ∙ ap (made (gathered_tree (gathered_in p A M D)).symbols) (seen_same (choice_from_row p) (choice_gathered (gathered_in p A M D)) 0 p.choices.items
-      same_choice)
+      ap (λ s. of s (tree_from_rows made).choices) (seen_same (symbol_from_row made) (symbol_gathered g) 0 g.symbols.items same_symbol)
+      ∙ ap (of (gathered_tree g).symbols) (seen_same (choice_from_row made) (choice_gathered g) 0 g.choices.items same_choice)
 
-  module _ (f : GatheredFit (gathered_in p A M D)) (sound : IsConsistent (gathered_tree (gathered_in p A M D))) where
-    parts_fit : PartsFit p
-    parts_fit = record {
+  module _ (f : GatheredFit g) (sound : IsConsistent (gathered_tree g)) where
+    stored_fit : StoredFit made
+    stored_fit = record {
       few_symbols = f.few_symbols;
       few_choices = f.few_choices;
       few_units = f.few_units;
       names = f.names;
-      prompts = all_together (λ i. i < length p.arena.nodes) A.prompts.items.items p.prompts.items.items a.prompts.same f.prompts;
-      defaults = all_together (DefaultFits (length p.arena.nodes)) A.defaults.items.items p.defaults.items.items a.defaults.same f.defaults;
-      ranges = all_together (RangeFits (length p.arena.nodes)) A.ranges.items.items p.ranges.items.items a.ranges.same f.ranges;
-      bounds = all_together (HasOperands p.arena) A.ranges.items.items p.ranges.items.items a.ranges.same f.bounds;
-      selectors = all_together (ReverseDependencyFits (length p.arena.nodes) (length p.symbols.items)) A.selectors.items.items p.selectors.items.items
-          a.selectors.same f.selectors;
-      impliers = all_together (ReverseDependencyFits (length p.arena.nodes) (length p.symbols.items)) A.impliers.items.items p.impliers.items.items
-          a.impliers.same f.impliers;
-      direct = all_together (λ i. i < length p.arena.nodes) A.direct.items.items p.direct.items.items a.direct.same f.direct;
+      prompts = all_together (λ i. i < length g.arena.nodes) g.attributes.prompts.items.items attributes.prompts.items.items a.prompts.same f.prompts;
+      defaults = all_together (DefaultFits (length g.arena.nodes)) g.attributes.defaults.items.items attributes.defaults.items.items a.defaults.same f.defaults;
+      ranges = all_together (RangeFits (length g.arena.nodes)) g.attributes.ranges.items.items attributes.ranges.items.items a.ranges.same f.ranges;
+      bounds = all_together (HasOperands g.arena) g.attributes.ranges.items.items attributes.ranges.items.items a.ranges.same f.bounds;
+      selectors = all_together (ReverseDependencyFits (length g.arena.nodes) (length g.symbols.items)) g.attributes.selectors.items.items
+          attributes.selectors.items.items a.selectors.same f.selectors;
+      impliers = all_together (ReverseDependencyFits (length g.arena.nodes) (length g.symbols.items)) g.attributes.impliers.items.items
+          attributes.impliers.items.items a.impliers.same f.impliers;
+      direct = all_together (λ i. i < length g.arena.nodes) g.attributes.direct.items.items attributes.direct.items.items a.direct.same f.direct;
       choice_prompts = f.choice_prompts;
-      members = all_together (λ s. s < length p.symbols.items) M.items.items p.members.items.items m.same f.members;
-      member_defaults = all_together (MemberDefaultFits (length p.arena.nodes) (length p.symbols.items)) D.items.items p.member_defaults.items.items d.same
-          f.member_defaults;
+      members = all_together (λ s. s < length g.symbols.items) g.members.items.items members.items.items m.same f.members;
+      member_defaults = all_together (MemberDefaultFits (length g.arena.nodes) (length g.symbols.items)) g.member_defaults.items.items
+          member_defaults.items.items d.same f.member_defaults;
       entries = f.entries;
-      symbol_units = symbols_there (gathered_in p A M D) sound;
-      choice_units = choices_there (gathered_in p A M D) sound;
+      symbol_units = symbols_there g sound;
+      choice_units = choices_there g sound;
     }
 
-    module _ (u : HasUnits (gathered_tree (gathered_in p A M D)) p.unit_of_symbol.items p.unit_of_choice.items) where
-      symbols_many : length (gathered_tree (gathered_in p A M D)).symbols ≡ length p.symbols.items
-      symbols_many = symbols_count (gathered_in p A M D) sound
+    module _ (u : HasUnits (gathered_tree g) numbers.symbols.items numbers.choices.items) where
+      symbols_many : length (gathered_tree g).symbols ≡ length g.symbols.items
+      symbols_many = symbols_count g sound
 
-      choices_many : length (gathered_tree (gathered_in p A M D)).choices ≡ length p.choices.items
-      choices_many = choices_count (gathered_in p A M D) sound
+      choices_many : length (gathered_tree g).choices ≡ length g.choices.items
+      choices_many = choices_count g sound
 
-      units_many : length (gathered_tree (gathered_in p A M D)).units ≡ length p.units.items
-      units_many = refl
-
-      have_places : HasPlaces p
+      have_places : HasPlaces made
       have_places = record {
         prompts = a.prompts.places;
         defaults = a.defaults.places;
@@ -201,21 +198,21 @@ module _ (p : Parts) (A : Attributes) (M : ItemsWithKeys ℕ) (D : ItemsWithKeys
         unit_of_choice = u.choices_len ∙ choices_many;
       }
 
-      -- the stored lists are sound if the arena's names are distinct and the table has the symbol of each name
-      pub kept : AreDistinct p.arena.names → IsTable (length p.arena.names) p.symbols.items (length p.symbols.items) p.symbol_of_name.items → AreSoundParts p
-      kept distinct t = record {
-        fits = parts_fit;
+      -- the tree is sound if the arena's names are distinct and the table has the symbol of each name
+      pub sound_tree : AreDistinct g.arena.names → IsTable (length g.arena.names) g.symbols.items (length g.symbols.items) table.items → IsSoundTree made
+      sound_tree distinct t = record {
+        fits = stored_fit;
         places = have_places;
-        units = subst (λ (W : Tree). (s : ℕ) → s < length p.symbols.items
-            → (slice_index p.unit_of_symbol.items s ≡ unit_of W s) × (slice_index p.unit_of_symbol.items s < length p.units.items)) (sym whole_same)
-            (λ s h. (let k = u.symbol_units s (omega (arith, symbols_many)) in (k.0, omega (arith, k.1, units_many))));
-        choice_units = subst (λ (W : Tree). (c : ℕ) → c < length p.choices.items
-            → (slice_index p.unit_of_choice.items c ≡ index_of_unit W (of_choice c)) × (slice_index p.unit_of_choice.items c < length p.units.items))
+        units = subst (λ (W : Tree). (s : ℕ) → s < length g.symbols.items
+            → (slice_index numbers.symbols.items s ≡ unit_of W s) × (slice_index numbers.symbols.items s < length g.units.items)) (sym whole_same)
+            (λ s h. u.symbol_units s (omega (arith, symbols_many)));
+        choice_units = subst (λ (W : Tree). (c : ℕ) → c < length g.choices.items
+            → (slice_index numbers.choices.items c ≡ index_of_unit W (of_choice c)) × (slice_index numbers.choices.items c < length g.units.items))
             (sym whole_same)
-            (λ c h. (let k = u.choice_units c (omega (arith, choices_many)) in (k.0, omega (arith, k.1, units_many))));
-        table = subst (λ (W : Tree). p.symbol_of_name.items ≡ map (symbol_named W) p.arena.names) (sym whole_same)
-            (table_is (gathered_in p A M D) sound distinct f p.symbol_of_name.items t);
-        absent = subst (λ (W : Tree). (x : List ℕ) → index_of_name x p.arena.names ≡ None → symbol_named W x ≡ None) (sym whole_same)
-            (absent (gathered_in p A M D) sound distinct f);
+            (λ c h. u.choice_units c (omega (arith, choices_many)));
+        table = subst (λ (W : Tree). table.items ≡ map (symbol_named W) g.arena.names) (sym whole_same)
+            (table_is g sound distinct f table.items t);
+        absent = subst (λ (W : Tree). (x : List ℕ) → index_of_name x g.arena.names ≡ None → symbol_named W x ≡ None) (sym whole_same)
+            (absent g sound distinct f);
         consistent = subst IsConsistent (sym whole_same) sound;
       }

@@ -1,7 +1,8 @@
 -- The symbols and choices that the rows of a tree represent, by their places.
-use Rattle.kc_tree.proofs.Common.{◌≡◌, ℕ, zero, suc, ◌+◌, ◌-◌, List, [], ◌∷◌, length, map, drop, Option, Some, None, refl, ap, sym, arith, All, slice_get, slice_index, length-map, take-map, items_at, from_rows, tree_from_rows, symbol_from_row, choice_from_row, entry_from_row, Parts}
+use Rattle.kc_tree.proofs.Common.{◌≡◌, ◌<◌, ℕ, zero, suc, ◌+◌, ◌-◌, List, [], ◌∷◌, length, map, drop, Option, Some, None, refl, ap, sym, arith, All, slice_get, slice_index, length-map, take-map, items_at, from_rows, tree_from_rows, symbol_from_row, choice_from_row, entry_from_row, Inside, TreeModel}
 use Rattle.std.proofs.lemmas.List.Elements.{All-take, All-drop}
 use Rattle.kc_tree_model.specs.Contents.{own_dependencies}
+use Rattle.kc_tree.specs.checker.TreeView.{tree_model}
 
 pub seen_get : {A B : Type 0} (f : ℕ → A → B) (n : ℕ) (xs : List A) (i j : ℕ) (x : A) → j ≡ n + i → slice_get xs i ≡ Some x
     → slice_get (from_rows f n xs) i ≡ Some (f j x)
@@ -22,17 +23,28 @@ all_at P starts items k h =
     All-take P (slice_index starts (k + 1) - slice_index starts k) (drop (slice_index starts k) items) (All-drop P (slice_index starts k) items h)
 
 -- the tree of stored lists has as many symbols as symbol rows
-pub symbols_length : (p : Parts) → length (tree_from_rows p).symbols ≡ length p.symbols.items
-symbols_length p = seen_length (symbol_from_row p) 0 p.symbols.items
+pub symbols_length : (t : Inside) → length (tree_from_rows t).symbols ≡ length t.symbols.items
+symbols_length t = seen_length (symbol_from_row t) 0 t.symbols.items
 
-pub choices_length : (p : Parts) → length (tree_from_rows p).choices ≡ length p.choices.items
-choices_length p = seen_length (choice_from_row p) 0 p.choices.items
+pub choices_length : (t : Inside) → length (tree_from_rows t).choices ≡ length t.choices.items
+choices_length t = seen_length (choice_from_row t) 0 t.choices.items
 
-pub entries_length : (p : Parts) → length (tree_from_rows p).entries ≡ length p.entries.items
-entries_length p = length-map p.entries.items (entry_from_row p.arena p.titles.items)
+pub entries_length : (t : Inside) → length (tree_from_rows t).entries ≡ length t.entries.items
+entries_length t = length-map t.entries.items (entry_from_row t.arena t.titles.items)
 
-pub units_length : (p : Parts) → length (tree_from_rows p).units ≡ length p.units.items
-units_length p = refl
+pub units_length : (t : Inside) → length (tree_from_rows t).units ≡ length t.units.items
+units_length t = refl
+
+-- a tree's value has the symbols, choices and entries of its rows, by their numbers
+module _ (t : Inside) (m : TreeModel) (e : tree_model t ≡ m) where
+  pub symbol_there : (s : ℕ) → s < length m.tree.symbols → s < length t.symbols.items
+  symbol_there s h = let v = ap (λ (x : TreeModel). length x.tree.symbols) e in omega (arith, v, h, symbols_length t)
+
+  pub choice_there : (c : ℕ) → c < length m.tree.choices → c < length t.choices.items
+  choice_there c h = let v = ap (λ (x : TreeModel). length x.tree.choices) e in omega (arith, v, h, choices_length t)
+
+  pub entry_there : (i : ℕ) → i < length m.tree.entries → i < length t.entries.items
+  entry_there i h = let v = ap (λ (x : TreeModel). length x.tree.entries) e in omega (arith, v, h, entries_length t)
 
 -- a symbol's own dependencies, each mapped by a function, are its own ones among all dependencies mapped by it
 pub mapped_own : {A B : Type 0} (f : A → B) (choice : Option ℕ) (all : List A) → map f (own_dependencies choice all) ≡ own_dependencies choice (map f all)

@@ -2,6 +2,6 @@ pub mod GatheredAttributes
 pub mod GatheredFits
 pub mod GatheredView
 pub mod GroupedItems
-pub mod PartsView
-pub mod StoredParts
+pub mod StoredFits
+pub mod StoredView
 pub mod Views

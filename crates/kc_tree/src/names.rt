@@ -1,9 +1,9 @@
 //! The table of the symbols of an arena's names.
 ghost use Rattle.std.specs.Prelude.{◌≡◌, ◌<◌, ◌^◌, ℕ, IfOk, Some, length, slice_get};
 ghost use Rattle.kc_tree.specs.checker.NameTable.{IsTable};
-ghost use Rattle.kc_tree.specs.declared.parts.SymbolRow.{SymbolRow as Row};
+ghost use Rattle.kc_tree.specs.declared.rows.SymbolRow.{SymbolRow as Row};
 
-use super::parts::SymbolRow;
+use super::rows::SymbolRow;
 use kc_tree_model::Sym;
 use std::alloc::{AllocError, Global};
 

@@ -1,24 +1,43 @@
 //! The tree that Kconfig files define.
-ghost use Rattle.std.specs.Prelude.{◌≡◌, ◌<◌, ◌↔◌, IsTrue, ℕ, List, length, Some, None, IfSome, slice_get, option_map};
+ghost use Rattle.std.specs.Prelude.{◌≡◌, ◌<◌, ◌↔◌, IsTrue, ℕ, List, [], length, Some, None, IfSome, slice_get, slice_index_or, option_map};
+ghost use Rattle.kc_tree_model.specs.Contents.{own_dependencies};
 ghost use Rattle.kc_expr.specs.Lookup.{index_of_name};
 ghost use Rattle.kc_tree_model.specs.TreeLookup.{IsConsistent, unit_of, index_of_unit, symbol_named};
 ghost use Rattle.kc_tree_model.specs.declared.ids.Unit.TheVariants.{Choice as of_choice};
 ghost use Rattle.kc_tree_model.specs.declared.ids.Unit.TheVariants.{Symbol as SymbolUnit, Choice as ChoiceUnit};
 ghost use Rattle.kc_tree.specs.between.Views.{symbol_view, choice_view, entry_view, symbol_of_name_id, SymbolFits, ChoiceFits, EntryFits};
 
+use super::attributes::GroupedAttributes;
 use super::entry::Entry;
-use super::parts::Parts;
-use super::symbol::{Choice, Symbol};
-use kc_expr::{Arena, NameId};
+use super::items_by_number::ItemsByNumber;
+use super::rows::{ChoiceRow, EntryRow, SymbolRow};
+use super::symbol::{Choice, MemberDefault, Symbol};
+use super::unit_numbers::UnitNumbers;
+use kc_expr::{Arena, ExprId, NameId};
 use kc_tokens::Language;
 use kc_tree_model::{Sym, Unit};
+use kc_value::Text;
 use std::marker::Model;
 
 /// The tree that Kconfig files define. Contracts see it as a `TreeModel`: the names and expressions of its arena, and its
 /// symbols, choices, entries and units.
+///
+/// `unit_numbers` has the unit of each symbol and of each choice, and `symbol_of_name` for each name of the arena the symbol of that
+/// name.
 #[derive(Drop)]
 pub struct Tree {
-    parts: Parts,
+    pub(crate) arena: Arena,
+    pub(crate) symbols: Vec<SymbolRow>,
+    pub(crate) attributes: GroupedAttributes,
+    pub(crate) choices: Vec<ChoiceRow>,
+    pub(crate) members: ItemsByNumber<Sym>,
+    pub(crate) member_defaults: ItemsByNumber<MemberDefault>,
+    pub(crate) entries: Vec<EntryRow>,
+    pub(crate) titles: Vec<Text>,
+    pub(crate) units: Vec<Unit>,
+    pub(crate) unit_numbers: UnitNumbers,
+    pub(crate) symbol_of_name: Vec<Option<Sym>>,
+    pub(crate) language: Language,
 }
 
 impl Model for Tree {
@@ -30,46 +49,54 @@ impl Model for Tree {
 
     ghost coded = { Prim.hlevel (codes, expr_code) };
 
-    ghost use Rattle.kc_tree.specs.checker.TreeView.{parts_model, IsSoundInside};
+    ghost use Rattle.kc_tree.specs.checker.TreeView.{tree_model};
+    ghost use Rattle.kc_tree.specs.between.StoredFits.{IsSoundTree};
 
-    ghost view = { parts_model };
+    ghost view = { tree_model };
 
-    ghost invariant = { IsSoundInside };
+    ghost invariant = { IsSoundTree };
+}
+
+/// The dependencies of a symbol: of a member the first, else all.
+fn own_dependencies(choice: Option<u32>, all: &[ExprId]) -> &[ExprId]
+    ensures { result.now ≡ own_dependencies choice all.now }
+{
+    match choice {
+        Some(_) if all.len() > 1 => &all[..1],
+        _ => all,
+    }
+}
+
+/// The title with this number.
+fn title_at(titles: &[Text], index: u32) -> &str
+    requires there { index < length titles.now }
+    ensures value { result.now ≡ slice_index_or titles.now index [] }
+{
+    titles[index as usize].as_str()
 }
 
 impl Tree {
-    ghost use Rattle.kc_tree.specs.between.PartsView.{tree_from_rows};
-    ghost use Rattle.kc_tree.specs.between.StoredParts.{AreSoundParts};
-
-    /// The tree that these lists store.
-    pub(crate) fn of(parts: Parts) -> Tree
-        requires sound { AreSoundParts parts }
-        ensures value { result ≡ record { exprs = parts.arena; tree = tree_from_rows parts } }
-    {
-        Tree { parts }
-    }
-
     /// The arena of all names and expressions of the tree. A name that isn't in the arena is no symbol's.
     pub fn arena(&self) -> &Arena
         ensures arena { result.now ≡ self.now.exprs }
         ensures absent { (x : List ℕ) → index_of_name x self.now.exprs.names ≡ None → symbol_named self.now.tree x ≡ None }
         ensures consistent { IsConsistent self.now.tree }
     {
-        &self.parts.arena
+        &self.arena
     }
 
     /// The language of the tree's files, by which some of its rules are chosen.
     pub fn language(&self) -> Language
         ensures { result ≡ self.now.tree.language }
     {
-        self.parts.language
+        self.language
     }
 
     /// The number of units: symbols outside choices, and choices.
     pub fn len(&self) -> u32
         ensures { result ≡ length self.now.tree.units }
     {
-        self.parts.units.len() as u32
+        self.units.len() as u32
     }
 
     /// Whether the tree has no units.
@@ -83,21 +110,21 @@ impl Tree {
     pub fn symbol_count(&self) -> u32
         ensures { result ≡ length self.now.tree.symbols }
     {
-        self.parts.symbols.len() as u32
+        self.symbols.len() as u32
     }
 
     /// The number of choices.
     pub fn choice_count(&self) -> u32
         ensures { result ≡ length self.now.tree.choices }
     {
-        self.parts.choices.len() as u32
+        self.choices.len() as u32
     }
 
     /// The number of entries: definitions, choices, comments, and the beginnings and ends of menus.
     pub fn entry_count(&self) -> usize
         ensures { result ≡ length self.now.tree.entries }
     {
-        self.parts.entries.len()
+        self.entries.len()
     }
 
     /// The unit with number `u`: a symbol outside choices, or a choice.
@@ -107,7 +134,7 @@ impl Tree {
         ensures symbol { (s : ℕ) → result ≡ SymbolUnit s → s < length self.now.tree.symbols }
         ensures choice { (c : ℕ) → result ≡ ChoiceUnit c → c < length self.now.tree.choices }
     {
-        self.parts.unit(u as usize)
+        self.units[u as usize]
     }
 
     /// The symbol with number `s`; symbols are numbered from 0 in order of first definition.
@@ -118,7 +145,22 @@ impl Tree {
         ensures unit { result.unit ≡ unit_of self.now.tree s }
         ensures within { result.unit < length self.now.tree.units }
     {
-        self.parts.symbol(s.number() as usize)
+        let index = s.number() as usize;
+        let row = self.symbols[index];
+        Symbol {
+            name: row.name,
+            kind: row.kind,
+            file: row.file,
+            line: row.line,
+            choice: row.choice,
+            unit: self.unit_of(s),
+            prompts: self.attributes.prompts.get(index),
+            defaults: self.attributes.defaults.get(index),
+            ranges: self.attributes.ranges.get(index),
+            selectors: self.attributes.selectors.get(index),
+            impliers: self.attributes.impliers.get(index),
+            direct: own_dependencies(row.choice, self.attributes.direct.get(index)),
+        }
     }
 
     /// The choice with number `c`; choices are numbered from 0 in order of their first lines.
@@ -129,7 +171,17 @@ impl Tree {
         ensures unit { result.unit ≡ index_of_unit self.now.tree (of_choice c) }
         ensures within { result.unit < length self.now.tree.units }
     {
-        self.parts.choice(c as usize)
+        let index = c as usize;
+        let row = self.choices[index];
+        Choice {
+            file: row.file,
+            line: row.line,
+            unit: self.unit_numbers.choices[index],
+            members: self.members.get(index),
+            prompt: row.prompt,
+            defaults: self.member_defaults.get(index),
+            optional: row.optional,
+        }
     }
 
     /// The entry with index `i`, from 0 in reading order.
@@ -138,7 +190,32 @@ impl Tree {
         ensures entry { slice_get self.now.tree.entries i ≡ Some (entry_view self.now.exprs result) }
         ensures fits { EntryFits (length self.now.exprs.nodes) (length self.now.tree.symbols) (length self.now.tree.choices) result }
     {
-        self.parts.entry(i)
+        match &self.entries[i] {
+            EntryRow::Definition(s) => Entry::Definition(*s),
+            EntryRow::ChoiceBegins(c) => Entry::ChoiceBegins(*c),
+            EntryRow::MenuBegins {
+                title,
+                dependency,
+                visible,
+            } => Entry::MenuBegins {
+                title: title_at(&self.titles, *title),
+                dependency: *dependency,
+                visible: *visible,
+            },
+            EntryRow::MenuEnds {
+                title,
+                dependency,
+                visible,
+            } => Entry::MenuEnds {
+                title: title_at(&self.titles, *title),
+                dependency: *dependency,
+                visible: *visible,
+            },
+            EntryRow::Comment { title, dependency } => Entry::Comment {
+                title: title_at(&self.titles, *title),
+                dependency: *dependency,
+            },
+        }
     }
 
     /// The symbol of a name of the arena, if an entry defines it.
@@ -147,9 +224,9 @@ impl Tree {
         ensures there { IfSome result (λ s. s < length self.now.tree.symbols) }
     {
         let index = name.index();
-        let count = self.parts.symbol_of_name.len();
+        let count = self.symbol_of_name.len();
         if index < count {
-            self.parts.symbol_of_name[index]
+            self.symbol_of_name[index]
         } else {
             None
         }
@@ -160,7 +237,7 @@ impl Tree {
         ensures symbol { result ≡ symbol_named self.now.tree name.now }
         ensures there { IfSome result (λ s. s < length self.now.tree.symbols) }
     {
-        let id = self.parts.arena.find(name)?;
+        let id = self.arena.find(name)?;
         self.symbol_at(id)
     }
 
@@ -169,7 +246,7 @@ impl Tree {
         requires there { s < length self.now.tree.symbols }
         ensures value { option_map (λ t. t.name) (slice_get self.now.tree.symbols s) ≡ Some result.now }
     {
-        self.parts.name(s.number() as usize)
+        self.arena.name(self.symbols[s.number() as usize].name)
     }
 
     /// The number of a symbol's unit; the unit of a choice member is its choice.
@@ -178,6 +255,6 @@ impl Tree {
         ensures unit { result ≡ unit_of self.now.tree s }
         ensures within { result < length self.now.tree.units }
     {
-        self.parts.unit_of(s.number() as usize)
+        self.unit_numbers.symbols[s.number() as usize]
     }
 }

@@ -1,63 +1,20 @@
 //! The lists from which a tree is built.
 ghost use Rattle.std.specs.Prelude.{◌≡◌, ◌<◌, ◌^◌, IfOk, length};
-ghost use Rattle.kc_expr.specs.Lookup.{AreDistinct};
 ghost use Rattle.kc_tree_model.specs.TreeLookup.{IsConsistent};
 
+use super::attributes::{Attributes, GroupedAttributes};
 use super::items_by_number::ItemsByNumber;
 use super::items_with_keys::ItemsWithKeys;
 use super::names::symbols_of_names;
-use super::parts::{ChoiceRow, EntryRow, Parts, SymbolRow};
-use super::symbol::{Default, MemberDefault, Range, ReverseDependency};
+use super::rows::{ChoiceRow, EntryRow, SymbolRow};
+use super::symbol::MemberDefault;
 use super::tree::Tree;
 use super::unit_numbers::{UnitNumbers, number_members, number_units};
-use kc_expr::{Arena, ExprId};
+use kc_expr::Arena;
 use kc_tokens::Language;
 use kc_tree_model::{Sym, Unit};
 use kc_value::Text;
 use std::alloc::{AllocError, Global};
-
-/// The collected attributes of symbols, in reading order, each under the number of its symbol; a `select` or `imply` is under the
-/// number of its target.
-#[derive(Drop)]
-pub struct Attributes {
-    pub prompts: ItemsWithKeys<ExprId>,
-    pub defaults: ItemsWithKeys<Default>,
-    pub ranges: ItemsWithKeys<Range>,
-    pub selectors: ItemsWithKeys<ReverseDependency>,
-    pub impliers: ItemsWithKeys<ReverseDependency>,
-    pub direct: ItemsWithKeys<ExprId>,
-}
-
-/// The attributes of all symbols, grouped by symbol; a `select` or `imply` belongs to its target.
-#[derive(Drop)]
-pub struct GroupedAttributes {
-    pub prompts: ItemsByNumber<ExprId>,
-    pub defaults: ItemsByNumber<Default>,
-    pub ranges: ItemsByNumber<Range>,
-    pub selectors: ItemsByNumber<ReverseDependency>,
-    pub impliers: ItemsByNumber<ReverseDependency>,
-    pub direct: ItemsByNumber<ExprId>,
-}
-
-impl Attributes {
-    ghost use Rattle.kc_tree.specs.between.GatheredAttributes.{HaveKeys, AreGrouped};
-
-    /// Groups the attributes by symbol. An `Err` means out of memory.
-    fn grouped(&self, alloc: Global, count: usize) -> Result<GroupedAttributes, AllocError>
-        requires keys { HaveKeys count self.now }
-        requires few { count < 2 ^ 32 }
-        ensures ok { IfOk result (AreGrouped count self.now) }
-    {
-        Ok(GroupedAttributes {
-            prompts: self.prompts.grouped(alloc, count)?,
-            defaults: self.defaults.grouped(alloc, count)?,
-            ranges: self.ranges.grouped(alloc, count)?,
-            selectors: self.selectors.grouped(alloc, count)?,
-            impliers: self.impliers.grouped(alloc, count)?,
-            direct: self.direct.grouped(alloc, count)?,
-        })
-    }
-}
 
 /// The lists collected from all groups of a listing, from which a tree is built, and the language of the files.
 #[derive(Drop)]
@@ -78,6 +35,7 @@ impl TreeLists {
     ghost use Rattle.kc_tree.specs.TreeModel.{TreeModel};
     ghost use Rattle.kc_tree.specs.between.GatheredView.{gathered_tree};
     ghost use Rattle.kc_tree.specs.between.GatheredFits.{GatheredFit};
+    ghost use Rattle.kc_tree.specs.checker.Tables.{AreTables};
     ghost use Rattle.kc_tree.specs.checker.Units.{HasUnits};
 
     /// The unit of each symbol and of each choice. An `Err` means out of memory.
@@ -91,37 +49,54 @@ impl TreeLists {
         Ok(numbers)
     }
 
-    /// Builds the tree from its collected lists. An `Err` means out of memory.
-    pub fn into_tree(self, alloc: Global) -> Result<Tree, AllocError>
+    /// The tree with the attributes of each symbol, the members and defaults of each choice, the unit of each, and the symbol of each
+    /// name.
+    fn with_tables(
+        self,
+        attributes: GroupedAttributes,
+        members: ItemsByNumber<Sym>,
+        member_defaults: ItemsByNumber<MemberDefault>,
+        unit_numbers: UnitNumbers,
+        symbol_of_name: Vec<Option<Sym>>,
+    ) -> Tree
         requires fits { GatheredFit self }
-        requires distinct { AreDistinct self.arena.names }
         requires consistent { IsConsistent (gathered_tree self) }
-        ensures ok { IfOk result (λ t. t ≡ record { exprs = self.arena; tree = gathered_tree self }) }
+        requires tables { AreTables self attributes members member_defaults unit_numbers symbol_of_name }
+        ensures value { result ≡ record { exprs = self.arena; tree = gathered_tree self } }
     {
-        let units = self.unit_numbers(alloc)?;
-        let symbol_of_name = symbols_of_names(alloc, self.arena.name_count(), &self.symbols)?;
-        let attributes = self.attributes.grouped(alloc, self.symbols.len())?;
-        let members = self.members.grouped(alloc, self.choices.len())?;
-        let member_defaults = self.member_defaults.grouped(alloc, self.choices.len())?;
-        Ok(Tree::of(Parts {
+        Tree {
             arena: self.arena,
             symbols: self.symbols,
-            prompts: attributes.prompts,
-            defaults: attributes.defaults,
-            ranges: attributes.ranges,
-            selectors: attributes.selectors,
-            impliers: attributes.impliers,
-            direct: attributes.direct,
+            attributes,
             choices: self.choices,
             members,
             member_defaults,
             entries: self.entries,
             titles: self.titles,
             units: self.units,
-            unit_of_symbol: units.symbols,
-            unit_of_choice: units.choices,
+            unit_numbers,
             symbol_of_name,
             language: self.language,
-        }))
+        }
+    }
+
+    /// Builds the tree from its collected lists. An `Err` means out of memory.
+    pub fn into_tree(self, alloc: Global) -> Result<Tree, AllocError>
+        requires fits { GatheredFit self }
+        requires consistent { IsConsistent (gathered_tree self) }
+        ensures ok { IfOk result (λ t. t ≡ record { exprs = self.arena; tree = gathered_tree self }) }
+    {
+        let symbol_of_name = symbols_of_names(alloc, self.arena.name_count(), &self.symbols)?;
+        let unit_numbers = self.unit_numbers(alloc)?;
+        let members = self.members.grouped(alloc, self.choices.len())?;
+        let member_defaults = self.member_defaults.grouped(alloc, self.choices.len())?;
+        let attributes = self.attributes.grouped(alloc, self.symbols.len())?;
+        Ok(self.with_tables(
+            attributes,
+            members,
+            member_defaults,
+            unit_numbers,
+            symbol_of_name,
+        ))
     }
 }

@@ -3,9 +3,9 @@ ghost use Rattle.std.specs.Prelude.{◌≡◌, ◌<◌, ◌^◌, ℕ, IfOk, Some
 ghost use Rattle.kc_tree_model.specs.declared.ids.Unit.{Unit as ToldUnit};
 ghost use Rattle.kc_tree_model.specs.declared.ids.Unit.TheVariants.{Symbol as SymbolUnit, Choice as ChoiceUnit};
 ghost use Rattle.kc_tree.specs.checker.UnitNumbers.{AreNumbered, own_or_choice};
-ghost use Rattle.kc_tree.specs.declared.parts.SymbolRow.{SymbolRow as Row};
+ghost use Rattle.kc_tree.specs.declared.rows.SymbolRow.{SymbolRow as Row};
 
-use super::parts::SymbolRow;
+use super::rows::SymbolRow;
 use kc_tree_model::Unit;
 use std::alloc::{AllocError, Global};
 

@@ -44,11 +44,14 @@ pub use Rattle.kc_tree_model.specs.MoreFiles.{reading_from}
 pub use Rattle.kc_tree_model.specs.NestedTrees.{IsNested, Items, block, entry, is_ended_by, listing, none}
 pub use Rattle.kc_tree_model.specs.Placement.{is_allowed, is_left_out, is_stray_end, open_entry}
 pub use Rattle.kc_tree_model.specs.ReadingFaults.{HasForm, HasTokens, HoldsNever, IsFirstOf, cut_line, help_line}
-pub use Rattle.kc_tree_model.specs.ReadingRelation.{Appends, ComesTo, FaultAt, HasFirstFile, HasLines, IsCutReading, IsRead, IsWholeReading, SourcesLines, SourcesPath, at_end, comes_to_fault, here, into_file, large_file, line, no_file, nothing, of_end, of_line, of_source, past_file, past_line}
+pub use Rattle.kc_tree_model.specs.ReadingRelation.{Appends, ComesTo, FaultAt, HasFirstFile, IsCutReading, IsRead, IsWholeReading, SourcesLines, SourcesPath, at_end, comes_to_fault, here, into_file, large_file, line, no_file, nothing, of_end, of_line, of_source, past_file, past_line}
 pub use Rattle.kc_tree_model.specs.ReadingRelation.{place, sourced, statement}
-pub use Rattle.kc_tree_model.specs.Statements.{Attribute, DefaultAttribute, Head, Statement, TargetAttribute, attribute, block_of_head, choice, comment, condition, config, default, default_of, depends, ends, environment_default, head, help, imply, mainmenu, menu, modules, name_of_head, optional}
-pub use Rattle.kc_tree_model.specs.Statements.{path_of_head, prompt, range, select, source, typed_default, typed_prompt, visible}
-pub use Rattle.kc_tree_model.specs.TreeFaults.{definition_faults, faults_of_group, faults_of_head, is_no_member_kind, may_follow_member, when}
+pub use Rattle.kc_tree_model.specs.Statements.{Attribute, DefaultAttribute, Head, Statement, TargetAttribute, block_of_head, default_of, environment_default, name_of_head, path_of_head}
+pub use Rattle.kc_tree_model.specs.declared.statement.Head.TheVariants.{Choice as choice, Comment as comment, Condition as condition, Config as config, Ends as ends, Mainmenu as mainmenu, Menu as menu, Source as source}
+pub use Rattle.kc_tree_model.specs.declared.statement.Attribute.TheVariants.{Default as default, Depends as depends, Help as help, Imply as imply, Modules as modules, Optional as optional}
+pub use Rattle.kc_tree_model.specs.declared.statement.Statement.TheVariants.{Attribute as attribute, Head as head}
+pub use Rattle.kc_tree_model.specs.declared.statement.Attribute.TheVariants.{Prompt as prompt, Range as range, Select as select, TypedDefault as typed_default, TypedPrompt as typed_prompt, Visible as visible}
+pub use Rattle.kc_tree_model.specs.TreeFaults.{definition_faults, faults_of_group, faults_of_head, is_no_member_kind, only_extends_member, when}
 pub use Rattle.kc_tree_model.specs.TreeFiles.{Files, file_at, index_of_file, strict_files, with_file}
 pub use Rattle.kc_tree_model.specs.TreeLookup.{IsConsistent, own_text}
 pub use Rattle.kc_tree_model.specs.TreeReading.{Outcome, at_file_end, continue_after_file, continue_after_line, continue_after_source, continue_after_statement, ended_by_fault, fault_if, path_to_read, paths_or_fault, read_file, read_lines, read_root, statement_by_keyword, statement_by_word}

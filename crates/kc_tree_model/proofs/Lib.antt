@@ -1,6 +1,7 @@
 pub mod Common
 pub mod HelpLines
 pub mod Lookups
+pub mod SourceFaults
 pub mod TextsLemmas
 pub mod WordLemmas
 mod Rows

@@ -6,7 +6,6 @@ pub mod FormLaws
 pub mod DeepForms
 pub mod FirstFaults
 pub mod LineFaults
-pub mod SourceFaults
 pub mod ReadingCompleteness
 pub mod ReadingSoundness
 pub mod TreesOfRelation

@@ -3,7 +3,7 @@ use Rattle.kc_tree_model.proofs.Common.{◌≡◌, ℕ, zero, suc, Bool, true, f
 use Rattle.kc_tree_model.proofs.Common.{Language, Strict, Linux, LinuxVersion, Unknown, strict_in_linux, Kind, MAX_TREE_BYTES, MAX_LINE_BYTES, MAX_OPEN_FILES, TreeKind, NotUtf8, LineTooLong, Misplaced, StrayEnd, LeftOut, TooDeep, TooMany, NoType, ChoiceMember, ModulesType, TreeFault, Keyword}
 use Rattle.kc_tree_model.proofs.Common.{lookup, Files, file_at, index_of_file, LogicalLine, keyword_of, is_quoted_kind, is_the_word, config, Statement, statement_of, ◌>>=◌, Group, GroupHead, Position, of_head, file_end, is_allowed, is_left_out, is_stray_end, FileSource, is_too_deep, is_too_many}
 use Rattle.kc_tree_model.proofs.Common.{Outcome, fault_if, statement_by_keyword, statement_by_word, statement_of_tokens, statement_or_fault, with_statement, with_group, path_to_read, continue_after_file, continue_after_source, continue_after_statement, continue_after_line, read_lines, read_file}
-use Rattle.kc_tree_model.proofs.Common.{read_root, GroupInContext, Contents, contents_of, choice_of_symbol, is_first_definition, type_given, when, is_no_member_kind, may_follow_member, definition_faults, faults_of_head, faults_of_group}
+use Rattle.kc_tree_model.proofs.Common.{read_root, GroupInContext, Contents, contents_of, choice_of_symbol, is_first_definition, type_given, when, is_no_member_kind, only_extends_member, definition_faults, faults_of_head, faults_of_group}
 use Rattle.std.specs.Str.{is_utf8}
 use Rattle.kc_tokens.specs.declared.language.LinuxVersion.TheVariants.{V6_1, V6_12}
 use Rattle.kc_tokens.specs.Languages.{is_linux_6_12}
@@ -206,7 +206,7 @@ module _ (version : LinuxVersion) where
         let x = not (is_first_definition c name p) && is_some (choice_of_symbol c name) in
         let d = is_first_definition c name p && bytes_eq name modules_name && is_other_kind Boolean (type_given c name) in
         let strict : (m || (x && true)) ≡ false = not_when _ ChoiceMember (nothing_left _ _ (nothing_left _ _ h).0).1 in
-        ap (λ b. when n NoType ++ when b ChoiceMember ++ when d ModulesType) (member_test m (is_some p.choice && is_no_member_kind (Linux version) given) x (not (may_follow_member (Linux version) c name p))
+        ap (λ b. when n NoType ++ when b ChoiceMember ++ when d ModulesType) (member_test m (is_some p.choice && is_no_member_kind (Linux version) given) x (not (only_extends_member (Linux version) c name p))
         (wider_kinds (is_some p.choice) given) strict ∙ sym strict) ∙ h
 
     lines_same : (name : List ℕ) → faults_of_head Strict c p (config name) ≡ [] → faults_of_head (Linux version) c p (config name) ≡ []

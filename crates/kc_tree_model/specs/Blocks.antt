@@ -1,7 +1,8 @@
 -- The statements read so far, newest first, and the blocks that are open after them.
 use Rattle.std.specs.Prelude.{ℕ, zero, suc, Bool, false, not, List, [], ◌∷◌, Option, Some, None, option_map}
 use Rattle.std.specs.List.{list_any}
-use Rattle.kc_tree_model.specs.Statements.{Head, choice, menu, condition, source, ends, Attribute, block_of_head, name_of_head, path_of_head, same_block}
+use Rattle.kc_tree_model.specs.Statements.{Head, Attribute, block_of_head, name_of_head, path_of_head, same_block}
+use Rattle.kc_tree_model.specs.declared.statement.Head.TheVariants.{Choice as choice, Menu as menu, Condition as condition, Source as source, Ends as ends}
 use Rattle.kc_tree_model.specs.declared.keyword.Block.{Block}
 use Rattle.kc_tree_model.specs.declared.keyword.Block.TheVariants as blocks
 

@@ -4,7 +4,8 @@ use Rattle.kc_value.specs.declared.tri.Tri.TheVariants.{N, Y}
 use Rattle.kc_tokens.specs.declared.language.Language.{Language}
 use Rattle.kc_tokens.specs.Languages.{is_linux_6_12}
 use Rattle.kc_expr.specs.Expr.{Expr, constant, alone, both, shown}
-use Rattle.kc_tree_model.specs.Statements.{Head, choice, menu, condition, Attribute, depends_of, visible_of, prompt_of}
+use Rattle.kc_tree_model.specs.Statements.{Head, Attribute, depends_of, visible_of, prompt_of}
+use Rattle.kc_tree_model.specs.declared.statement.Head.TheVariants.{Choice as choice, Menu as menu, Condition as condition}
 use Rattle.kc_tree_model.specs.Blocks.{Group, GroupHead, of_head, file_end, Line, open_blocks, opens_choice}
 
 -- the conjunction (`&&`) of an expression and all of a list, joined from the left

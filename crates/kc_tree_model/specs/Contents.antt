@@ -11,7 +11,8 @@ use Rattle.kc_tree_model.specs.Trees.{Default, Range, ReverseDependency, Symbol,
 use Rattle.kc_tree_model.specs.declared.ids.Unit.{Unit as TreeUnit}
 use Rattle.kc_tree_model.specs.declared.ids.Unit.TheVariants.{Symbol as of_symbol, Choice as of_choice}
 use Rattle.kc_tree_model.specs.Trees as tree
-use Rattle.kc_tree_model.specs.Statements.{Head, config, choice, menu, comment, ends, Attribute, DefaultAttribute, RangeAttribute, TargetAttribute, title_of_head, type_of, default_of, visible_of, range_of, select_of, imply_of, is_optional}
+use Rattle.kc_tree_model.specs.Statements.{Head, Attribute, DefaultAttribute, RangeAttribute, TargetAttribute, title_of_head, type_of, default_of, visible_of, range_of, select_of, imply_of, is_optional}
+use Rattle.kc_tree_model.specs.declared.statement.Head.TheVariants.{Config as config, Choice as choice, Menu as menu, Comment as comment, Ends as ends}
 use Rattle.kc_tree_model.specs.declared.keyword.Block.TheVariants as blocks
 use Rattle.kc_tree_model.specs.Blocks.{Group, Line, from_head, defined_name, opens_choice}
 use Rattle.kc_tree_model.specs.TreeFiles.{Files}

@@ -8,7 +8,10 @@ use Rattle.kc_tokens.specs.declared.fault.ExprKind.TheVariants.{TooDeep}
 use Rattle.kc_expr.specs.ExprFaults.{IsFirstExprFault}
 use Rattle.kc_tokens.specs.QuotedTexts.{quoted_text}
 use Rattle.kc_expr.specs.Grammar.{IsExpr, ors, extent, operand_of_lexeme}
-use Rattle.kc_tree_model.specs.Statements.{config, choice, menu, condition, comment, source, mainmenu, ends, DefaultAttribute, environment_default, typed, typed_prompt, typed_default, prompt, default, depends, select, imply, range, visible, help, modules, optional, Statement, head, attribute}
+use Rattle.kc_tree_model.specs.Statements.{DefaultAttribute, environment_default, Statement}
+use Rattle.kc_tree_model.specs.declared.statement.Head.TheVariants.{Config as config, Choice as choice, Menu as menu, Condition as condition, Comment as comment, Source as source, Mainmenu as mainmenu, Ends as ends}
+use Rattle.kc_tree_model.specs.declared.statement.Attribute.TheVariants.{Typed as typed, TypedPrompt as typed_prompt, TypedDefault as typed_default, Prompt as prompt, Default as default, Depends as depends, Select as select, Imply as imply, Range as range, Visible as visible, Help as help, Modules as modules, Optional as optional}
+use Rattle.kc_tree_model.specs.declared.statement.Statement.TheVariants.{Head as head, Attribute as attribute}
 use Rattle.kc_tree_model.specs.Keywords.{is_quoted_kind, is_the_word, is_name}
 use Rattle.kc_tree_model.specs.declared.keyword.Block.{Block}
 use Rattle.kc_tree_model.specs.declared.keyword.Keyword.{Keyword}

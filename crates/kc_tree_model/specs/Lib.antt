@@ -9,6 +9,7 @@ pub mod Forms
 pub mod FormGrammar
 pub mod Blocks
 pub mod Placement
+pub mod SourceFaults
 pub mod Limits
 pub mod TreeReading
 pub mod ReadingFaults
@@ -20,4 +21,5 @@ pub mod TreeFaults
 pub mod TreesOfFiles
 pub mod NestedTrees
 pub mod checker
+pub mod between
 pub mod TreeLookup

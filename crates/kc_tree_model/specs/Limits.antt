@@ -1,11 +1,15 @@
 -- Statements and files that pass a limit of a tree; the limits are the constants of `kc_value::limits`.
 use Rattle.std.specs.Prelude.{ℕ, ◌+◌, Bool, false, not, ◌&&◌, ◌||◌, nat_le, nat_lt, List, [], ◌∷◌, ◌++◌, length, filter, filter_map, sum_by, Option, Some, None, is_some, bytes_eq, if◌then◌else◌}
 use Rattle.std.specs.List.{list_any}
-use Rattle.kc_value.specs.declared.limits.TheConstants.{MAX_SYMBOLS, MAX_CHOICES, MAX_FILES, MAX_TREE_BYTES, MAX_NAME_BYTES, MAX_OPEN_FILES, MAX_OPEN_BLOCKS}
+use Rattle.kc_value.specs.declared.limits.TheConstants.{MAX_SYMBOLS, MAX_CHOICES, MAX_NAME_BYTES, MAX_OPEN_BLOCKS}
 use Rattle.kc_tokens.specs.declared.language.Language.{Language}
 use Rattle.kc_tree_model.specs.declared.fault.TreeKind.{TreeKind}
-use Rattle.kc_tree_model.specs.declared.fault.TreeKind.TheVariants.{MissingFile, SourceLoop, TooDeep, TooMany}
-use Rattle.kc_tree_model.specs.Statements.{Head, config, choice, block_of_head, Attribute, select, imply, Statement, head, attribute}
+use Rattle.kc_tree_model.specs.declared.source_faults.TheConstants.{TREE_KINDS}
+use Rattle.kc_tree_model.specs.SourceFaults.{fault_of_source}
+use Rattle.kc_tree_model.specs.Statements.{Head, block_of_head, Attribute, Statement}
+use Rattle.kc_tree_model.specs.declared.statement.Head.TheVariants.{Config as config, Choice as choice}
+use Rattle.kc_tree_model.specs.declared.statement.Attribute.TheVariants.{Select as select, Imply as imply}
+use Rattle.kc_tree_model.specs.declared.statement.Statement.TheVariants.{Head as head, Attribute as attribute}
 use Rattle.kc_tree_model.specs.Blocks.{Group, open_blocks, opened_block, defined_name, sourced_path, opens_choice}
 
 -- whether a text is in a list of texts
@@ -73,10 +77,4 @@ files_read r read = r.root ∷ filter_map sourced_path read
 
 -- the kind of the first fault of a `source` of this path after these groups, or None if it has no fault
 unfoldable pub source_fault : FileSource → List Group → List ℕ → Option TreeKind
-source_fault r read path =
-    if is_in_list path (open_files r read) then Some SourceLoop
-    else if not (is_some (r.bytes path)) then Some MissingFile
-    else if nat_le MAX_OPEN_FILES (length (open_files r read)) then Some TooDeep
-    else if nat_le MAX_FILES (length (files_read r read)) then Some TooMany
-    else if nat_lt MAX_TREE_BYTES (sum_by (size_in r) (files_read r read) + size_in r path) then Some TooMany
-    else None
+source_fault r read path = fault_of_source TREE_KINDS (is_in_list path (open_files r read)) (is_some (r.bytes path)) (length (open_files r read)) (length (files_read r read)) (sum_by (size_in r) (files_read r read) + size_in r path)

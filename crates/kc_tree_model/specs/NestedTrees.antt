@@ -1,6 +1,7 @@
 -- The nested tree of what was read, and the walk down it.
 use Rattle.std.specs.Prelude.{◌≡◌, ℕ, Bool, true, false, List, [], ◌∷◌, ◌++◌, reverse, Option, None}
-use Rattle.kc_tree_model.specs.Statements.{Head, source, ends, block_of_head}
+use Rattle.kc_tree_model.specs.Statements.{Head, block_of_head}
+use Rattle.kc_tree_model.specs.declared.statement.Head.TheVariants.{Source as source, Ends as ends}
 use Rattle.kc_tree_model.specs.declared.keyword.Block.{Block}
 use Rattle.kc_tree_model.specs.Blocks.{Group, GroupHead, of_head, file_end, side_of, inside, is_some_block}
 use Rattle.kc_tree_model.specs.TreeFiles.{Files}

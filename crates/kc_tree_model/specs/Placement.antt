@@ -8,7 +8,8 @@ use Rattle.kc_tokens.specs.declared.language.Language.{Language}
 use Rattle.kc_tokens.specs.declared.language.Language.TheVariants.{Strict, Linux}
 use Rattle.kc_tree_model.specs.declared.keyword.OpenEntry.{OpenEntry}
 use Rattle.kc_tree_model.specs.declared.keyword.OpenEntry.TheVariants as entries
-use Rattle.kc_tree_model.specs.Statements.{Head, config, choice, menu, comment}
+use Rattle.kc_tree_model.specs.Statements.{Head}
+use Rattle.kc_tree_model.specs.declared.statement.Head.TheVariants.{Config as config, Choice as choice, Menu as menu, Comment as comment}
 use Rattle.kc_tree_model.specs.Keywords.{is_word_kind, is_quoted_kind, is_the_word}
 use Rattle.kc_tree_model.specs.declared.keyword.Keyword.{Keyword}
 use Rattle.kc_tree_model.specs.declared.keyword.Keyword.TheVariants as words

@@ -1,15 +1,15 @@
--- The faults of a line and of a `source` after the groups read before: the condition of each kind, and the order of the kinds.
-use Rattle.std.specs.Prelude.{◌≡◌, ◌⊎◌, ℕ, ◌+◌, ◌<◌, ◌≤◌, true, false, List, [], ◌∷◌, ◌++◌, length, sum_by, Some, None}
+-- The faults of a line after the groups read before: the condition of each kind, and the order of the kinds.
+use Rattle.std.specs.Prelude.{◌≡◌, ◌⊎◌, ℕ, ◌<◌, true, false, List, [], ◌∷◌, ◌++◌, length, Some, None}
 use Rattle.std.specs.List.{AllByRecursion}
 use Rattle.std.specs.Str.{is_utf8}
-use Rattle.kc_value.specs.declared.limits.TheConstants.{MAX_LINE_BYTES, MAX_FILES, MAX_TREE_BYTES, MAX_OPEN_FILES}
+use Rattle.kc_value.specs.declared.limits.TheConstants.{MAX_LINE_BYTES}
 use Rattle.kc_tokens.specs.declared.fault.ExprKind.{ExprKind}
 use Rattle.kc_tokens.specs.declared.fault.ExprKind.TheVariants as expr_kinds
 use Rattle.kc_tokens.specs.declared.language.Language.{Language}
 use Rattle.kc_tokens.specs.Token.{Lexeme}
 use Rattle.kc_tokens.specs.TokenGrammar.{IsCut, IsFirstTokenFault}
 use Rattle.kc_tree_model.specs.declared.fault.TreeKind.{TreeKind}
-use Rattle.kc_tree_model.specs.declared.fault.TreeKind.TheVariants.{LineTooLong, NotUtf8, BadToken, UnclosedQuote, UnknownStatement, LeftOut, Misplaced, StrayEnd, Malformed, SourceLoop, MissingFile, TooDeep, TooMany}
+use Rattle.kc_tree_model.specs.declared.fault.TreeKind.TheVariants.{LineTooLong, NotUtf8, BadToken, UnclosedQuote, UnknownStatement, LeftOut, Misplaced, StrayEnd, Malformed, TooDeep, TooMany}
 use Rattle.kc_tree_model.specs.LogicalLines.{LogicalLine}
 use Rattle.kc_tree_model.specs.Keywords.{keyword_of}
 use Rattle.kc_tree_model.specs.declared.keyword.Keyword.{Keyword}
@@ -17,7 +17,7 @@ use Rattle.kc_tree_model.specs.Statements.{Statement}
 use Rattle.kc_tree_model.specs.FormGrammar.{IsForm, HasDeepExpr}
 use Rattle.kc_tree_model.specs.Blocks.{Group}
 use Rattle.kc_tree_model.specs.Placement.{is_allowed, is_left_out, is_stray_end}
-use Rattle.kc_tree_model.specs.Limits.{is_too_deep, is_too_many, FileSource, is_in_list, size_in, open_files, files_read}
+use Rattle.kc_tree_model.specs.Limits.{is_too_deep, is_too_many}
 
 -- a logical line has these tokens; a line of a help text has none
 pub data HasTokens (language : Language) (l : LogicalLine) (ts : List Lexeme) : Type 0 where
@@ -56,18 +56,6 @@ IsLineFault language read l kind = ⊥
 -- the kinds of faults of a line, in the order in which they count as its first
 abbrev pub line_order : List TreeKind
 line_order = LineTooLong ∷ NotUtf8 ∷ BadToken ∷ UnclosedQuote ∷ UnknownStatement ∷ LeftOut ∷ Misplaced ∷ StrayEnd ∷ TooDeep ∷ Malformed ∷ TooMany ∷ []
-
--- a `source` of this path after these groups has a fault of this kind
-abbrev pub IsSourceFault : FileSource → List Group → List ℕ → TreeKind → Type 0
-IsSourceFault r read path SourceLoop = is_in_list path (open_files r read) ≡ true
-IsSourceFault r read path MissingFile = r.bytes path ≡ None
-IsSourceFault r read path TooDeep = MAX_OPEN_FILES ≤ length (open_files r read)
-IsSourceFault r read path TooMany = (MAX_FILES ≤ length (files_read r read)) ⊎ (MAX_TREE_BYTES < sum_by (size_in r) (files_read r read) + size_in r path)
-IsSourceFault r read path kind = ⊥
-
--- the kinds of faults of a `source`, in the order in which they count as its first
-abbrev pub source_order : List TreeKind
-source_order = SourceLoop ∷ MissingFile ∷ TooDeep ∷ TooMany ∷ []
 
 -- a condition on kinds of faults holds for no kind
 abbrev pub HoldsNever : (TreeKind → Type 0) → Type 0

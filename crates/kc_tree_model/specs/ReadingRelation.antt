@@ -5,16 +5,14 @@ use Rattle.kc_tree_model.specs.declared.fault.TreeKind.{TreeKind}
 use Rattle.kc_tree_model.specs.declared.fault.TreeKind.TheVariants.{Unclosed, MissingFile, TooMany}
 use Rattle.kc_tree_model.specs.LogicalLines.{LogicalLine}
 use Rattle.kc_tree_model.specs.LineGrammar.{IsInLines}
-use Rattle.kc_tree_model.specs.Statements.{source, Statement, head}
+use Rattle.kc_tree_model.specs.Statements.{Statement}
+use Rattle.kc_tree_model.specs.declared.statement.Head.TheVariants.{Source as source}
+use Rattle.kc_tree_model.specs.declared.statement.Statement.TheVariants.{Head as head}
 use Rattle.kc_tree_model.specs.declared.keyword.Block.{Block}
 use Rattle.kc_tree_model.specs.Blocks.{Group, Position, of_head, file_end, innermost}
-use Rattle.kc_tree_model.specs.Limits.{FileSource}
+use Rattle.kc_tree_model.specs.Limits.{FileSource, bytes_in, source_fault}
 use Rattle.kc_tree_model.specs.TreeReading.{with_group, with_statement, path_to_read, Outcome, ended_by_fault}
-use Rattle.kc_tree_model.specs.ReadingFaults.{HasTokens, HasForm, IsLineFault, line_order, IsSourceFault, source_order, HoldsNever, IsFirstOf}
-
--- there is a file at this path and it has these logical lines
-abbrev pub HasLines : FileSource → List ℕ → List LogicalLine → Type 0
-HasLines r path lines = (bytes : List ℕ) × (r.bytes path ≡ Some bytes) × IsInLines bytes lines
+use Rattle.kc_tree_model.specs.ReadingFaults.{HasTokens, HasForm, IsLineFault, line_order, HoldsNever, IsFirstOf}
 
 -- the line `l` at the position `at` has no fault, sources no file, and turns the groups `read` into these: it has no tokens, or
 -- its statement or attribute is added
@@ -30,8 +28,8 @@ pub record SourcesPath (r : FileSource) (read : List Group) (l : LogicalLine) (p
 -- a line has no fault after these groups and is a `source` of this path, which has no fault either and whose file has these lines
 pub record SourcesLines (r : FileSource) (read : List Group) (l : LogicalLine) (path : List ℕ) (lines : List LogicalLine) : Type 0 where
   pub sources : SourcesPath r read l path
-  pub faultless : HoldsNever (IsSourceFault r read path)
-  pub has_lines : HasLines r path lines
+  pub faultless : source_fault r read path ≡ None
+  pub has_lines : IsInLines (bytes_in r path) lines
 
 -- the position of a logical line in the file with this number
 abbrev pub place : ℕ → LogicalLine → Position
@@ -66,7 +64,7 @@ pub data ComesTo (r : FileSource) (at : ℕ) (rest : List LogicalLine) (there : 
 pub data FaultAt (r : FileSource) (file : ℕ) (read : List Group) : List LogicalLine → Outcome → Type 0 where
   of_line : {l : LogicalLine} {ls : List LogicalLine} {kind : TreeKind} → IsFirstOf line_order (IsLineFault r.language read l) kind
       → FaultAt r file read (l ∷ ls) (ended_by_fault (place file l) kind read)
-  of_source : {l : LogicalLine} {ls : List LogicalLine} {path : List ℕ} {kind : TreeKind} → SourcesPath r read l path → IsFirstOf source_order (IsSourceFault r read path) kind
+  of_source : {l : LogicalLine} {ls : List LogicalLine} {path : List ℕ} {kind : TreeKind} → SourcesPath r read l path → source_fault r read path ≡ Some kind
       → FaultAt r file read (l ∷ ls) (ended_by_fault (place file l) kind (with_group (place file l) (of_head (source path)) read))
   of_end : {block : Group × Block} → innermost read ≡ Some block → FaultAt r file read [] (ended_by_fault (record { file = file; line = block.0.at.line }) Unclosed read)
 

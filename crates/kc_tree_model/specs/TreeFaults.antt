@@ -12,7 +12,9 @@ use Rattle.kc_tree_model.specs.declared.fault.TreeKind.{TreeKind}
 use Rattle.kc_tree_model.specs.declared.fault.TreeKind.TheVariants.{NoType, TypeConflict, SecondPrompt, DefaultShape, RangeType, SelectType, ChoiceMember, ChoiceDefault, ModulesType}
 use Rattle.kc_tree_model.specs.declared.fault.TreeFault.{TreeFault}
 use Rattle.kc_tree_model.specs.TreeFiles.{Files}
-use Rattle.kc_tree_model.specs.Statements.{Head, config, choice, Attribute, typed, depends, select, imply, help, DefaultAttribute, type_of, prompt_of, default_of, range_of, is_modules}
+use Rattle.kc_tree_model.specs.Statements.{Head, Attribute, DefaultAttribute, type_of, prompt_of, default_of, range_of, is_modules}
+use Rattle.kc_tree_model.specs.declared.statement.Head.TheVariants.{Config as config, Choice as choice}
+use Rattle.kc_tree_model.specs.declared.statement.Attribute.TheVariants.{Typed as typed, Depends as depends, Select as select, Imply as imply, Help as help}
 use Rattle.kc_tree_model.specs.Blocks.{Group, Line, of_head, file_end}
 use Rattle.kc_tree_model.specs.Conditions.{GroupInContext}
 use Rattle.kc_tree_model.specs.Contents.{Contents, contents_of, is_first_definition, choice_of_first_definition, type_given, choice_of_symbol, member_names, member_named}
@@ -66,9 +68,9 @@ is_again_in_choice c name p = is_same_choice (choice_of_first_definition c name)
 
 -- whether a definition may follow that of the same symbol in its choice: in the strict language none may; in the language of Linux
 -- one in the same choice may, and one outside choices that only adds
-abbrev pub may_follow_member : Language → Contents → List ℕ → GroupInContext → Bool
-may_follow_member Strict c name p = false
-may_follow_member (Linux version) c name p = is_addition p || is_again_in_choice c name p
+abbrev pub only_extends_member : Language → Contents → List ℕ → GroupInContext → Bool
+only_extends_member Strict c name p = false
+only_extends_member (Linux version) c name p = is_addition p || is_again_in_choice c name p
 
 -- whether a type is given that a member of a choice can't have: in the strict language any but bool; in the language of Linux a
 -- member may be a tristate, which counts as a bool
@@ -83,7 +85,7 @@ definition_faults language c p name =
     let first = is_first_definition c name p in
     let other = is_other_kind Boolean (type_given c name) in
     when (first && is_none (kind_of c name)) NoType
-    ++ when ((is_some p.choice && is_no_member_kind language (type_given c name)) || (not first && is_some (choice_of_symbol c name) && not (may_follow_member language c name p))) ChoiceMember
+    ++ when ((is_some p.choice && is_no_member_kind language (type_given c name)) || (not first && is_some (choice_of_symbol c name) && not (only_extends_member language c name p))) ChoiceMember
     ++ when (first && bytes_eq name modules_name && other) ModulesType
 
 -- whether a default is that of a string, int or hex symbol and isn't one operand

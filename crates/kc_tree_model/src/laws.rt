@@ -70,7 +70,7 @@ pub fn reading_ends_at_the_first_fault()
 pub fn trees_are_of_the_relation()
     ensures tree { (files : Files) (root : List ℕ) (tree : Tree) → ((first_tree_fault files root ≡ None) × (tree ≡ tree_of_files files root)) ↔ IsTreeOfFiles files root tree }
     ensures fault { (files : Files) (root : List ℕ) (fault : TreeFault) → (first_tree_fault files root ≡ Some fault) ↔ IsReportedFault files root fault }
-    ensures wanted { (files : Files) (root : List ℕ) (answer : Result (List (List ℕ)) TreeFault) → (files_wanted files root ≡ answer) ↔ AreWanted files root answer }
+    ensures wanted { (files : Files) (root : List ℕ) (outcome : Result (List (List ℕ)) TreeFault) → (files_wanted files root ≡ outcome) ↔ AreWanted files root outcome }
 {}
 
 /// The statements that are read without a fault are the listing of exactly one nested tree of menus, `if`s, choices, sourced

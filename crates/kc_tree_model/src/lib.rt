@@ -6,6 +6,8 @@ mod fault;
 mod ids;
 mod keyword;
 mod laws;
+mod source_faults;
+mod statement;
 mod texts;
 
 pub use fault::{TreeFault, TreeKind};
@@ -15,5 +17,10 @@ pub use laws::{
     each_file_is_read, help_begins_in_every_language, lines_are_of_the_grammar,
     linux_reads_strict_trees, more_files_change_nothing, nothing_is_missing_after_wanted,
     reading_is_a_nested_tree, trees_are_consistent,
+};
+pub use source_faults::{SourceKinds, TREE_KINDS, source_fault};
+pub use statement::{
+    Attribute, Conjuncts, DefaultAttribute, Head, RangeAttribute, ReverseKind, Statement,
+    TargetAttribute,
 };
 pub use texts::Texts;

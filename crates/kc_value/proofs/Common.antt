@@ -14,5 +14,5 @@ pub use Rattle.std.specs.Str.{chars}
 pub use Rattle.kc_value.specs.ByteSearch.{NonePasses}
 pub use Rattle.kc_value.specs.Number.{magnitude, number_of_text, number_spelling}
 pub use Rattle.kc_value.specs.NumberGrammar.{IsInt, Writes, decimal, negative, prefixed}
-pub use Rattle.kc_value.specs.QuotedTexts.{IsBody, IsQuoted, closing, escaped_byte, none, pair, plain, quoted, unescaped}
+pub use Rattle.kc_value.specs.QuotedTexts.{IsBetweenQuotes, IsQuoted, closing, escaped_byte, none, pair, plain, quoted, unescaped}
 pub use lib.Utf8.{encode, encodes, low_scalar, scalar, scalars}

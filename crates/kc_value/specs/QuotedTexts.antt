@@ -10,16 +10,16 @@ escaped_byte c = if c == 34 || (c == 92) then 92 ∷ c ∷ [] else c ∷ []
 abbrev pub quoted : List ℕ → List ℕ
 quoted text = 34 ∷ (flat_map escaped_byte text ++ 34 ∷ [])
 
--- bytes are the body between two quotes, and represent a text: a pair of a backslash and a character represents that character,
+-- bytes stand between two quotes, and represent a text: a pair of a backslash and a character represents that character,
 -- any other character than the quote represents itself
-pub data IsBody (quote : ℕ) : List ℕ → List ℕ → Type 0 where
-  none : IsBody quote [] []
-  plain : {c : ℕ} {bs cs : List ℕ} → (c == quote) ≡ false → (c == 92) ≡ false → IsBody quote bs cs → IsBody quote (c ∷ bs) (c ∷ cs)
-  pair : {c : ℕ} {bs cs : List ℕ} → IsBody quote bs cs → IsBody quote (92 ∷ c ∷ bs) (c ∷ cs)
+pub data IsBetweenQuotes (quote : ℕ) : List ℕ → List ℕ → Type 0 where
+  none : IsBetweenQuotes quote [] []
+  plain : {c : ℕ} {bs cs : List ℕ} → (c == quote) ≡ false → (c == 92) ≡ false → IsBetweenQuotes quote bs cs → IsBetweenQuotes quote (c ∷ bs) (c ∷ cs)
+  pair : {c : ℕ} {bs cs : List ℕ} → IsBetweenQuotes quote bs cs → IsBetweenQuotes quote (92 ∷ c ∷ bs) (c ∷ cs)
 
--- a text is a quoted text that represents another text: a body, which represents the latter, between two `"`
+-- a text is a quoted text that represents another text: bytes between two `"`, which represent the latter
 abbrev pub IsQuoted : List ℕ → List ℕ → Type 0
-IsQuoted text means = (body : List ℕ) × (text ≡ 34 ∷ (body ++ 34 ∷ [])) × IsBody 34 body means
+IsQuoted text means = (body : List ℕ) × (text ≡ 34 ∷ (body ++ 34 ∷ [])) × IsBetweenQuotes 34 body means
 
 -- the count of bytes after an opening quote up to and including the closing one; a byte after a backslash closes nothing, nor
 -- does the first byte if the flag is true
@@ -28,7 +28,7 @@ closing quote escaped [] = None
 closing quote true (c ∷ cs) = option_map suc (closing quote false cs)
 closing quote false (c ∷ cs) = if c == quote then Some 1 else option_map suc (closing quote (c == 92) cs)
 
--- the text that a body between quotes represents: a pair of a backslash and a character represents that character; the flag says
+-- the text that bytes between quotes represent: a pair of a backslash and a character represents that character; the flag says
 -- that a backslash is before the first character
 abbrev pub unescaped : Bool → List ℕ → List ℕ
 unescaped escaped [] = []

@@ -1,3 +1,3 @@
-pub mod Bodies
+pub mod TextsInQuotes
 pub mod ByteBlocks
 pub mod DigitStep

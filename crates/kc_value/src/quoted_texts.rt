@@ -1,7 +1,7 @@
 //! Texts in quotes.
 ghost use Rattle.std.specs.Prelude.{◌≡◌, ◌+◌, ◌-◌, ◌<◌, ◌≤◌, ℕ, List, take, false, length, slice_index, ◌++◌, OnOk, OnErr, IfOk, IfSome, IfNone, string_bytes};
 ghost use Rattle.kc_value.specs.QuotedTexts.{quoted, closing, unescaped, IsQuoted};
-ghost use Rattle.kc_value.specs.checker.Bodies.{HasBody};
+ghost use Rattle.kc_value.specs.checker.TextsInQuotes.{HasQuotes};
 
 use std::alloc::{AllocError, Global};
 
@@ -74,8 +74,8 @@ pub fn unescape(alloc: Global, text: &str) -> Result<String, AllocError>
 }
 
 /// The part of a quoted text between its two `"`; `None` if the text isn't quoted.
-fn body_of(text: &str) -> Option<&str>
-    ensures body { IfSome result (λ b. HasBody text.now b.now) }
+fn between_quotes(text: &str) -> Option<&str>
+    ensures body { IfSome result (λ b. HasQuotes text.now b.now) }
     ensures none { IfNone result ((means : List ℕ) → IsQuoted text.now means → ⊥) }
 {
     let bytes = text.as_bytes();
@@ -95,7 +95,7 @@ pub fn read_quoted(alloc: Global, text: &str) -> Result<Option<String>, AllocErr
     ensures read { IfOk result (λ o. IfSome o (λ t. IsQuoted text.now (string_bytes t))) }
     ensures none { IfOk result (λ o. IfNone o ((means : List ℕ) → IsQuoted text.now means → ⊥)) }
 {
-    match body_of(text) {
+    match between_quotes(text) {
         None => Ok(None),
         Some(body) => Ok(Some(unescape(alloc, body)?)),
     }

@@ -27,13 +27,13 @@ pub struct ReadBytes {
     pub end: ReadEnd,
 }
 
-/// Reads the bytes that a reader has left, up to `limit` in all, into memory of `room` bytes at first, by way of `block`. Ends at
+/// Reads the bytes that a reader has left, up to `limit` in all, into memory of `capacity` bytes at first, by way of `block`. Ends at
 /// the first read that fails. An `Err` means out of memory, and leaves the reader at an unstated place.
 pub fn read_up_to<S: Source>(
     alloc: Global,
     source: &mut S,
     limit: usize,
-    room: usize,
+    capacity: usize,
     block: &mut [u8; MAX_BLOCK_BYTES],
 ) -> Result<ReadBytes, AllocError>
     ensures bytes { IfOk result (λ read. Consumes (S.left source.old) (S.left source.new) read.bytes.items) }
@@ -44,7 +44,7 @@ pub fn read_up_to<S: Source>(
     ensures failures { IfOk result (λ read. S.failures source.new ≡ failures_after_reading (S.failures source.old) read.end) }
     ensures unfailed { OnErr result (S.failures source.new ≡ S.failures source.old) }
 {
-    let mut bytes = Vec::with_capacity(alloc, room)?;
+    let mut bytes = Vec::with_capacity(alloc, capacity)?;
     while bytes.len() < limit {
         let most = (limit - bytes.len()).min(MAX_BLOCK_BYTES);
         let Ok(count) = source.read_some(&mut block[..most]) else {

@@ -7,7 +7,7 @@ use Rattle.kc_macros_model.specs.Programs.{Notice}
 use Rattle.kc_macros_model.specs.AnswerFiles.{RecordedAnswers}
 use Rattle.kc_macros_model.specs.ReadingStates.{ExpandedFile}
 use Rattle.kc_expansion.specs.Expansions.{IsExpansion}
-use Rattle.kmin_options.specs.Jobs.{Expansion, Settings}
+use Rattle.kmin_options.specs.Jobs.{GivenExpansion, Settings}
 use Rattle.kmin_inputs.specs.FileContents.{Surroundings, AreTextsBelow}
 use Rattle.kmin_expansions.specs.TreeFolders.{contents_below}
 use Rattle.kmin_inputs.specs.JobAnswers.{AreJobAnswers}
@@ -40,7 +40,7 @@ pub record TreeTexts : Type 0 where
   pub lines : List ErrorLine
 
 -- these texts, names and lines are those of the expansion of a job's tree, in this language
-pub record AreExpandedTexts (known : Surroundings) (root first : List ℕ) (language : Language) (expansion : Expansion) (t : TreeTexts) : Type 0 where
+pub record AreExpandedTexts (known : Surroundings) (root first : List ℕ) (language : Language) (expansion : GivenExpansion) (t : TreeTexts) : Type 0 where
   pub answers : RecordedAnswers
   pub answered : AreJobAnswers known.content known.variable expansion answers
   pub notices : List Notice
@@ -54,5 +54,5 @@ pub record AreExpandedTexts (known : Surroundings) (root first : List ℕ) (lang
 pub data AreTextsOfJob (known : Surroundings) (settings : Settings) (t : TreeTexts) : Type 0 where
   as_they_are : settings.expansion ≡ None → AreTextsBelow known.content settings.root settings.language t.texts → t.names ≡ t.texts → t.lines ≡ []
       → AreTextsOfJob known settings t
-  expanded : (expansion : Expansion) → settings.expansion ≡ Some expansion → AreExpandedTexts known settings.root settings.tree settings.language expansion t
+  expanded : (expansion : GivenExpansion) → settings.expansion ≡ Some expansion → AreExpandedTexts known settings.root settings.tree settings.language expansion t
       → AreTextsOfJob known settings t

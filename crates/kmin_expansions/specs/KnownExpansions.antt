@@ -6,7 +6,7 @@ use Rattle.kc_macros_model.specs.AnswerFiles.{RecordedAnswers}
 use Rattle.kc_macros_model.specs.ReadingStates.{ExpandedFile}
 use Rattle.kc_macros_model.specs.Worlds.{Outcome, returned, expansion}
 use Rattle.kc_expansion.specs.Expansions.{known_world}
-use Rattle.kmin_options.specs.Jobs.{Expansion}
+use Rattle.kmin_options.specs.Jobs.{GivenExpansion}
 use Rattle.kmin_inputs.specs.FileContents.{Surroundings, path_below}
 use Rattle.kmin_expansions.specs.TreeFolders.{contents_below}
 use Rattle.kmin_inputs.specs.JobAnswers.{AreJobAnswers}
@@ -20,7 +20,7 @@ abbrev pub known_expansion : Surroundings → (root first : List ℕ) → Record
 known_expansion known root first answers = expansion (known_world (contents_below known root) answers) first
 
 -- these texts, names and lines are those of the expansion of the known tree below a root, with answers of the job
-pub record AreKnownTexts (known : Surroundings) (root first : List ℕ) (language : Language) (job : Expansion) (t : TreeTexts) : Type 0 where
+pub record AreKnownTexts (known : Surroundings) (root first : List ℕ) (language : Language) (job : GivenExpansion) (t : TreeTexts) : Type 0 where
   pub answers : RecordedAnswers
   pub answered : AreJobAnswers known.content known.variable job answers
   pub files : List ExpandedFile
@@ -31,6 +31,6 @@ pub record AreKnownTexts (known : Surroundings) (root first : List ℕ) (languag
 
 -- where each regular file and each folder below the root is known, the texts of an expanded tree are those of the known tree
 abbrev pub KnownFilesDetermineTheExpandedTree : Type 0
-KnownFilesDetermineTheExpandedTree = (known : Surroundings) (root first : List ℕ) (language : Language) (job : Expansion) (t : TreeTexts)
+KnownFilesDetermineTheExpandedTree = (known : Surroundings) (root first : List ℕ) (language : Language) (job : GivenExpansion) (t : TreeTexts)
     → ((path : List ℕ) → known.regular (path_below root path) ≢ unknown) → ((folder : List ℕ) → known.names (path_below root folder) ≢ None)
     → AreExpandedTexts known root first language job t → AreKnownTexts known root first language job t

@@ -1,4 +1,4 @@
-//! What `explain` answers: the text that says of symbols why they have their values, and the symbols that its names mean.
+//! What `explain` writes: the text that says of symbols why they have their values, and the symbols that its names mean.
 #![tactic(auto)]
 
 mod asked_lines;

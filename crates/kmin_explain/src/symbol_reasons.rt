@@ -70,25 +70,10 @@ fn with_all(
 ) -> Result<SymbolReasons, AllocError>
     ensures { (exprs : Exprs) → IfOk result (λ r. reasons_view exprs r ≡ listed_reasons true (symbol_view exprs symbol.now) (reasons_view exprs reasons)) }
 {
-    let selected_by = all_numbers(alloc, symbol.selectors.len())?;
-    let implied_by = all_numbers(alloc, symbol.impliers.len())?;
-    let SymbolReasons {
-        case,
-        chosen,
-        hindrance,
-        needs,
-        unmet,
-        ..
-    } = reasons;
-    Ok(SymbolReasons {
-        case,
-        chosen,
-        hindrance,
-        needs,
-        unmet,
-        selected_by,
-        implied_by,
-    })
+    let mut listed = reasons;
+    listed.selected_by = all_numbers(alloc, symbol.selectors.len())?;
+    listed.implied_by = all_numbers(alloc, symbol.impliers.len())?;
+    Ok(listed)
 }
 
 /// The lines of symbol `s`.

@@ -5,7 +5,7 @@ use Rattle.std.proofs.lemmas.List.{nil_from_length}
 use Rattle.kc_value.specs.FileContents.{AreKnownBytes}
 use Rattle.kc_rules_model.specs.declared.values.UserValue.{UserValue}
 use Rattle.kc_dotconfig_model.specs.PrefixGrammar.{is_name_prefix}
-use Rattle.kc_dotconfig_model.specs.ConfigFiles.{FileMeans, has_utf8_lines, overlay}
+use Rattle.kc_dotconfig_model.specs.ConfigFiles.{FileMeans, has_utf8_lines, merged_users}
 use Rattle.kc_dotconfig_model.specs.declared.choice_line.ChoiceLine.{ChoiceLine}
 use Rattle.kc_dotconfig_model.proofs.AcceptedLines.{accepted_utf8}
 use Rattle.kc_dotconfig.specs.Fragments.{users_of}
@@ -59,7 +59,7 @@ module _ (content_of : List ℕ → FileContent) (format : FileFormat) (strict :
       (lines_before lines : List FileLines) (taken taken_after : SpelledBytes) (failed failed_after : ℕ)
       → IsLinedFile (content_of path) format tree path (record { fragment = fragment; lines = own }) taken failed taken_after failed_after
       → AllowsNotices strict (map notice_pair fragment.notices.items)
-      → after ≡ overlay (users_of tree fragment.assigns.items) before → lists ≡ lists_before ++ fragment.chosen.items ∷ []
+      → after ≡ merged_users (users_of tree fragment.assigns.items) before → lists ≡ lists_before ++ fragment.chosen.items ∷ []
       → lines ≡ lines_before ++ own ∷ []
       → AreLined content_of format strict tree (path ∷ []) before after lists_before lists lines_before lines taken failed taken_after failed_after
   unfolding loaded_one read_one

@@ -2,7 +2,7 @@
 ghost use Rattle.std.specs.Prelude.{◌≡◌, ◌≤◌, ◌∷◌, ◌++◌, [], List, ℕ, map, IfOk, IfErr, OnOk};
 ghost use Rattle.std.specs.Borrow.{Bor};
 ghost use Rattle.kc_rules.specs.between.SettledViews.{tree_of_settled};
-ghost use Rattle.kc_dotconfig_model.specs.ConfigFiles.{empty_assignment, overlay};
+ghost use Rattle.kc_dotconfig_model.specs.ConfigFiles.{empty_assignment, merged_users};
 ghost use Rattle.kc_dotconfig_model.specs.between.Formats.{file_format};
 ghost use Rattle.kc_config.specs.ConfigStates.{IsSolved, tree_in};
 ghost use Rattle.kc_dotconfig.specs.Fragments.{FitsTree, users_of};
@@ -97,7 +97,7 @@ fn add_lined(found: &mut LinedFiles<'_>, file: LinedFile) -> Result<(), AllocErr
     requires { FitsTree (tree_in found.old.read.config) file.fragment.assigns.items }
     ensures settled { found.new.read.config.system ≡ found.old.read.config.system }
     ensures solved { OnOk result (IsSolved found.new.read.config) }
-    ensures users { OnOk result (found.new.read.config.users ≡ overlay (users_of (tree_in found.old.read.config) file.fragment.assigns.items) found.old.read.config.users) }
+    ensures users { OnOk result (found.new.read.config.users ≡ merged_users (users_of (tree_in found.old.read.config) file.fragment.assigns.items) found.old.read.config.users) }
     ensures chosen { OnOk result (lists_of found.new.read.chosen.items ≡ lists_of found.old.read.chosen.items ++ file.fragment.chosen.items ∷ []) }
     ensures lines { OnOk result (found.new.lines.items ≡ found.old.lines.items ++ file.lines ∷ []) }
 {

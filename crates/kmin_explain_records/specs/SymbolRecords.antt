@@ -2,7 +2,8 @@
 use Rattle.std.specs.Prelude.{ℕ, Bool, List, [], ◌∷◌, ◌++◌, map, flat_map, Option, Some, None, option_map, option_to_list, unwrap_or, slice_get, slice_index_or, codes, if◌then◌else◌}
 use Rattle.json.specs.Json.{Json, null, string}
 use Rattle.kc_value.specs.declared.value.Kind.{Kind}
-use Rattle.kc_expr.specs.Expr.{Environment, letter, value}
+use Rattle.kc_expr.specs.Expr.{Environment, value}
+use Rattle.kc_value.specs.Tri.{letter}
 use Rattle.kc_tree_model.specs.Trees.{Tree, Symbol, ReverseDependency}
 use Rattle.kc_tree_model.specs.Blocks.{Position}
 use Rattle.kc_tree_model.specs.Contents.{contents_of}

@@ -1,4 +1,4 @@
-//! What `explain`, `missed` and `check` answer as records: a line for each symbol, one JSON object, that says why it has its value.
+//! What `explain`, `missed` and `check` write as records: a line for each symbol, one JSON object, that says why it has its value.
 #![tactic(auto)]
 
 mod asked_members;

@@ -18,7 +18,7 @@ ghost use Rattle.kmin_records.specs.between.RecordTokens.{list_tokens};
 use json::Writer;
 use kc_dotconfig::Strings;
 use kc_evaluation::Valuation;
-use kc_explanation::{letter_of, path_of, push_expression};
+use kc_explanation::{path_of, push_expression};
 use kc_expr::ExprId;
 use kc_located_reasons::LocatedPart;
 use kc_symbol_lines::Position;
@@ -68,8 +68,8 @@ fn write_part(
 {
     let low = part.part;
     begin_part(alloc, writer, under, strings, low.expr)?;
-    write_text(writer, "value", letter_of(under.condition(low.expr)))?;
-    write_text(writer, "wanted", letter_of(low.wanted))?;
+    write_text(writer, "value", under.condition(low.expr).letter())?;
+    write_text(writer, "wanted", low.wanted.letter())?;
     write_position(writer, paths, part.at)?;
     writer.end_object()
 }

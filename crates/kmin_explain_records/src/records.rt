@@ -1,4 +1,4 @@
-//! What `explain` answers as lines of JSON.
+//! What `explain` writes as lines of JSON.
 ghost use Rattle.std.specs.Prelude.{◌≡◌, ◌<◌, ◌∷◌, ◌++◌, [], ℕ, List, All, Some, length, slice_get, option_map, codes, IfOk, OnOk};
 ghost use Rattle.json.specs.Json.{string as text_of_json};
 ghost use Rattle.json.specs.Tree.{json_tokens};

@@ -7,9 +7,8 @@ use Rattle.kmin_faults.proofs.Common.{defines, gives_type, has_type, is_typed, l
 use Rattle.std.specs.Option.{option_or}
 use Rattle.std.proofs.lemmas.Bool.{eqb-true}
 use Rattle.std.proofs.lemmas.List.Folds.{find-append}
-use Rattle.kc_statements.specs.declared.statement.Attribute.{Attribute}
-use Rattle.kc_statements.specs.declared.statement.Attribute.TheVariants as attributes
-use Rattle.kc_statements.specs.between.StatementViews.{attribute_in}
+use Rattle.kc_statements.specs.between.StatementViews.{ReadAttribute, attribute_in}
+use Rattle.kc_statements.proofs.AttributeViews.{type_same}
 use Rattle.kc_tree_model.specs.Statements.{name_of_head, type_of}
 use Rattle.kc_tree_model.specs.Blocks.{Line, Position, defined_name}
 use Rattle.kc_tree_model.specs.Limits.{names_defined}
@@ -26,20 +25,8 @@ use Rattle.kmin_faults.specs.between.StoredDefinitions.{first_of, first_type_in,
 use Rattle.kmin_faults.proofs.StoredTypes.{has_type_within}
 
 -- an attribute gives a type if the one that it represents does
-typed_is : (e : Exprs) (a : Attribute) → gives_type a ≡ is_some (type_of (attribute_in e a))
-typed_is e (attributes.Typed k) = refl
-typed_is e (attributes.TypedPrompt k c) = refl
-typed_is e (attributes.TypedDefault k d) = refl
-typed_is e (attributes.Prompt c) = refl
-typed_is e (attributes.Default d) = refl
-typed_is e (attributes.Depends id) = refl
-typed_is e (attributes.Select s) = refl
-typed_is e (attributes.Imply s) = refl
-typed_is e (attributes.Range r) = refl
-typed_is e (attributes.Visible id) = refl
-typed_is e attributes.Help = refl
-typed_is e attributes.Modules = refl
-typed_is e attributes.Optional = refl
+typed_is : (e : Exprs) (a : ReadAttribute) → gives_type a ≡ is_some (type_of (attribute_in e a))
+typed_is e a = ap is_some (type_same e a)
 
 typed_lines : (e : Exprs) (own : List CodeLine)
     → list_any (λ (l : CodeLine). gives_type l.attribute) own ≡ list_any (λ (l : Line). is_some (type_of l.attribute)) (map (line_in e) own)

@@ -8,7 +8,7 @@ ghost use Rattle.kmin_faults.specs.between.StoredDefinitions.{begins_before, def
 
 use crate::listings::listing_of;
 use kc_parser::{Group, GroupHead, Line, Listing};
-use kc_statements::Attribute;
+use kc_statements::ReadAttribute;
 use kc_tree::Texts;
 use std::alloc::{AllocError, Global};
 
@@ -226,11 +226,8 @@ fn has_typed_line(lines: &[Line]) -> bool
 }
 
 /// Whether an attribute gives a type.
-fn gives_type(attribute: &Attribute) -> bool
+fn gives_type(attribute: &ReadAttribute) -> bool
     ensures { result ≡ gives_type attribute.now }
 {
-    matches!(
-        *attribute,
-        Attribute::Typed(_) | Attribute::TypedPrompt(..) | Attribute::TypedDefault(..)
-    )
+    attribute.type_given().is_some()
 }

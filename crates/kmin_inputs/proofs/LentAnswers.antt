@@ -7,7 +7,7 @@ use Rattle.std.proofs.lemmas.Slice.Eq.{bytes_eq-Decides}
 use Rattle.std.proofs.lemmas.List.Folds.{list_any-append}
 use Rattle.kc_tree_model.specs.Limits.{is_in_list}
 use Rattle.kmin_options.specs.declared.job.Definition.{Definition as DeclaredDefinition}
-use Rattle.kmin_options.specs.Jobs.{Definition, Expansion}
+use Rattle.kmin_options.specs.Jobs.{Definition, GivenExpansion}
 use Rattle.kmin_inputs.specs.FileContents.{MatchVariable}
 use Rattle.kmin_inputs.specs.JobAnswers.{answer_of_variable, lent_answer, AreJobAnswers}
 use Rattle.kc_answers.specs.RunStates.{questions_of}
@@ -144,7 +144,7 @@ module _ (variable_of : List ℕ → VariableContent) (xs ys : List (List ℕ)) 
 
 -- the answers of a job's answer files, with those of its definitions and its environment, are the answers of the job
 pub answers_of_job : (content_of : List ℕ → FileContent) (variable_of : List ℕ → VariableContent)
-    (expansion : Expansion) (recorded defined answers : RecordedAnswers)
+    (expansion : GivenExpansion) (recorded defined answers : RecordedAnswers)
     → FilesRecord content_of expansion.answers [] recorded
     → ((question : List ℕ) → keyword_in_table defined question ≡ option_or (defined_answer expansion.definitions question) (keyword_in_table recorded question))
     → AreLent variable_of expansion.environment defined answers → AreJobAnswers content_of variable_of expansion answers
@@ -160,7 +160,7 @@ answers_of_job content_of variable_of expansion recorded defined answers f d l =
 
 -- and so are they with the questions of the answer files
 pub questions_of_job : (content_of : List ℕ → FileContent) (variable_of : List ℕ → VariableContent)
-    (expansion : Expansion) (recorded defined answers : RecordedAnswers) (answered : List (List ℕ))
+    (expansion : GivenExpansion) (recorded defined answers : RecordedAnswers) (answered : List (List ℕ))
     → FilesRecord content_of expansion.answers [] recorded
     → ((question : List ℕ) → keyword_in_table defined question ≡ option_or (defined_answer expansion.definitions question) (keyword_in_table recorded question))
     → AreLent variable_of expansion.environment defined answers → answered ≡ questions_of recorded

@@ -8,7 +8,7 @@ use Rattle.kc_value.specs.Lines.{has_newline}
 use Rattle.kc_value.specs.FileContents.{FileContent, AreKnownBytes}
 use Rattle.kc_macros_model.specs.Programs.{Answer}
 use Rattle.kc_macros_model.specs.AnswerFiles.{RecordedAnswers, complete, answers_read}
-use Rattle.kmin_options.specs.Jobs.{Definition, Expansion}
+use Rattle.kmin_options.specs.Jobs.{Definition, GivenExpansion}
 use Rattle.kmin_inputs.specs.FileContents.{VariableContent, MatchVariable}
 
 -- Answer files, whose bytes match what is known of them, are accepted, and their answers added to `earlier` give `recorded`.
@@ -34,14 +34,14 @@ lent_answer names values name = if is_in_list name names then Some (answer_of_va
 
 -- the answer to a question: that of the definitions, or without one that of the answer files, or without one that of the
 -- environment
-abbrev pub answer_to : Expansion → RecordedAnswers → (values : List ℕ → Option (List ℕ)) → (question : List ℕ) → Option Answer
+abbrev pub answer_to : GivenExpansion → RecordedAnswers → (values : List ℕ → Option (List ℕ)) → (question : List ℕ) → Option Answer
 answer_to expansion recorded values question =
     option_or (defined_answer expansion.definitions question)
     (option_or (keyword_in_table recorded question) (lent_answer expansion.environment values question))
 
 -- each question has the answer of a job's definitions, answer files and environment; files and variables agree with what is known
 -- of them
-pub record AreJobAnswers (content_of : List ℕ → FileContent) (variable_of : List ℕ → VariableContent) (expansion : Expansion) (answers : RecordedAnswers) : Type 0 where
+pub record AreJobAnswers (content_of : List ℕ → FileContent) (variable_of : List ℕ → VariableContent) (expansion : GivenExpansion) (answers : RecordedAnswers) : Type 0 where
   pub recorded : RecordedAnswers
   pub files : FilesRecord content_of expansion.answers [] recorded
   pub values : List ℕ → Option (List ℕ)

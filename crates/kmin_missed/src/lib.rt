@@ -1,4 +1,4 @@
-//! What `missed` and `check` answer where they ask for reasons: what keeps symbols from the values that files assign, line by line or
+//! What `missed` and `check` write where they ask for reasons: what keeps symbols from the values that files assign, line by line or
 //! by cause, and what selects symbols against their dependencies.
 #![tactic(auto)]
 

@@ -30,7 +30,7 @@ pub record Definition : Type 0 where
 
 -- where the questions of a tree's macros are answered: by answer files, by definitions, and for these names by the environment,
 -- each in order
-pub record Expansion : Type 0 where
+pub record GivenExpansion : Type 0 where
   pub answers : List (List ℕ)
   pub definitions : List Definition
   pub environment : List (List ℕ)
@@ -45,7 +45,7 @@ pub record Settings : Type 0 where
   pub format : FileFormat
   pub profile : Profile
   pub strict : Bool
-  pub expansion : Option Expansion
+  pub expansion : Option GivenExpansion
   pub messages : Option Form
   pub output_form : OutputForm
 
@@ -80,7 +80,7 @@ pub record ExplainJob : Type 0 where
 pub record Questions : Type 0 where
   pub root : List ℕ
   pub tree : List ℕ
-  pub expansion : Expansion
+  pub expansion : GivenExpansion
   pub unused : Bool
   pub messages : Option Form
 
@@ -93,8 +93,8 @@ pub data Task : Type 0 where
 abbrev pub definition_view : DeclaredDefinition → Definition
 definition_view d = record { name = d.name.now; value = d.value.now }
 
--- an `Expansion` of the code, as contracts see it
-abbrev pub expansion_view : DeclaredExpansion → Expansion
+-- the `ExpansionOptions` of the code, as contracts see it
+abbrev pub expansion_view : DeclaredExpansion → GivenExpansion
 expansion_view e = record {
   answers = map (λ (path : Bor (List ℕ)). path.now) e.answers.items;
   definitions = map definition_view e.definitions.items;

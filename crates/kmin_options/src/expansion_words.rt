@@ -1,11 +1,9 @@
 //! The options that turn the expansion of macros on.
-ghost use Rattle.std.specs.Prelude.{◌≡◌, ◌+◌, ◌<◌, nat_lt, true, codes, map, List, ℕ, IfOk, length, get_or, option_map};
-ghost use Rattle.std.specs.List.{list_all, filter_map, suffix_len};
+ghost use Rattle.std.specs.Prelude.{◌≡◌, ◌+◌, nat_lt, codes, map, List, ℕ, IfOk, option_map};
+ghost use Rattle.std.specs.List.{list_all, filter_map};
 ghost use Rattle.std.specs.Borrow.{Bor};
 ghost use Rattle.clap.specs.Words.{found_of};
-ghost use Rattle.kc_tokens.specs.Token.{is_white_byte};
 ghost use Rattle.kc_macros_model.specs.Variables.{is_environment_name};
-ghost use Rattle.kc_tree_model.specs.LogicalLines.{without_white_end};
 ghost use Rattle.kmin_options.specs.Jobs.{definition_view, expansion_view};
 ghost use Rattle.kmin_options.specs.between.OptionValues as parsed;
 ghost use Rattle.kmin_options.specs.between.Refusals.{Agrees};
@@ -14,47 +12,17 @@ use crate::job::{Definition, ExpansionOptions};
 use crate::refusal::Refusal;
 use crate::values::{has_values, is_given, value_of, values_of};
 use clap::ArgMatches;
-use kc_tokens::{are_name_bytes, is_white};
+use kc_dotconfig_model::trimmed;
+use kc_macros_model::is_environment_name;
 use kc_value::{MAX_VARIABLE_BYTES, has_newline};
 use std::alloc::{AllocError, Global};
-
-/// Where the white bytes at the end of a text begin.
-fn white_end(bytes: &[u8]) -> usize
-    ensures place { result + suffix_len is_white_byte bytes.now ≡ length bytes.now }
-    ensures white { result < length bytes.now → is_white_byte (get_or bytes.now result 0) ≡ true }
-{
-    let mut end = bytes.len();
-    while end > 0 && is_white(bytes[end - 1]) {
-        end -= 1;
-    }
-    end
-}
-
-/// A text without the white bytes at its end.
-fn without_white_end(text: &str) -> &str
-    ensures { result.now ≡ without_white_end text.now }
-{
-    let end = white_end(text.as_bytes());
-    &text[..end]
-}
-
-/// Whether an environment may have this name: a letter or `_`, then letters, digits and `_`.
-fn is_environment_name(name: &str) -> bool
-    ensures { result ≡ is_environment_name name.now }
-{
-    let bytes = name.as_bytes();
-    let Some(first) = bytes.first() else {
-        return false;
-    };
-    !first.is_ascii_digit() && are_name_bytes(bytes)
-}
 
 /// The definition of a name by a value, whose white bytes at the end are dropped. `None` for a name that no environment
 /// may have, and for a value with a newline or more than `MAX_VARIABLE_BYTES` bytes.
 fn named_value<'a>(name: &'a str, value: &'a str) -> Option<Definition<'a>>
     ensures { option_map definition_view result ≡ parsed.named_value name.now value.now }
 {
-    if !is_environment_name(name)
+    if !is_environment_name(name.as_bytes())
         || value.len() > MAX_VARIABLE_BYTES
         || has_newline(value.as_bytes())
     {
@@ -62,7 +30,7 @@ fn named_value<'a>(name: &'a str, value: &'a str) -> Option<Definition<'a>>
     }
     Some(Definition {
         name,
-        value: without_white_end(value),
+        value: trimmed(value),
     })
 }
 
@@ -112,7 +80,9 @@ fn definitions_of<'a>(alloc: Global, texts: &[&'a str]) -> Result<Vec<Definition
 fn are_environment_names(names: &[&str]) -> bool
     ensures { result ≡ list_all (λ (name : Bor (List ℕ)). is_environment_name name.now) names.now }
 {
-    names.iter().all(|name| is_environment_name(name))
+    names
+        .iter()
+        .all(|name| is_environment_name(name.as_bytes()))
 }
 
 /// Refuses names of which one is none that an environment may have, and else returns them.

@@ -5,7 +5,7 @@ use Rattle.kmin_outputs.proofs.Common.{AreLoaded, AreRead, lists_of, StopsLoad, 
 use Rattle.std.specs.Io.KnownBytes.{Consumes, IsAtEnd}
 use Rattle.std.proofs.lemmas.List.{nil_from_length}
 use Rattle.kc_dotconfig_model.specs.ConfigLines.{LineMeaning}
-use Rattle.kc_dotconfig_model.specs.ConfigFiles.{file_assignment, overlay, overlaid_by, notices_from}
+use Rattle.kc_dotconfig_model.specs.ConfigFiles.{file_assignment, merged_users, merged_files, notices_from}
 use Rattle.kc_dotconfig_model.specs.LoadFaults.{IsFirstFault, complete}
 use Rattle.kc_dotconfig.specs.Fragments.{users_of}
 use Rattle.kc_dotconfig.specs.ReadResults.{IsReadAs, IsFileRefused}
@@ -112,10 +112,10 @@ mean_append content_of format strict tree ys ns xs ms k none = k
 mean_append content_of format strict tree ys ns xs ms k (file path bytes more own rest matches accepted means allowed h) =
     file path bytes (more ++ ys) own (rest ++ ns) matches accepted means allowed (mean_append content_of format strict tree ys ns more rest k h)
 
-pub overlaid_append : (tree : Tree) (users : List (Option UserValue)) (ms ns : List (List LineMeaning))
-    → overlaid_by tree users (ms ++ ns) ≡ overlaid_by tree (overlaid_by tree users ms) ns
-overlaid_append tree users [] ns = refl
-overlaid_append tree users (m ∷ ms) ns = overlaid_append tree (overlay (file_assignment tree m) users) ms ns
+pub merged_files_append : (tree : Tree) (users : List (Option UserValue)) (ms ns : List (List LineMeaning))
+    → merged_files tree users (ms ++ ns) ≡ merged_files tree (merged_files tree users ms) ns
+merged_files_append tree users [] ns = refl
+merged_files_append tree users (m ∷ ms) ns = merged_files_append tree (merged_users (file_assignment tree m) users) ms ns
 
 pub notices_append : (content_of : List ℕ → FileContent) (format : FileFormat) (strict : Bool) (tree : Tree) (ys : List (List ℕ)) (ns : List (List LineMeaning))
     (xs : List (List ℕ)) (ms : List (List LineMeaning))
@@ -129,12 +129,12 @@ unfoldable pub loaded_one : (content_of : List ℕ → FileContent) (format : Fi
     (before after : List (Option UserValue)) (fragment : Fragment) (taken taken_after : SpelledBytes) (failed failed_after : ℕ)
     → IsLoaded (content_of path) format tree path fragment taken failed taken_after failed_after
     → AllowsNotices strict (map notice_pair fragment.notices.items)
-    → after ≡ overlay (users_of tree fragment.assigns.items) before
+    → after ≡ merged_users (users_of tree fragment.assigns.items) before
     → AreLoaded content_of format strict tree (path ∷ []) before after taken failed taken_after failed_after
 loaded_one content_of format strict tree path before after fragment taken taken_after failed failed_after l a e = record {
   meanings = l.meanings ∷ [];
   mean = file path l.bytes [] l.meanings [] l.matches l.accepted l.means (λ s. sym l.noted ∙ a s) none;
-  users_are = e ∙ ap (λ users. overlay users before) l.users;
+  users_are = e ∙ ap (λ users. merged_users users before) l.users;
   reported = subst (λ lines. TakesLines taken failed lines taken_after failed_after) (sym (append-nil (file_notices tree path l.meanings))) l.reported;
 }
 
@@ -146,7 +146,7 @@ unfoldable pub loaded_append : (content_of : List ℕ → FileContent) (format :
 loaded_append content_of format strict tree xs ys before between after taken middle taken_after failed failed_middle failed_after h k = record {
   meanings = h.meanings ++ k.meanings;
   mean = mean_append content_of format strict tree ys k.meanings xs h.meanings k.mean h.mean;
-  users_are = k.users_are ∙ ap (λ users. overlaid_by tree users k.meanings) h.users_are ∙ sym (overlaid_append tree before h.meanings k.meanings);
+  users_are = k.users_are ∙ ap (λ users. merged_files tree users k.meanings) h.users_are ∙ sym (merged_files_append tree before h.meanings k.meanings);
   reported =
       subst (λ lines. TakesLines taken failed lines taken_after failed_after)
       (sym (notices_append content_of format strict tree ys k.meanings xs h.meanings h.mean))
@@ -163,7 +163,7 @@ module _ (content_of : List ℕ → FileContent) (format : FileFormat) (strict :
       (taken taken_after : SpelledBytes) (failed failed_after : ℕ)
       → IsLoaded (content_of path) format tree path fragment taken failed taken_after failed_after
       → AllowsNotices strict (map notice_pair fragment.notices.items)
-      → after ≡ overlay (users_of tree fragment.assigns.items) before → lists ≡ lists_before ++ fragment.chosen.items ∷ []
+      → after ≡ merged_users (users_of tree fragment.assigns.items) before → lists ≡ lists_before ++ fragment.chosen.items ∷ []
       → AreRead content_of format strict tree (path ∷ []) before after lists_before lists taken failed taken_after failed_after
   unfolding loaded_one
   read_one path before after fragment lists_before lists taken taken_after failed failed_after l a e m = record {

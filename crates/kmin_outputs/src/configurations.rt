@@ -2,7 +2,7 @@
 ghost use Rattle.std.specs.Prelude.{◌≡◌, ◌≢◌, ◌≤◌, ◌∷◌, ◌++◌, [], List, ℕ, true, false, map, unwrap_or, slice_get, IfOk, IfErr, OnOk};
 ghost use Rattle.std.specs.Borrow.{Bor};
 ghost use Rattle.kc_rules.specs.between.SettledViews.{tree_of_settled};
-ghost use Rattle.kc_dotconfig_model.specs.ConfigFiles.{empty_assignment, overlay};
+ghost use Rattle.kc_dotconfig_model.specs.ConfigFiles.{empty_assignment, merged_users};
 ghost use Rattle.kc_dotconfig_model.specs.between.Formats.{file_format};
 ghost use Rattle.kc_dotconfig_model.specs.OtherChoices.{other_choices_of, placed_from};
 ghost use Rattle.kc_config.specs.ConfigStates.{IsSolved, tree_in};
@@ -234,7 +234,7 @@ pub fn add_fragment(read: &mut ReadFiles<'_>, fragment: Fragment) -> Result<(), 
     requires { FitsTree (tree_in read.old.config) fragment.assigns.items }
     ensures settled { read.new.config.system ≡ read.old.config.system }
     ensures solved { IsSolved read.new.config }
-    ensures users { OnOk result (read.new.config.users ≡ overlay (users_of (tree_in read.old.config) fragment.assigns.items) read.old.config.users) }
+    ensures users { OnOk result (read.new.config.users ≡ merged_users (users_of (tree_in read.old.config) fragment.assigns.items) read.old.config.users) }
     ensures chosen { OnOk result (lists_of read.new.chosen.items ≡ lists_of read.old.chosen.items ++ fragment.chosen.items ∷ []) }
 {
     read.config.merge(&fragment)?;

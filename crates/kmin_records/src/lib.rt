@@ -1,5 +1,5 @@
 //! Records: lines for programs, each one JSON object. Their begin, their members and their end, and those of what `compare` and
-//! `tidy` answer.
+//! `tidy` write.
 #![tactic(auto)]
 
 mod file_record;

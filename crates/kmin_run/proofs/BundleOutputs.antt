@@ -15,7 +15,7 @@ use Rattle.kc_rules_model.specs.declared.values.UnitValue.{UnitValue}
 use Rattle.kc_rules_model.specs.declared.values.UserValue.{UserValue}
 use Rattle.kc_dotconfig_model.specs.Formats.{FileFormat, plain_format}
 use Rattle.kc_dotconfig_model.specs.ConfigLines.{LineMeaning}
-use Rattle.kc_dotconfig_model.specs.ConfigFiles.{overlay}
+use Rattle.kc_dotconfig_model.specs.ConfigFiles.{merged_users}
 use Rattle.kc_dotconfig.specs.declared.fragment.Fragment.{Fragment}
 use Rattle.kc_config.specs.ConfigStates.{Configured, IsSolved}
 use Rattle.kc_dotconfig.specs.Fragments.{users_of}
@@ -58,7 +58,7 @@ pub memory_loaded : (text : List ℕ) (left : Option (List ℕ)) (format plain :
     (before users : List (Option UserValue)) (fragment : Fragment) (taken taken_after : SpelledBytes) (failed failed_after : ℕ)
     → format ≡ plain → left ≡ Some text → IsReadAs format tree left after fragment
     → TakesLines taken failed (fragment_notices tree path fragment) taken_after failed_after
-    → users ≡ overlay (users_of tree fragment.assigns.items) before
+    → users ≡ merged_users (users_of tree fragment.assigns.items) before
     → AreLoaded (bundle_content text) plain false tree (path ∷ []) before users taken failed taken_after failed_after
 memory_loaded text left format plain tree path after before users fragment taken taken_after failed failed_after p e h t u =
     let k : IsReadAs plain tree (Some text) after fragment = rw (p, e) at h in

@@ -5,7 +5,7 @@ use Rattle.kmin_trees.proofs.Common.{MissesOnlyMissing, StopsExpanding, status_o
 use Rattle.kc_macros_model.specs.Programs.{Notice}
 use Rattle.kc_macros_model.specs.ReadingStates.{ExpandedFile}
 use Rattle.kc_expansion.specs.Expansions.{IsExpansion}
-use Rattle.kmin_options.specs.Jobs.{Expansion}
+use Rattle.kmin_options.specs.Jobs.{GivenExpansion}
 use Rattle.kmin_expansions.specs.declared.expanded_trees.ExpandedTexts.{ExpandedTexts}
 use Rattle.kmin_inputs.specs.JobAnswers.{AreJobAnswers}
 use Rattle.kmin_expansions.specs.JobTexts.{AreExpandedTexts, as_they_are, expanded, expanded_texts}
@@ -36,7 +36,7 @@ texts_stop known counted counted_after settings t status more lines h (tree_stop
     stops.for_memory t h s (e ∙ ap (λ ls. t.lines ++ ls) l ∙ append-nil t.lines)
 
 -- a tree whose macros are expanded isn't one without expansion
-not_plain : {P : Type 0} (settings : Settings) (expansion : Expansion) → settings.expansion ≡ Some expansion → settings.expansion ≡ None → P
+not_plain : {P : Type 0} (settings : Settings) (expansion : GivenExpansion) → settings.expansion ≡ Some expansion → settings.expansion ≡ None → P
 not_plain settings expansion e none = absurd (let z : ⊥ = cc in z)
 
 module _ (known : Surroundings) (settings : Settings) (taken taken_after : SpelledBytes) (failed failed_after : ℕ) where
@@ -64,7 +64,7 @@ module _ (known : Surroundings) (settings : Settings) (taken taken_after : Spell
     )
 
   -- with the expansion of macros
-  module _ (expansion : Expansion) (e : settings.expansion ≡ Some expansion) where
+  module _ (expansion : GivenExpansion) (e : settings.expansion ≡ Some expansion) where
     pub expanded_accepted : {T : Type 0} (Is : TreeTexts → T → Type 0) (r : Result T RunError)
         → IfOk r (λ tree. (t : TreeTexts) × AreExpandedTexts known settings.root settings.tree settings.language expansion t × Is t tree
         × TakesLines taken failed t.lines taken_after failed_after)
@@ -89,7 +89,7 @@ module _ (known : Surroundings) (settings : Settings) (taken taken_after : Spell
     expanded_stopped counted counted_after (Err stop) h = (h.0, stops_of counted counted_after (status_of stop) h.0 h.1, h.2)
 
 -- expanded files, settled
-module _ {T : Type 0} (known : Surroundings) (root first : List ℕ) (language : Language) (expansion : Expansion) (texts names : Files)
+module _ {T : Type 0} (known : Surroundings) (root first : List ℕ) (language : Language) (expansion : GivenExpansion) (texts names : Files)
     (taken middle taken_after : SpelledBytes) (failed failed_middle failed_after : ℕ)
     (h : (t : TreeTexts) × AreExpandedTexts known root first language expansion t × (t.texts ≡ texts) × (t.names ≡ names)
     × TakesLines taken failed t.lines middle failed_middle) where
@@ -121,7 +121,7 @@ module _ {T : Type 0} (known : Surroundings) (root first : List ℕ) (language :
       )
 
 -- the expansion of a tree, after the answers are read
-module _ (known : Surroundings) (root first : List ℕ) (language : Language) (expansion : Expansion) (answers : RecordedAnswers)
+module _ (known : Surroundings) (root first : List ℕ) (language : Language) (expansion : GivenExpansion) (answers : RecordedAnswers)
     (answered : AreJobAnswers known.content known.variable expansion answers)
     (taken middle taken_after : SpelledBytes) (failed failed_middle failed_after : ℕ) (before : TakesLines taken failed [] middle failed_middle) where
   are_expanded : (files : List ExpandedFile) (texts : Files) → texts ≡ expanded_texts language files

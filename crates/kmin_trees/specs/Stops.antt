@@ -10,7 +10,7 @@ use Rattle.kc_rules_model.specs.Dependencies.{dependencies}
 use Rattle.kc_macros_model.specs.Programs.{Fault, Notice}
 use Rattle.kc_macros_model.specs.AnswerFiles.{RecordedAnswers}
 use Rattle.kc_expansion.specs.Expansions.{IsCountedExpansion}
-use Rattle.kmin_options.specs.Jobs.{Expansion, Settings}
+use Rattle.kmin_options.specs.Jobs.{GivenExpansion, Settings}
 use Rattle.kmin_inputs.specs.FileContents.{Surroundings}
 use Rattle.kmin_inputs.specs.JobAnswers.{AreJobAnswers}
 use Rattle.kmin_expansions.specs.JobTexts.{TreeTexts, AreTextsOfJob}
@@ -31,7 +31,7 @@ pub data RefusesTexts (texts names : Files) (first : List ℕ) (line : ErrorLine
 -- A command ends at the expansion of its tree's macros, with this status and these lines of standard error: among its answer
 -- files, at a fault of the expansion, after its notices, or since memory ran out. Unless the count of failed calls rose, the fault is
 -- one of the known files and folders as they are.
-pub data StopsInExpansion (known : Surroundings) (counted counted_after : ℕ) (root first : List ℕ) (expansion : Expansion) (status : ℕ) (lines : List ErrorLine) : Type 0 where
+pub data StopsInExpansion (known : Surroundings) (counted counted_after : ℕ) (root first : List ℕ) (expansion : GivenExpansion) (status : ℕ) (lines : List ErrorLine) : Type 0 where
   among_answers : StopsAmongAnswers known.content expansion.answers status lines
       → StopsInExpansion known counted counted_after root first expansion status lines
   at_fault : (answers : RecordedAnswers) (notices : List Notice) (fault : Fault) → AreJobAnswers known.content known.variable expansion answers
@@ -44,7 +44,7 @@ pub data StopsInExpansion (known : Surroundings) (counted counted_after : ℕ) (
 -- refused as a tree, or since memory ran out while they were read. A file of a tree that isn't expanded counts as missing only if it
 -- isn't known to be there, or the count of failed calls rose.
 pub data StopsAtTree (known : Surroundings) (counted counted_after : ℕ) (settings : Settings) (status : ℕ) (lines : List ErrorLine) : Type 0 where
-  in_expansion : (expansion : Expansion) → settings.expansion ≡ Some expansion
+  in_expansion : (expansion : GivenExpansion) → settings.expansion ≡ Some expansion
       → StopsInExpansion known counted counted_after settings.root settings.tree expansion status lines
       → StopsAtTree known counted counted_after settings status lines
   at_texts : (t : TreeTexts) (line : ErrorLine) → AreTextsOfJob known settings t → RefusesTexts t.texts t.names settings.tree line

@@ -3,8 +3,8 @@ use Rattle.std.specs.Prelude.{◌≡◌, ℕ, List, [], All, length, map, filter
 use Rattle.kc_tokens.specs.declared.language.Language.{Language}
 use Rattle.kc_expr.specs.between.Arena.{node_expr}
 use Rattle.kc_expr.specs.between.Names.{name_alone}
-use Rattle.kc_statements.specs.declared.statement.Attribute.{Attribute as CodeAttribute}
-use Rattle.kc_statements.specs.between.StatementViews.{default_given}
+use Rattle.kc_statements.specs.between.StatementViews.{ReadAttribute}
+use Rattle.kc_tree_model.specs.Statements.{default_of}
 use Rattle.kc_parser.specs.declared.listing.Line.{Line as CodeLine}
 use Rattle.kc_parser.specs.declared.listing.Listing.{Listing}
 use Rattle.kc_parser.specs.declared.listing.SymbolTable.{SymbolTable}
@@ -12,14 +12,13 @@ use Rattle.kc_parser.specs.declared.listing.GroupHead.{GroupHead as CodeHead}
 use Rattle.kc_parser.specs.between.SymbolTable.{number_in}
 use Rattle.kc_parser.specs.between.ListingView.{RepresentsListing}
 use Rattle.kc_tree_model.specs.Trees as tree
-use Rattle.kc_tree_model.specs.Statements.{default_of}
 use Rattle.kc_tree_model.specs.Blocks.{Group, opens_choice}
 use Rattle.kc_tree_model.specs.Conditions.{GroupInContext, attribute_values}
 use Rattle.kc_tree_model.specs.Contents.{Contents, member_default}
 use Rattle.kc_tree.specs.between.Views.{member_default_view, MemberDefaultFits}
 use Rattle.kc_tree.specs.between.GatheredAttributes.{AreKeys}
 use Rattle.kc_tree.specs.between.GroupedItems.{items_of}
-use Rattle.kc_checks.specs.between.Summaries.{is_choice_code}
+use Rattle.kc_parser.specs.between.EnclosingChoices.{is_choice_code}
 use Rattle.kc_conditions.specs.between.Walks.{RepresentsAllConditions}
 use Rattle.kc_builder.specs.checker.GatheredItems.{gathered_items}
 use Rattle.kc_tree.specs.declared.items_with_keys.ItemsWithKeys.{ItemsWithKeys}
@@ -32,8 +31,8 @@ pub record IsWalkOf (language : Language) (l : Listing) (groups : List GroupCond
   pub shown : RepresentsAllConditions language l.names.arena l.texts.items conditions (length conditions) (reverse groups) read
 
 -- the number of the value's expression in a default, with or without a type; `None` for any other attribute
-abbrev pub default_value_view : CodeAttribute → Option ℕ
-default_value_view a = option_map (λ d. d.value) (default_given a)
+abbrev pub default_value_view : ReadAttribute → Option ℕ
+default_value_view a = option_map (λ d. d.value) (default_of a)
 
 -- the number of the symbol whose bare name an expression is, by the expression's number; `None` if there is none
 abbrev pub symbol_bare : SymbolTable → ℕ → Option ℕ

@@ -8,14 +8,14 @@ use Rattle.kc_tree_model.specs.Conditions.{GroupInContext, context_of, prompts_o
 use Rattle.kc_tree_model.specs.Contents.{is_optional_group}
 use Rattle.kc_parser.specs.declared.listing.Group.{Group as CodeGroup}
 use Rattle.kc_parser.specs.declared.listing.Line.{Line as CodeLine}
-use Rattle.kc_statements.specs.between.StatementViews.{is_optional_code}
-use Rattle.kc_checks.specs.between.Summaries.{is_choice_code}
+use Rattle.kc_tree_model.specs.Statements.{is_optional}
+use Rattle.kc_parser.specs.between.EnclosingChoices.{is_choice_code}
 use Rattle.kc_conditions.specs.between.Firsts.{first_prompt}
-use Rattle.kc_tree.specs.declared.parts.ChoiceRow.{ChoiceRow}
+use Rattle.kc_tree.specs.declared.rows.ChoiceRow.{ChoiceRow}
 
 -- whether the attribute of a line is `optional`
 abbrev pub is_optional_line : CodeLine → Bool
-is_optional_line l = is_optional_code l.attribute
+is_optional_line l = is_optional l.attribute
 
 -- the stored row of the choice that a group opens, from the group's attribute lines and their conditions
 abbrev pub choice_row : CodeGroup → List CodeLine → List ℕ → ChoiceRow

@@ -12,9 +12,9 @@ use Rattle.kc_tree.specs.between.Views.{default_view, range_view, reverse_depend
 use Rattle.kc_tree.specs.between.GatheredAttributes.{HaveKeys}
 use Rattle.kc_builder.specs.checker.GatheredItems.{gathered_prompt, gathered_default, gathered_range, own_key, target_key, gathered_reverse_dependency, HasAppended}
 use Rattle.kc_tree.specs.between.GroupedItems.{items_of}
-use Rattle.kc_statements.specs.declared.statement.ReverseKind.TheVariants.{Select, Imply}
+use Rattle.kc_tree_model.specs.declared.statement.ReverseKind.TheVariants.{Select, Imply}
 use Rattle.kc_tree.specs.declared.items_with_keys.ItemsWithKeys.{ItemsWithKeys}
-use Rattle.kc_tree.specs.declared.tree_lists.Attributes.{Attributes}
+use Rattle.kc_tree.specs.declared.attributes.Attributes.{Attributes}
 
 -- `new` is `old` with the key and the item that one attribute line gives appended, if it gives them
 pub record HasItem {T : Type 0} (key : CodeLine → ℕ → Option ℕ) (item : CodeLine → ℕ → Option T) (old new : ItemsWithKeys T) (l : CodeLine) (c : ℕ) : Type 0 where

@@ -3,8 +3,8 @@ use Rattle.std.specs.Prelude.{ℕ, Option, Some, None, option_map}
 use Rattle.kc_tree_model.specs.declared.keyword.Block.TheVariants as blocks
 use Rattle.kc_parser.specs.declared.listing.GroupHead.{GroupHead}
 use Rattle.kc_parser.specs.declared.listing.GroupHead.TheVariants as codes
-use Rattle.kc_tree.specs.declared.parts.EntryRow.{EntryRow}
-use Rattle.kc_tree.specs.declared.parts.EntryRow.TheVariants.{Definition, ChoiceBegins, MenuBegins, MenuEnds, Comment}
+use Rattle.kc_tree.specs.declared.rows.EntryRow.{EntryRow}
+use Rattle.kc_tree.specs.declared.rows.EntryRow.TheVariants.{Definition, ChoiceBegins, MenuBegins, MenuEnds, Comment}
 use Rattle.kc_conditions.specs.declared.group_walk.GroupConditions.{GroupConditions}
 
 -- the row of a menu's end, from the conditions of the group that ends it; `None` if the group ends no menu

@@ -1,14 +1,15 @@
 -- The items that the attributes of a definition give symbols.
 use Rattle.std.specs.Prelude.{◌≡◌, ℕ, Bool, ◌||◌, is_some, List, [], ◌∷◌, ◌++◌, Option, Some, None, option_map, option_and_then, if◌then◌else◌}
 use Rattle.std.specs.List.{cons_option}
-use Rattle.kc_statements.specs.declared.statement.Attribute.{Attribute as CodeAttribute}
-use Rattle.kc_statements.specs.declared.statement.Attribute.TheVariants as attributes
-use Rattle.kc_statements.specs.between.StatementViews.{is_prompt, default_given, target_given}
+use Rattle.kc_statements.specs.between.StatementViews.{ReadAttribute}
+use Rattle.kc_tree_model.specs.declared.statement.Attribute.TheVariants as attributes
+use Rattle.kc_tree_model.specs.between.Attributes.{is_prompt, target_given}
+use Rattle.kc_tree_model.specs.Statements.{default_of}
 use Rattle.kc_parser.specs.declared.listing.Line.{Line as CodeLine}
 use Rattle.kc_parser.specs.declared.listing.SymbolTable.{SymbolTable}
 use Rattle.kc_parser.specs.between.SymbolTable.{number_in, text_of_name}
-use Rattle.kc_statements.specs.declared.statement.ReverseKind.{ReverseKind}
-use Rattle.kc_statements.specs.declared.statement.ReverseKind.TheVariants.{Select, Imply}
+use Rattle.kc_tree_model.specs.declared.statement.ReverseKind.{ReverseKind}
+use Rattle.kc_tree_model.specs.declared.statement.ReverseKind.TheVariants.{Select, Imply}
 use Rattle.kc_tree.specs.declared.items_with_keys.ItemsWithKeys.{ItemsWithKeys}
 use Rattle.kc_tree.specs.declared.symbol.Default.{Default}
 use Rattle.kc_tree.specs.declared.symbol.Range.{Range}
@@ -19,15 +20,15 @@ abbrev pub gathered_prompt : CodeLine → ℕ → Option ℕ
 gathered_prompt l c = if is_prompt l.attribute then Some c else None
 
 -- the default that an attribute is, with the given condition in place of its `if`; `None` if it is no default
-abbrev pub default_by : CodeAttribute → ℕ → Option Default
-default_by a c = option_map (λ d. record { value = d.value; condition = c; from_environment = d.from_environment }) (default_given a)
+abbrev pub default_by : ReadAttribute → ℕ → Option Default
+default_by a c = option_map (λ d. record { value = d.value; condition = c; from_environment = d.from_environment }) (default_of a)
 
 -- the default that an attribute line gives, with the given condition in place of its `if`; `None` if it gives no default
 abbrev pub gathered_default : CodeLine → ℕ → Option Default
 gathered_default l c = default_by l.attribute c
 
 -- the range that an attribute is, with the given condition in place of its `if`; `None` if it is no range
-abbrev pub range_by : CodeAttribute → ℕ → Option Range
+abbrev pub range_by : ReadAttribute → ℕ → Option Range
 range_by (attributes.Range r) c = Some (record { low = r.low; high = r.high; condition = c })
 range_by a c = None
 

@@ -12,8 +12,8 @@ use Rattle.kc_checks.specs.between.Summaries.{group_at, own_lines}
 use Rattle.kc_conditions.specs.between.GroupConditions.{conditions_at, own_conditions}
 use Rattle.kc_conditions.specs.declared.group_walk.GroupConditions.{GroupConditions}
 use Rattle.kc_conditions.specs.declared.listing_walk.WalkedListing.{WalkedListing}
-use Rattle.kc_tree.specs.between.PartsView.{entry_from_row}
-use Rattle.kc_tree.specs.between.StoredParts.{EntryRowFits}
+use Rattle.kc_tree.specs.between.StoredView.{entry_from_row}
+use Rattle.kc_tree.specs.between.StoredFits.{EntryRowFits}
 use Rattle.kc_tree.specs.declared.symbol.MemberDefault.{MemberDefault}
 use Rattle.kc_builder.specs.checker.ChoiceDefaults.{group_default_rows, AreDefaultsOf}
 use Rattle.kc_builder.specs.checker.ChoiceRows.{group_rows, opens, AreChoiceRows}

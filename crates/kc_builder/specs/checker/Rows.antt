@@ -5,7 +5,7 @@ use Rattle.kc_tree_model.specs.Blocks.{Group}
 use Rattle.kc_tree_model.specs.Contents.{Contents, kind_in_tree, type_given, first_definition, choice_of_symbol}
 use Rattle.kc_parser.specs.declared.listing.Group.{Group as CodeGroup}
 use Rattle.kc_parser.specs.between.SymbolTable.{text_of_name}
-use Rattle.kc_tree.specs.declared.parts.SymbolRow.{SymbolRow}
+use Rattle.kc_tree.specs.declared.rows.SymbolRow.{SymbolRow}
 use Rattle.kc_checks.specs.declared.summary.SymbolSummary.{SymbolSummary}
 
 -- the file's number and the line of a group; two zeros for `None`

@@ -1,5 +1,5 @@
 -- Summaries of symbols and choices, before conditions are joined.
-use Rattle.std.specs.Prelude.{◌≡◌, ℕ, Bool, true, false, ◌&&◌, ◌-◌, ◌+◌, ◌==◌, List, [], ◌∷◌, drop, length, map, filter, filter_map, flat_map, slice_get, slice_index_or, slice_range, Option, Some, None, is_none, option_and_then, option_map, option_to_list, nat_lt, if◌then◌else◌}
+use Rattle.std.specs.Prelude.{◌≡◌, ℕ, Bool, false, ◌&&◌, ◌-◌, ◌+◌, ◌==◌, List, [], ◌∷◌, drop, length, map, filter, filter_map, flat_map, slice_get, slice_index_or, slice_range, Option, Some, None, is_none, option_and_then, option_map, option_to_list, nat_lt, if◌then◌else◌}
 use Rattle.std.specs.Option.{option_or}
 use Rattle.kc_value.specs.declared.value.Kind.{Kind}
 use Rattle.kc_expr.specs.between.Arena.{Exprs}
@@ -7,14 +7,13 @@ use Rattle.kc_expr.specs.Lookup.{index_of_name}
 use Rattle.kc_statements.specs.between.StatementViews.{attribute_in}
 use Rattle.kc_tree_model.specs.Statements.{type_of}
 use Rattle.kc_tree_model.specs.Blocks.{Group, defined_name, opens_choice}
-use Rattle.kc_tree_model.specs.Conditions.{GroupInContext, groups_in_context, choice_among, attribute_values}
+use Rattle.kc_tree_model.specs.Conditions.{GroupInContext, groups_in_context, attribute_values}
 use Rattle.kc_tree_model.specs.Contents.{Contents, begins_symbol, contents_of, choice_number, defines, is_first_definition}
 use Rattle.kc_tree_model.specs.declared.ids.Unit.{Unit as TreeUnit}
 use Rattle.kc_tree_model.specs.declared.ids.Unit.TheVariants.{Symbol as of_symbol, Choice as of_choice}
 use Rattle.kc_parser.specs.declared.listing.Group.{Group as CodeGroup}
 use Rattle.kc_parser.specs.declared.listing.Line.{Line as CodeLine}
 use Rattle.kc_parser.specs.declared.listing.Listing.{Listing}
-use Rattle.kc_parser.specs.declared.listing.GroupHead.{GroupHead as CodeHead}
 use Rattle.kc_parser.specs.declared.listing.GroupHead.TheVariants as codes
 use Rattle.kc_parser.specs.between.ListingView.{RepresentsListing}
 use Rattle.kc_checks.specs.declared.summary.SymbolSummary.{SymbolSummary}
@@ -32,7 +31,7 @@ read_before i read = drop (length read - i) read
 
 -- the group used where no group has the given number
 abbrev pub no_group : CodeGroup
-no_group = record { file = 0; line = 0; head = codes.FileEnd; attributes = 0 }
+no_group = record { file = 0; line = 0; head = codes.FileEnd; attributes = 0; choice = None }
 
 -- the group with this number; `no_group` if there is no such group
 abbrev pub group_at : List CodeGroup → ℕ → CodeGroup
@@ -46,36 +45,9 @@ attributes_end groups lines i = if nat_lt (i + 1) (length groups) then (group_at
 abbrev pub own_lines : Listing → ℕ → List CodeLine
 own_lines l i = slice_range l.lines.items (group_at l.groups.items i).attributes (attributes_end l.groups.items l.lines.items i)
 
--- whether a statement is a `choice`
-abbrev pub is_choice_code : CodeHead → Bool
-is_choice_code codes.Choice = true
-is_choice_code w = false
-
--- the number of the choice that the innermost open block is or is in, from the list of these numbers for all open blocks,
--- innermost first; `None` if the block is in no choice or no block is open
-abbrev pub innermost_choice : List (Option ℕ) → Option ℕ
-innermost_choice [] = None
-innermost_choice (o ∷ os) = o
-
--- for each block open after a statement, innermost first, the number of the choice that the block is or is in, from the same list
--- before the statement and the number of choices before it
-abbrev pub choices_opened_after : CodeHead → ℕ → List (Option ℕ) → List (Option ℕ)
-choices_opened_after codes.Choice n os = Some n ∷ os
-choices_opened_after (codes.Menu t) n os = innermost_choice os ∷ os
-choices_opened_after (codes.Condition e) n os = innermost_choice os ∷ os
-choices_opened_after (codes.Source t) n os = innermost_choice os ∷ os
-choices_opened_after (codes.Ends b) n os = drop 1 os
-choices_opened_after codes.FileEnd n os = drop 1 os
-choices_opened_after w n os = os
-
 -- the number of the choice that encloses a group, among all choices; `None` outside choices
 abbrev pub enclosing_choice : Contents → GroupInContext → Option ℕ
 enclosing_choice c p = option_and_then (choice_number c) p.choice
-
--- for each open block, innermost first, the number of the choice that encloses it or is it
-abbrev pub open_choices : Contents → List Group → List (Option ℕ)
-open_choices c [] = []
-open_choices c (g ∷ outer) = option_and_then (choice_number c) (choice_among (g ∷ outer)) ∷ open_choices c outer
 
 -- the first value that a function gives for the definitions of a name among groups; `None` if there is none
 abbrev pub first_in_definitions : {A : Type 0} → (GroupInContext → List A) → List GroupInContext → List ℕ → Option A
@@ -148,11 +120,10 @@ choice_begun c p = if opens_choice p.group then option_map of_choice (choice_num
 abbrev pub own_unit : Contents → GroupInContext → Option TreeUnit
 own_unit c p = elim (defined_name p.group) [ None ↦ choice_begun c p | Some name ↦ if is_first_definition c name p && is_none (enclosing_choice c p) then option_map of_symbol (index_of_name name c.names) else None ]
 
--- a summary of some of the groups read: the symbols' summaries, the enclosing choices, how many choices these groups open, the
--- members of choices by all these groups and by first definitions alone, and the units that begin with them
+-- a summary of some of the groups read: the symbols' summaries, how many choices these groups open, the members of choices by all
+-- these groups and by first definitions alone, and the units that begin with them
 pub record IsSummaryOf (c : Contents) (places : List GroupInContext) (s : Summary) : Type 0 where
   pub symbols : s.symbols.items ≡ map (summary_in c places) c.names
-  pub enclosing : s.enclosing.items ≡ map (enclosing_choice c) places
   pub choices : s.choices ≡ length (map (λ (p : GroupInContext). p.group.number) (filter (λ (p : GroupInContext). opens_choice p.group) places))
   pub members : AreMembers (enclosing_choice c) c places s.members
   pub own_members : AreMembers (own_choice c) c places s.own_members

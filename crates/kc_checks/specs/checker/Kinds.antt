@@ -3,8 +3,9 @@ use Rattle.std.specs.Prelude.{ℕ, slice_get, option_and_then, Bool, true, false
 use Rattle.std.specs.List.{list_all}
 use Rattle.kc_tokens.specs.declared.language.Language.{Language}
 use Rattle.kc_tokens.specs.declared.language.Language.TheVariants.{Strict, Linux}
-use Rattle.kc_statements.specs.declared.statement.Attribute.{Attribute as CodeAttribute}
-use Rattle.kc_statements.specs.declared.statement.Attribute.TheVariants as attributes
+use Rattle.kc_statements.specs.between.StatementViews.{ReadAttribute}
+use Rattle.kc_tree_model.specs.declared.statement.Attribute.TheVariants as attributes
+use Rattle.kc_parser.specs.declared.listing.Group.{Group as CodeGroup}
 use Rattle.kc_parser.specs.declared.listing.Line.{Line as CodeLine}
 use Rattle.kc_value.specs.declared.value.Kind.{Kind}
 use Rattle.kc_value.specs.declared.value.Kind.TheVariants.{Bool as Boolean}
@@ -17,7 +18,7 @@ use Rattle.kc_checks.specs.declared.summary.SymbolSummary.{SymbolSummary}
 
 -- whether a later definition of a choice member may have an attribute: a type without a prompt, `depends on`, `select`, `imply` or
 -- help text
-abbrev pub is_added_code : CodeAttribute → Bool
+abbrev pub is_added_code : ReadAttribute → Bool
 is_added_code (attributes.Typed k) = true
 is_added_code (attributes.Depends id) = true
 is_added_code (attributes.Select s) = true
@@ -31,22 +32,22 @@ is_added_line l = is_added_code l.attribute
 
 -- whether a definition with these attribute lines may come after its symbol's definition as a choice member; `is_again` is set if
 -- it is in the choice of its symbol's first definition
-abbrev pub may_follow_code : Language → (is_member is_again : Bool) → List CodeLine → Bool
-may_follow_code Strict is_member is_again ls = false
-may_follow_code (Linux version) is_member is_again ls = (not is_member && list_all is_added_line ls) || is_again
+abbrev pub only_extends_member_code : Language → (is_member is_again : Bool) → List CodeLine → Bool
+only_extends_member_code Strict is_member is_again ls = false
+only_extends_member_code (Linux version) is_member is_again ls = (not is_member && list_all is_added_line ls) || is_again
 
 -- the number of the choice that encloses the group of a number, if there is such a group and it is in a choice
-abbrev pub choice_around : List (Option ℕ) → Option ℕ → Option ℕ
-choice_around enclosing None = None
-choice_around enclosing (Some i) = option_and_then (λ o. o) (slice_get enclosing i)
+abbrev pub choice_around : List CodeGroup → Option ℕ → Option ℕ
+choice_around groups None = None
+choice_around groups (Some i) = option_and_then (λ (g : CodeGroup). g.choice) (slice_get groups i)
 
 -- the kind of the first fault of a symbol's definition, from the symbol's summary, where `is_misfit` is set if the definition is in
 -- a choice and the symbol's type isn't one of a member; `None` without a fault
 abbrev pub definition_kind : SymbolSummary → (is_misfit is_first is_modules may_follow : Bool) → Option TreeKind
-definition_kind about is_misfit is_first is_modules may_follow =
-    if is_first && is_none (kind_or_bool about.given (is_some about.choice)) then Some NoType
-    else if is_misfit || (not is_first && is_some about.choice && not may_follow) then Some ChoiceMember
-    else if is_first && is_modules && is_other_kind Boolean about.given then Some ModulesType
+definition_kind symbol_summary is_misfit is_first is_modules may_follow =
+    if is_first && is_none (kind_or_bool symbol_summary.given (is_some symbol_summary.choice)) then Some NoType
+    else if is_misfit || (not is_first && is_some symbol_summary.choice && not may_follow) then Some ChoiceMember
+    else if is_first && is_modules && is_other_kind Boolean symbol_summary.given then Some ModulesType
     else None
 
 -- the kind of the first fault of an attribute of a symbol with this type; `None` without a fault

@@ -1,26 +1,20 @@
 -- A summary while it is made, and what a definition adds to it.
-use Rattle.std.specs.Prelude.{◌≡◌, ℕ, ◌&&◌, List, ◌++◌, map, reverse, slice_index_or, slice_set, Option, Some, None, is_none, option_to_list, if◌then◌else◌}
+use Rattle.std.specs.Prelude.{◌≡◌, ℕ, ◌&&◌, List, ◌++◌, map, slice_index_or, slice_set, Option, Some, None, is_none, option_to_list, if◌then◌else◌}
 use Rattle.kc_tree_model.specs.declared.ids.Unit.{Unit as TreeUnit}
 use Rattle.kc_tree_model.specs.declared.ids.Unit.TheVariants.{Symbol as of_symbol}
-use Rattle.kc_tree_model.specs.Blocks.{Group, open_blocks}
+use Rattle.kc_tree_model.specs.Blocks.{Group}
 use Rattle.kc_tree_model.specs.Conditions.{groups_in_context}
 use Rattle.kc_tree_model.specs.Contents.{contents_of}
 use Rattle.kc_parser.specs.declared.listing.Listing.{Listing}
 use Rattle.kc_parser.specs.between.ListingView.{RepresentsListing}
 use Rattle.kc_tree.specs.declared.items_with_keys.ItemsWithKeys.{ItemsWithKeys}
-use Rattle.kc_checks.specs.between.Summaries.{first_summary, open_choices, read_before, IsSummaryOf}
+use Rattle.kc_checks.specs.between.Summaries.{first_summary, read_before, IsSummaryOf}
 use Rattle.kc_checks.specs.declared.summary.Summary.{Summary}
 use Rattle.kc_checks.specs.declared.summary.SymbolSummary.{SymbolSummary}
 
--- a summary is that of the groups read before the one of this number, and the list has, for each block that is open then, innermost
--- last, the number of the choice that the block is or is in
-pub record IsSummaryTo (read : List Group) (i : ℕ) (inside : List (Option ℕ)) (s : Summary) : Type 0 where
-  pub summary : IsSummaryOf (contents_of read) (groups_in_context (read_before i read)) s
-  pub blocks : reverse inside ≡ open_choices (contents_of read) (open_blocks 0 (read_before i read))
-
--- the same of the groups of a listing
-unfoldable pub IsSummedTo : Listing → ℕ → List (Option ℕ) → Summary → Type 0
-IsSummedTo l i inside s = (read : List Group) → RepresentsListing l read → IsSummaryTo read i inside s
+-- a summary is that of the groups of a listing before the one of this number
+unfoldable pub IsSummedTo : Listing → ℕ → Summary → Type 0
+IsSummedTo l i s = (read : List Group) → RepresentsListing l read → IsSummaryOf (contents_of read) (groups_in_context (read_before i read)) s
 
 -- the summary of a symbol without definitions
 abbrev pub nothing_known : SymbolSummary
@@ -33,11 +27,11 @@ summary_at symbols s = slice_index_or symbols s nothing_known
 -- the choice in which a definition defines its symbol first, if it does so in a choice: from the summary of the definitions before,
 -- and that of this one
 abbrev pub choice_if_first : SymbolSummary → SymbolSummary → Option ℕ
-choice_if_first about here = if is_none about.first then here.choice else None
+choice_if_first symbol_summary here = if is_none symbol_summary.first then here.choice else None
 
 -- the symbol as a unit, if a definition defines it first and outside choices
 abbrev pub unit_if_first : SymbolSummary → SymbolSummary → ℕ → Option TreeUnit
-unit_if_first about here s = if is_none about.first && is_none here.choice then Some (of_symbol s) else None
+unit_if_first symbol_summary here s = if is_none symbol_summary.first && is_none here.choice then Some (of_symbol s) else None
 
 -- `new` is `old` with a symbol appended under the number of a choice, if there is a choice
 pub record HasMember (choice : Option ℕ) (s : ℕ) (old new : ItemsWithKeys ℕ) : Type 0 where
@@ -47,7 +41,6 @@ pub record HasMember (choice : Option ℕ) (s : ℕ) (old new : ItemsWithKeys �
 -- `new` is `old` with one more definition of a symbol, which alone gives the summary `here`
 pub record HasDefined (s : ℕ) (here : SymbolSummary) (old new : Summary) : Type 0 where
   pub symbols : new.symbols.items ≡ slice_set old.symbols.items s (first_summary (summary_at old.symbols.items s) here)
-  pub enclosing : new.enclosing.items ≡ old.enclosing.items
   pub choices : new.choices ≡ old.choices
   pub members : HasMember here.choice s old.members new.members
   pub own_members : HasMember (choice_if_first (summary_at old.symbols.items s) here) s old.own_members new.own_members

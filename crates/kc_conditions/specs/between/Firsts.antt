@@ -7,7 +7,7 @@ use Rattle.kc_parser.specs.declared.listing.Line.{Line as CodeLine}
 use Rattle.kc_parser.specs.declared.listing.GroupHead.{GroupHead as CodeHead}
 use Rattle.kc_parser.specs.declared.listing.GroupHead.TheVariants as codes
 use Rattle.kc_tree_model.specs.Blocks.{Group, opening, side_of}
-use Rattle.kc_statements.specs.between.StatementViews.{is_prompt}
+use Rattle.kc_tree_model.specs.between.Attributes.{is_prompt}
 use Rattle.kc_conditions.specs.between.Walks.{RepresentsEnclosing}
 use Rattle.kc_conditions.specs.declared.conditions.EnclosingConditions.{EnclosingConditions}
 

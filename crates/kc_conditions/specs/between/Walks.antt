@@ -6,7 +6,8 @@ use Rattle.kc_value.specs.declared.tri.Tri.TheVariants.{N}
 use Rattle.kc_expr.specs.between.Arena.{Exprs, Represents, node_expr, Grows}
 use Rattle.kc_expr.specs.Expr.{Expr, alone, constant}
 use Rattle.kc_tree_model.specs.Trees as tree
-use Rattle.kc_tree_model.specs.Statements.{Attribute, typed_prompt, typed_default, prompt, default, select, imply, range, prompt_of, visible_of}
+use Rattle.kc_tree_model.specs.Statements.{Attribute, prompt_of, visible_of}
+use Rattle.kc_tree_model.specs.declared.statement.Attribute.TheVariants.{TypedPrompt as typed_prompt, TypedDefault as typed_default, Prompt as prompt, Default as default, Select as select, Imply as imply, Range as range}
 use Rattle.kc_tree_model.specs.Blocks.{Group, Line, closing, side_of, open_blocks}
 use Rattle.kc_tree_model.specs.Conditions.{conjunction_of, visible_conjunct, attribute_values, dependencies_of, dependency_of, context, context_of, GroupInContext, group_in_context}
 use Rattle.kc_tree_model.specs.Contents.{menu_end_of}

@@ -2,12 +2,12 @@
 use Rattle.std.specs.Prelude.{◌≡◌, ℕ, ◌<◌, List, [], ◌∷◌, ◌++◌, length, map, All, if◌then◌else◌}
 use Rattle.kc_expr.specs.between.Arena.{Exprs, node_expr}
 use Rattle.kc_expr.specs.Expr.{Expr}
-use Rattle.kc_statements.specs.declared.statement.Attribute.{Attribute as CodeAttribute}
-use Rattle.kc_statements.specs.between.StatementViews.{is_prompt, if_given, conjunct_given}
+use Rattle.kc_statements.specs.between.StatementViews.{ReadAttribute}
+use Rattle.kc_tree_model.specs.between.Attributes.{is_prompt, if_given, conjunct_given}
 use Rattle.kc_parser.specs.declared.listing.Line.{Line as CodeLine}
 use Rattle.kc_tree_model.specs.Conditions.{conjunction_of, visible_conjunct}
 use Rattle.kc_conditions.specs.checker.Conjunctions.{Conjoins, conjunct}
-use Rattle.kc_statements.specs.declared.statement.Conjuncts.{Conjuncts}
+use Rattle.kc_tree_model.specs.declared.statement.Conjuncts.{Conjuncts}
 use Rattle.kc_conditions.specs.declared.conditions.EntryConditions.{EntryConditions}
 
 -- the expressions of all `depends on`s or of all `visible if`s among attribute lines, in order
@@ -22,7 +22,7 @@ pub record AreJoined (exprs : Exprs) (e : EntryConditions) (dependencies visible
   pub shown_is : Conjoins exprs e.shown (dependencies ++ visible_conjunct visibles)
 
 -- an attribute's joined condition: its entry's dependencies, for a prompt the enclosing `visible if`s, and its own `if`
-abbrev pub condition_view : Exprs → List Expr → List Expr → CodeAttribute → Expr
+abbrev pub condition_view : Exprs → List Expr → List Expr → ReadAttribute → Expr
 condition_view exprs dependencies visibles a =
     if is_prompt a then conjunction_of (dependencies ++ (visible_conjunct visibles ++ conjunct exprs (if_given a)))
     else conjunction_of (dependencies ++ conjunct exprs (if_given a))

@@ -2,7 +2,7 @@
 use Rattle.std.specs.Prelude.{◌≡◌, ℕ, ◌<◌, List, Option, Some, None, length, map, Contains}
 use Rattle.kc_solver.specs.Solutions.{user_of}
 use Rattle.kc_rules_model.specs.declared.values.UserValue.{UserValue}
-use Rattle.kc_dotconfig_model.specs.ConfigFiles.{over}
+use Rattle.kc_dotconfig_model.specs.ConfigFiles.{merged_user}
 use Rattle.kc_rules.specs.declared.rules.Settled.{Settled}
 use Rattle.kc_config.specs.ConfigStates.{Configured, tree_in, IsSolved}
 
@@ -11,8 +11,8 @@ abbrev pub clears_of : List ℕ → List (ℕ × Option UserValue)
 clears_of units = map (λ (u : ℕ). (u, None)) units
 
 -- the user values of a list, each over the one that its unit has in an assignment
-abbrev pub overs : List (Option UserValue) → List (ℕ × UserValue) → List (ℕ × UserValue)
-overs users assigns = map (λ (a : ℕ × UserValue). (a.0, over a.1 (user_of users a.0))) assigns
+abbrev pub merged_assigns : List (Option UserValue) → List (ℕ × UserValue) → List (ℕ × UserValue)
+merged_assigns users assigns = map (λ (a : ℕ × UserValue). (a.0, merged_user a.1 (user_of users a.0))) assigns
 
 -- a configuration's tree is `settled`, the configuration is solved, and `valued` has units of the tree, among them each unit with
 -- a user value

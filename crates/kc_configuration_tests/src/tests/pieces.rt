@@ -15,7 +15,7 @@ use std::test::Fail;
 struct Case<'a> {
     file: &'a [u8],
     then: Then,
-    answer: Result<usize, RunFault>,
+    outcome: Result<usize, RunFault>,
     written: &'static [u8],
 }
 
@@ -24,7 +24,7 @@ fn refused(file: &[u8], then: Then, line: u32, kind: LoadKind) -> Case<'_> {
     Case {
         file,
         then,
-        answer: Err(RunFault::Load(LoadFault { line, kind })),
+        outcome: Err(RunFault::Load(LoadFault { line, kind })),
         written: b"",
     }
 }
@@ -33,19 +33,19 @@ const BOOL: &[u8] = b"config A\n\tbool \"a\"\n";
 
 const NUMBER: &[u8] = b"config N\n\tint \"n\"\n\trange 10 20\n\tdefault 5\n";
 
-/// Files over the tree `BOOL`, each with its answer.
+/// Files over the tree `BOOL`, each with its outcome.
 fn cases() -> [Case<'static>; 7] {
     [
         Case {
             file: b"#\n# Automatically generated file; DO NOT EDIT.\n#\nCONFIG_A=y  \n",
             then: Then::End,
-            answer: Ok(0),
+            outcome: Ok(0),
             written: b"CONFIG_A=y\n",
         },
         Case {
             file: b"CONFIG_GONE=1\nCONFIG_A=m\n",
             then: Then::End,
-            answer: Ok(2),
+            outcome: Ok(2),
             written: b"",
         },
         refused(
@@ -61,8 +61,8 @@ fn cases() -> [Case<'static>; 7] {
     ]
 }
 
-/// The answer to minimising a file that comes in pieces of at most `most` bytes; an `Err` where memory was refused.
-fn answer(
+/// The outcome of minimising a file that comes in pieces of at most `most` bytes; an `Err` where memory was refused.
+fn outcome(
     alloc: Global,
     tree: &Settled,
     case: &Case<'_>,
@@ -92,8 +92,8 @@ fn is_memory(fault: RunFault) -> bool {
     fault == RunFault::Memory || fault == RunFault::Load(line_0)
 }
 
-/// Whether a file in pieces is answered as it should be, to a writer that takes `room` bytes and then fails.
-fn is_answered(
+/// Whether a file in pieces is minimised as it should be, to a writer that takes `room` bytes and then fails.
+fn is_minimised(
     alloc: Global,
     tree: &Settled,
     case: &Case<'_>,
@@ -103,44 +103,44 @@ fn is_answered(
     requires { 0 < most }
 {
     let mut sink = twice!(Bounded::new(alloc, room, true));
-    let answer = twice_on!(
+    let outcome = twice_on!(
         sink.bytes().len(),
-        answer(alloc, tree, case, most, &mut sink)
+        outcome(alloc, tree, case, most, &mut sink)
     );
-    Ok(answer == case.answer && sink.bytes() == case.written)
+    Ok(outcome == case.outcome && sink.bytes() == case.written)
 }
 
-/// Whether each file of `cases` is answered as it should be, in pieces of each size.
-fn are_answered(alloc: Global) -> Result<bool, AllocError> {
-    and_drop!(tree = settled(alloc, BOOL, Profile::Present)?; are_answered_over(alloc, &tree))
+/// Whether each file of `cases` is minimised as it should be, in pieces of each size.
+fn are_minimised(alloc: Global) -> Result<bool, AllocError> {
+    and_drop!(tree = settled(alloc, BOOL, Profile::Present)?; are_minimised_over(alloc, &tree))
 }
 
-/// Whether each file of `cases` is answered as it should be over this tree, in pieces of each size.
-fn are_answered_over(alloc: Global, tree: &Settled) -> Result<bool, AllocError> {
-    let mut are_answered = true;
+/// Whether each file of `cases` is minimised as it should be over this tree, in pieces of each size.
+fn are_minimised_over(alloc: Global, tree: &Settled) -> Result<bool, AllocError> {
+    let mut are_minimised = true;
     for case in &cases() {
-        are_answered &= is_answered_in_pieces(alloc, tree, case)?;
+        are_minimised &= is_minimised_in_pieces(alloc, tree, case)?;
     }
-    Ok(are_answered)
+    Ok(are_minimised)
 }
 
-/// Whether a file is answered as it should be, in pieces of each size.
-fn is_answered_in_pieces(
+/// Whether a file is minimised as it should be, in pieces of each size.
+fn is_minimised_in_pieces(
     alloc: Global,
     tree: &Settled,
     case: &Case<'_>,
 ) -> Result<bool, AllocError> {
-    let mut holds = is_answered(alloc, tree, case, 1, 64)?;
-    holds &= is_answered(alloc, tree, case, 2, 64)?;
-    holds &= is_answered(alloc, tree, case, 3, 64)?;
-    holds &= is_answered(alloc, tree, case, 7, 64)?;
-    holds &= is_answered(alloc, tree, case, 4_096, 64)?;
+    let mut holds = is_minimised(alloc, tree, case, 1, 64)?;
+    holds &= is_minimised(alloc, tree, case, 2, 64)?;
+    holds &= is_minimised(alloc, tree, case, 3, 64)?;
+    holds &= is_minimised(alloc, tree, case, 7, 64)?;
+    holds &= is_minimised(alloc, tree, case, 4_096, 64)?;
     Ok(holds)
 }
 
 #[test]
 fn files_in_pieces_are_minimised_alike(rt: HostRuntime) -> Result<(), Fail> {
-    assert!(rt; are_answered(rt.alloc())?);
+    assert!(rt; are_minimised(rt.alloc())?);
     Ok(())
 }
 
@@ -153,37 +153,37 @@ fn longest_line(alloc: Global) -> Result<Vec<u8>, AllocError> {
 }
 
 /// Whether the longest line that is read is accepted, and a line of one byte more refused.
-fn are_long_lines_answered(alloc: Global) -> Result<bool, AllocError> {
+fn are_long_lines_minimised(alloc: Global) -> Result<bool, AllocError> {
     and_drop!(
         tree = settled(alloc, BOOL, Profile::Present)?;
-        are_long_lines_answered_over(alloc, &tree)
+        are_long_lines_minimised_over(alloc, &tree)
     )
 }
 
 /// Whether the longest line that is read is accepted over this tree, and a line of one byte more refused.
-fn are_long_lines_answered_over(alloc: Global, tree: &Settled) -> Result<bool, AllocError> {
+fn are_long_lines_minimised_over(alloc: Global, tree: &Settled) -> Result<bool, AllocError> {
     let mut file = twice!(longest_line(alloc));
     let accepted = Case {
         file: &file,
         then: Then::End,
-        answer: Ok(0),
+        outcome: Ok(0),
         written: b"",
     };
-    let is_accepted = is_answered_in_pieces(alloc, tree, &accepted)?;
+    let is_accepted = is_minimised_in_pieces(alloc, tree, &accepted)?;
     twice!(file.push(b'x'));
     let longer = refused(&file, Then::End, 1, LoadKind::LineTooLong);
-    let is_refused = is_answered_in_pieces(alloc, tree, &longer)?;
+    let is_refused = is_minimised_in_pieces(alloc, tree, &longer)?;
     Ok(is_accepted && is_refused)
 }
 
 #[test]
 fn a_line_in_pieces_may_have_65536_bytes(rt: HostRuntime) -> Result<(), Fail> {
-    assert!(rt; are_long_lines_answered(rt.alloc())?);
+    assert!(rt; are_long_lines_minimised(rt.alloc())?);
     Ok(())
 }
 
-/// Whether a file over the tree of this text is answered as it should be, in pieces of up to 4,096 bytes.
-fn is_answered_once(
+/// Whether a file over the tree of this text is minimised as it should be, in pieces of up to 4,096 bytes.
+fn is_minimised_once(
     alloc: Global,
     tree: &[u8],
     case: &Case<'_>,
@@ -191,7 +191,7 @@ fn is_answered_once(
 ) -> Result<bool, AllocError> {
     and_drop!(
         tree = settled(alloc, tree, Profile::Present)?;
-        is_answered(alloc, &tree, case, 4_096, room)
+        is_minimised(alloc, &tree, case, 4_096, room)
     )
 }
 
@@ -200,10 +200,10 @@ fn a_failed_write_is_reported_with_what_was_written(rt: HostRuntime) -> Result<(
     let case = Case {
         file: b"CONFIG_N=20\n",
         then: Then::End,
-        answer: Err(RunFault::Write(WriteFault { written: 5 })),
+        outcome: Err(RunFault::Write(WriteFault { written: 5 })),
         written: b"CONFI",
     };
-    assert!(rt; is_answered_once(rt.alloc(), NUMBER, &case, 5)?);
+    assert!(rt; is_minimised_once(rt.alloc(), NUMBER, &case, 5)?);
     Ok(())
 }
 
@@ -219,7 +219,7 @@ fn long_file(alloc: Global) -> Result<Vec<u8>, AllocError> {
 fn is_line_refused(alloc: Global) -> Result<bool, AllocError> {
     let file = twice!(long_file(alloc));
     let case = refused(&file, Then::End, 65_536, LoadKind::Malformed);
-    is_answered_once(alloc, BOOL, &case, 64)
+    is_minimised_once(alloc, BOOL, &case, 64)
 }
 
 #[test]

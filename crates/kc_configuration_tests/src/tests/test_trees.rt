@@ -79,7 +79,7 @@ pub(crate) fn merged_twice(
 ) -> Result<ChangedUnits, AllocError> {
     and_drop!(
         fragment = fragment_twice(alloc, config.settled(), file)?;
-        laid_over_itself(config, &fragment)
+        merged_or_kept(config, &fragment)
     )
 }
 
@@ -94,18 +94,15 @@ pub(crate) fn fragment_twice(
     Ok(twice!(fragment_of(alloc, settled, file)))
 }
 
-/// Lays a fragment over a configuration. Where memory runs out at the first try, the configuration has to stay as it was.
-fn laid_over_itself(
-    config: &mut Config<'_>,
-    fragment: &Fragment,
-) -> Result<ChangedUnits, AllocError>
+/// Merges a fragment into a configuration. Where memory runs out at the first try, the configuration has to stay as it was.
+fn merged_or_kept(config: &mut Config<'_>, fragment: &Fragment) -> Result<ChangedUnits, AllocError>
     requires { FitsTree (tree_in config.old) fragment.now.assigns.items }
 {
-    and_drop!(before = twice!(config.copy()); laid_over(config, &before, fragment))
+    and_drop!(before = twice!(config.copy()); merged_beside(config, &before, fragment))
 }
 
-/// Lays a fragment over a configuration that is equal to the copy `before`, with which it is compared after a failed try.
-fn laid_over(
+/// Merges a fragment into a configuration that is equal to the copy `before`, with which it is compared after a failed try.
+fn merged_beside(
     config: &mut Config<'_>,
     before: &Config<'_>,
     fragment: &Fragment,

@@ -2,7 +2,7 @@
 use Rattle.std.specs.Prelude.{ℕ, ◌<◌, All, Bool, not, ◌&&◌, Option, find, List, length}
 use Rattle.std.specs.Option.{option_map}
 use Rattle.kc_tree_model.specs.Trees.{MemberDefault}
-use Rattle.kc_rules_model.specs.Kinds.{is_n}
+use Rattle.kc_value.specs.Tri.{is_n}
 use Rattle.kc_rules_model.specs.SymbolValues.{condition}
 use Rattle.kc_rules_model.specs.Rule.{is_visible_member}
 use Rattle.kc_expr.specs.between.Arena.{Exprs}

@@ -8,7 +8,7 @@ use Rattle.kc_value.specs.declared.value.Kind.TheVariants.{Bool as Boolean, Tris
 use Rattle.kc_tokens.specs.Token.{is_white_byte}
 use Rattle.kc_tree_model.specs.Trees.{Tree, Symbol}
 use Rattle.kc_tree_model.specs.TreeLookup.{symbol_named, unit_of}
-use Rattle.kc_rules_model.specs.Kinds.{is_y}
+use Rattle.kc_value.specs.Tri.{is_y}
 use Rattle.kc_value.specs.Number.{number_of_text}
 use Rattle.kc_rules_model.specs.declared.values.UserValue.TheVariants.{Tri as TriUser, Text as TextUser}
 use Rattle.kc_rules_model.specs.Rule.{member_user}

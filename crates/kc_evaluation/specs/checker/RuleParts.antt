@@ -1,12 +1,10 @@
 -- The rules of bools and tristates, with the user value as a tristate and a list of defaults.
 use Rattle.std.specs.Prelude.{not, List, Option, find, if◌then◌else◌}
 use Rattle.kc_value.specs.declared.tri.Tri.{Tri}
-use Rattle.kc_value.specs.Tri.{tri_or}
+use Rattle.kc_value.specs.Tri.{tri_or, is_n, y_for_m}
 use Rattle.kc_tree_model.specs.Trees.{Tree, Symbol, Default}
 use Rattle.kc_rules_model.specs.declared.profile.Profile.{Profile}
 use Rattle.kc_rules_model.specs.declared.values.UnitValue.{UnitValue}
-use Rattle.kc_rules_model.specs.Kinds.{is_n}
-use Rattle.kc_value.specs.Tri.{y_for_m}
 use Rattle.kc_rules_model.specs.Rule.{base, promoted, selected, leaves_no_m}
 use Rattle.kc_rules_model.specs.SymbolValues.{condition}
 

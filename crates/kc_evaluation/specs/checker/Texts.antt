@@ -7,7 +7,7 @@ use Rattle.kc_value.specs.Number.{number_of_text}
 use Rattle.kc_expr.specs.Expr.{Expr}
 use Rattle.kc_tree_model.specs.Trees.{Tree, Symbol, Default, Range}
 use Rattle.kc_rules_model.specs.declared.values.UnitValue.{UnitValue}
-use Rattle.kc_rules_model.specs.Kinds.{is_n}
+use Rattle.kc_value.specs.Tri.{is_n}
 use Rattle.kc_rules_model.specs.SymbolValues.{condition}
 use Rattle.kc_rules_model.specs.Rule.{is_visible, default_text, number_default, active_range, user_number}
 use Rattle.kc_evaluation.specs.checker.RuleParts.{active_default_of}

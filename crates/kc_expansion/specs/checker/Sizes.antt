@@ -1,10 +1,11 @@
--- Faults by the sizes of files.
-use Rattle.std.specs.Prelude.{ℕ, ◌||◌, nat_le, nat_lt, Option, Some, None, if◌then◌else◌}
-use Rattle.kc_macros_model.specs.declared.fault.MacroKind.{MacroKind}
-use Rattle.kc_macros_model.specs.declared.fault.MacroKind.TheVariants.{TooDeep, TooMany}
-use Rattle.kc_value.specs.declared.limits.TheConstants.{MAX_FILES, MAX_TREE_BYTES, MAX_OPEN_FILES}
+-- Sizes of files.
+use Rattle.std.specs.Prelude.{ℕ, length, Option, Some, None}
+use Rattle.kc_value.specs.declared.limits.TheConstants.{MAX_FILE_BYTES}
+use Rattle.kc_files.specs.between.KnownFiles.{FileRead, missing, unreadable, whole, too_long}
 
--- the fault, if any, of reading one more file, where `open_count` files are open within each other, `files` were read before it,
--- and `bytes` are read with it
-abbrev pub size_fault : (open_count files bytes : ℕ) → Option MacroKind
-size_fault open_count files bytes = if nat_le MAX_OPEN_FILES open_count then Some TooDeep else if nat_le MAX_FILES files || nat_lt MAX_TREE_BYTES bytes then Some TooMany else None
+-- how many bytes a file has that was read, None if it can't be read; MAX_FILE_BYTES if it is too long
+abbrev pub size_read : FileRead → Option ℕ
+size_read missing = None
+size_read unreadable = None
+size_read (whole bytes) = Some (length bytes)
+size_read too_long = Some MAX_FILE_BYTES

@@ -5,7 +5,7 @@ use Rattle.kc_tree_model.specs.Trees.{Tree}
 use Rattle.kc_tree.specs.declared.symbol.Default.{Default}
 use Rattle.kc_tree.specs.declared.symbol.Range.{Range}
 use Rattle.kc_rules_model.specs.declared.values.UnitValue.{UnitValue}
-use Rattle.kc_rules_model.specs.Kinds.{is_n}
+use Rattle.kc_value.specs.Tri.{is_n}
 use Rattle.kc_rules_model.specs.SymbolValues.{condition}
 
 -- whether a condition isn't `n`

@@ -3,7 +3,7 @@ use Rattle.std.specs.Prelude.{ℕ, Bool, false, not, ◌==◌, List, [], ◌∷�
 use Rattle.std.specs.List.{list_any}
 use Rattle.kc_tokens.specs.Token.{is_white_byte}
 use Rattle.kc_macros_model.specs.References.{Item, byte, first_item}
-use Rattle.kc_macros_model.specs.LineTokens.{LineToken, gap, run, quoted, other, broken, is_run_byte, first_token}
+use Rattle.kc_macros_model.specs.LineTokens.{LineToken, trivia, run, quoted, other, broken, is_run_byte, first_token}
 use Rattle.kc_macro_lines.specs.declared.line_tokens.LineToken.{LineToken as CodeToken}
 use Rattle.kc_macro_lines.specs.declared.line_tokens.LineToken.TheVariants as kinds
 
@@ -14,12 +14,12 @@ first_item_of q (c ∷ s) = first_item q c s
 
 -- the token at the front of the text of a line that isn't empty
 abbrev pub first_token_of : List ℕ → LineToken
-first_token_of [] = gap []
+first_token_of [] = trivia []
 first_token_of (c ∷ s) = first_token c s
 
 -- a token of a line of the code as one of `kc_macros_model`
 abbrev pub token_view : CodeToken → LineToken
-token_view (kinds.Gap s) = gap s.now
+token_view (kinds.Trivia s) = trivia s.now
 token_view (kinds.Word s) = run s.now
 token_view (kinds.Quoted quote s) = quoted quote s.now
 token_view (kinds.Other s) = other s.now

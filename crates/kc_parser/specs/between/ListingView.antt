@@ -2,7 +2,7 @@
 use Rattle.std.specs.Prelude.{◌≡◌, ℕ, ◌<◌, ◌≤◌, List, [], ◌∷◌, length, map, reverse, slice_get, slice_range, Some, All}
 use Rattle.kc_expr.specs.between.Arena.{Exprs, node_expr}
 use Rattle.kc_statements.specs.between.StatementViews.{attribute_in, AttributeNodesExist}
-use Rattle.kc_tree_model.specs.Statements.{config, choice, menu, condition, comment, source, mainmenu, ends}
+use Rattle.kc_tree_model.specs.declared.statement.Head.TheVariants.{Config as config, Choice as choice, Menu as menu, Condition as condition, Comment as comment, Source as source, Mainmenu as mainmenu, Ends as ends}
 use Rattle.kc_tree_model.specs.Blocks.{Group, Line, GroupHead, of_head, file_end}
 use Rattle.kc_tree_model.specs.Limits.{names_defined}
 use Rattle.kc_parser.specs.declared.listing.Group.{Group as CodeGroup}
@@ -10,6 +10,7 @@ use Rattle.kc_parser.specs.declared.listing.Line.{Line as CodeLine}
 use Rattle.kc_parser.specs.declared.listing.Listing.{Listing}
 use Rattle.kc_parser.specs.declared.listing.GroupHead.{GroupHead as CodeHead}
 use Rattle.kc_parser.specs.declared.listing.GroupHead.TheVariants as codes
+use Rattle.kc_parser.specs.between.EnclosingChoices.{HaveChoices}
 use Rattle.kc_parser.specs.between.SymbolTable.{HasNames}
 
 -- the head of a group in a listing represents the head of a group in the model, given the expressions, the names of symbols, and
@@ -48,11 +49,13 @@ RepresentsGroups exprs names texts lines end (g ∷ gs) (m ∷ ms) =
     RepresentsGroup exprs names texts (slice_range lines g.attributes end) (length ms) g m × (g.attributes ≤ end) × RepresentsGroups exprs names texts lines g.attributes gs ms
 RepresentsGroups exprs names texts lines end gs ms = ⊥
 
--- the lists of a listing represent the groups that were read, the newest first in `read`
+-- the lists of a listing represent the groups that were read, the newest first in `read`, and each group of the listing has the
+-- number of the choice that encloses it
 pub record RepresentsLists (exprs : Exprs) (symbols numbers : List ℕ) (texts : List (List ℕ)) (lines : List CodeLine) (groups : List CodeGroup) (read : List Group) : Type 0 where
   pub names : HasNames exprs symbols numbers (names_defined read)
   pub held : All (LineNodesExist exprs) lines
   pub groups_are : RepresentsGroups exprs (names_defined read) texts lines (length lines) (reverse groups) read
+  pub choices_are : HaveChoices (reverse groups)
 
 -- the listing represents all groups that were read (the newest first), with the symbols in order of first definition
 unfoldable pub RepresentsListing : Listing → List Group → Type 0

@@ -5,7 +5,9 @@ use Rattle.kc_tree_model.specs.declared.fault.TreeKind.{TreeKind}
 use Rattle.kc_tree_model.specs.declared.fault.TreeKind.TheVariants.{OutOfMemory}
 use Rattle.kc_tree_model.specs.declared.keyword.Keyword.{Keyword}
 use Rattle.kc_tree_model.specs.LogicalLines.{is_help_word}
-use Rattle.kc_tree_model.specs.Statements.{Statement, head, source}
+use Rattle.kc_tree_model.specs.Statements.{Statement}
+use Rattle.kc_tree_model.specs.declared.statement.Head.TheVariants.{Source as source}
+use Rattle.kc_tree_model.specs.declared.statement.Statement.TheVariants.{Head as head}
 use Rattle.kc_tree_model.specs.Blocks.{Group}
 use Rattle.kc_tree_model.specs.Limits.{FileSource}
 use Rattle.kc_tree_model.specs.TreeReading.{with_statement, path_to_read}

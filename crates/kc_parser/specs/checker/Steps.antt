@@ -8,8 +8,12 @@ use Rattle.kc_tree_model.specs.declared.fault.TreeFault.{TreeFault}
 use Rattle.kc_tree_model.specs.declared.fault.TreeKind.{TreeKind}
 use Rattle.kc_tree_model.specs.declared.fault.TreeKind.TheVariants.{OutOfMemory, MissingFile, TooDeep, TooMany}
 use Rattle.kc_tree_model.specs.LogicalLines.{LogicalLine, logical_lines_from, physical_lines, begins_help, lines_of}
-use Rattle.kc_tree_model.specs.Statements.{Statement, Head, Attribute, head, attribute, source}
+use Rattle.kc_tree_model.specs.Statements.{Statement, Head, Attribute}
+use Rattle.kc_tree_model.specs.declared.statement.Head.TheVariants.{Source as source}
+use Rattle.kc_tree_model.specs.declared.statement.Statement.TheVariants.{Head as head, Attribute as attribute}
 use Rattle.kc_tree_model.specs.Blocks.{Group, of_head, file_end, innermost}
+use Rattle.kc_tree_model.specs.declared.source_faults.SourceKinds.{SourceKinds}
+use Rattle.kc_tree_model.specs.declared.source_faults.TheConstants.{TREE_KINDS}
 use Rattle.kc_tree_model.specs.Limits.{FileSource, source_fault, bytes_in, is_too_deep, is_too_many}
 use Rattle.kc_tree_model.specs.TreeReading.{Outcome, read_lines, read_file, statement_on_line, with_statement, with_group, with_attribute, path_to_read, at_file_end, continue_after_statement}
 use Rattle.kc_parser.specs.between.ListingView.{RepresentsListing}
@@ -160,6 +164,16 @@ pub record IsIndentedLeft (file : ℕ) (bytes : List ℕ) (at number columns beg
 abbrev pub ReturnsSourceFile : FileSource → List ℕ → List Group → Result SourceFile TreeKind → Type 0
 ReturnsSourceFile r path before (Ok o) = (source_fault r before path ≡ None) × (o.number ≡ r.number path) × (o.bytes.now ≡ bytes_in r path)
 ReturnsSourceFile r path before (Err k) = (k ≡ OutOfMemory) ⊎ (source_fault r before path ≡ Some k)
+
+-- how many bytes a file has that was found; 0 if none was found
+abbrev pub found_size : Result SourceFile TreeKind → ℕ
+found_size (Ok o) = length o.bytes.now
+found_size (Err k) = 0
+
+-- the kinds of faults of a `source`, where its file was found or not
+abbrev pub kinds_for : Result SourceFile TreeKind → SourceKinds TreeKind
+kinds_for (Ok o) = TREE_KINDS
+kinds_for (Err k) = record TREE_KINDS { missing_file = k }
 
 -- the result of finding the file of a path: its number and bytes, or the fault `MissingFile`, or out of memory
 abbrev pub ReturnsFile : FileSource → List ℕ → Result SourceFile TreeKind → Type 0

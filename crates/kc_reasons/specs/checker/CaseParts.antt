@@ -8,7 +8,7 @@ use Rattle.kc_rules_model.specs.declared.values.UnitValue.{UnitValue}
 use Rattle.kc_rules_model.specs.Rule.{active_default, active_range, default_text}
 use Rattle.kc_rules_model.specs.declared.profile.Profile.{Profile}
 use Rattle.kc_rules_model.specs.declared.profile.Profile.TheVariants.{Present, Classic}
-use Rattle.kc_rules_model.specs.Kinds.{is_n}
+use Rattle.kc_value.specs.Tri.{is_n}
 use Rattle.kc_reasons_model.specs.declared.cases.TriCase.{TriCase}
 use Rattle.kc_reasons_model.specs.declared.cases.TriCase.TheVariants.{Imply, Dependency}
 use Rattle.kc_reasons_model.specs.declared.cases.TextCase.{TextCase}

@@ -3,7 +3,7 @@ use Rattle.std.specs.Prelude.{List, [], ◌∷◌, ◌++◌, if◌then◌else◌
 use Rattle.kc_value.specs.declared.tri.Tri.{Tri}
 use Rattle.kc_value.specs.declared.tri.Tri.TheVariants.{M}
 use Rattle.kc_expr.specs.Expr.{Expr, alone, related, negated, both, either, shown, Environment, value}
-use Rattle.kc_rules_model.specs.Kinds.{is_n}
+use Rattle.kc_value.specs.Tri.{is_n}
 use Rattle.kc_reasons_model.specs.Conjuncts.{Part, below}
 
 -- a part, if it is too low

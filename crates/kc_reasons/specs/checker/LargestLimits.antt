@@ -3,7 +3,7 @@ use Rattle.std.specs.Prelude.{Bool, not, ◌&&◌, List}
 use Rattle.kc_value.specs.declared.tri.Tri.{Tri}
 use Rattle.kc_tree_model.specs.Trees.{Tree, ReverseDependency}
 use Rattle.kc_rules_model.specs.declared.values.UnitValue.{UnitValue}
-use Rattle.kc_rules_model.specs.Kinds.{is_n}
+use Rattle.kc_value.specs.Tri.{is_n}
 use Rattle.kc_rules_model.specs.Equality.{same_tri}
 use Rattle.kc_rules_model.specs.Rule.{reverse_dependency_value}
 

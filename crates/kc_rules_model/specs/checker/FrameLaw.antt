@@ -8,7 +8,7 @@ use Rattle.kc_value.specs.declared.tri.Tri.{Tri}
 use Rattle.kc_value.specs.declared.tri.Tri.TheVariants.{N, M, Y}
 use Rattle.kc_value.specs.declared.value.Kind.{Kind}
 use Rattle.kc_value.specs.declared.value.Kind.TheVariants.{Bool as Boolean, Tristate, Text, Int, Hex}
-use Rattle.kc_value.specs.Tri.{tri_and, tri_or}
+use Rattle.kc_value.specs.Tri.{tri_and, tri_or, is_n, y_for_m, largest, is_y}
 use Rattle.kc_expr.specs.Expr.{Expr, alone, related, negated, both, either, shown, operand_text, symbol_tri, modules}
 use Rattle.kc_tree_model.specs.Trees.{Tree, Symbol, Choice, Default, Range, ReverseDependency, MemberDefault}
 use Rattle.kc_tree_model.specs.declared.ids.Unit.{Unit as TreeUnit}
@@ -24,8 +24,6 @@ use Rattle.kc_rules_model.specs.declared.values.UserValue.TheVariants.{Tri as Tr
 use Rattle.kc_rules_model.specs.declared.values.MemberLine.{MemberLine}
 use Rattle.kc_rules_model.specs.MemberLines.{is_listed, last_y, first_listed, selected_without_y, selected_by_lines}
 use Rattle.kc_tokens.specs.Languages.{is_linux_6_12}
-use Rattle.kc_rules_model.specs.Kinds.{is_n, is_y, largest}
-use Rattle.kc_value.specs.Tri.{y_for_m}
 use Rattle.kc_value.specs.Kinds.{is_bool, is_tristate, is_tri_kind}
 use Rattle.kc_value.specs.Number.{number_of_text, number_spelling}
 use Rattle.kc_rules_model.specs.SymbolValues.{condition, environment, value_of_symbol, value_in_unit, tri_symbol_value, tri_if_selected, member_of, tri_of, text_of}
@@ -464,7 +462,7 @@ module _ (tree : Tree) (v w : List UnitValue) where
     at_choice None fits all = refl
     at_choice (Some choice) fits all = ap (λ m. MemberValue m) (choice_rule_agrees choice x fits all)
 
-in_filter : (p : ℕ → Bool) (n a d : ℕ) → a ≤ d → d < a + n → p d ≡ true → Contains (filter p (range_with_len a n)) d
+pub in_filter : (p : ℕ → Bool) (n a d : ℕ) → a ≤ d → d < a + n → p d ≡ true → Contains (filter p (range_with_len a n)) d
 in_filter p zero a d low high passes = absurd (omega arith)
 in_filter p (suc n) a d low high passes = elim (cases_eq d a) [
   | inl same ↦ subst (λ b. Contains (cond b (a ∷ filter p (range_with_len (a + 1) n)) (filter p (range_with_len (a + 1) n))) d) (sym (ap p (sym same) ∙ passes)) (0, omega arith, sym same)
@@ -474,7 +472,7 @@ in_filter p (suc n) a d low high passes = elim (cases_eq d a) [
   onto true has = (suc has.0, omega (arith, has.1), has.2)
   onto false has = has
 
-each_of : (P : ℕ → Type 0) (xs : List ℕ) → ((d : ℕ) → list_any (λ e. e == d) xs ≡ true → P d) → AllByRecursion P xs
+pub each_of : (P : ℕ → Type 0) (xs : List ℕ) → ((d : ℕ) → list_any (λ e. e == d) xs ≡ true → P d) → AllByRecursion P xs
 each_of P [] h = tt
 each_of P (x ∷ xs) h = (h x (or_left (x == x) (list_any (λ e. e == x) xs) (eq-eqb x x refl)), each_of P xs (λ d t. h d (or_right (x == d) (list_any (λ e. e == d) xs) t)))
 

@@ -7,7 +7,7 @@ use Rattle.kc_value.specs.declared.tri.Tri.{Tri}
 use Rattle.kc_value.specs.declared.tri.Tri.TheVariants.{N, M, Y}
 use Rattle.kc_value.specs.declared.value.Kind.{Kind}
 use Rattle.kc_value.specs.declared.value.Kind.TheVariants.{Bool as Boolean, Tristate, Text, Int, Hex}
-use Rattle.kc_value.specs.Tri.{tri_and, tri_or}
+use Rattle.kc_value.specs.Tri.{tri_and, tri_or, is_n, y_for_m, is_m}
 use Rattle.kc_tree_model.specs.Trees.{Tree, Symbol, Choice, Range, MemberDefault}
 use Rattle.kc_tree_model.specs.declared.ids.Unit.{Unit as TreeUnit}
 use Rattle.kc_tree_model.specs.declared.ids.Unit.TheVariants.{Symbol as of_symbol, Choice as of_choice}
@@ -22,8 +22,6 @@ use Rattle.kc_rules_model.specs.MemberLines.{is_listed, last_y, first_listed, se
 use Rattle.kc_tokens.specs.declared.language.Language.{Language}
 use Rattle.kc_tokens.specs.Languages.{is_linux_6_12}
 use Rattle.kc_rules_model.specs.checker.PrintableBounds.{bound_read_back, not_below_itself}
-use Rattle.kc_rules_model.specs.Kinds.{is_m, is_n}
-use Rattle.kc_value.specs.Tri.{y_for_m}
 use Rattle.kc_value.specs.Kinds.{is_bool, is_tristate, is_tri_kind, is_number}
 use Rattle.kc_value.specs.Number.{number_of_text}
 use Rattle.kc_rules_model.specs.SymbolValues.{condition}

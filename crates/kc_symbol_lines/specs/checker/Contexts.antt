@@ -5,7 +5,7 @@ use Rattle.kc_parser.specs.declared.listing.Line.{Line}
 use Rattle.kc_parser.specs.declared.listing.GroupHead.{GroupHead}
 use Rattle.kc_parser.specs.declared.listing.GroupHead.TheVariants.{Choice, Menu, Condition}
 use Rattle.kc_checks.specs.between.Summaries.{group_at, attributes_end}
-use Rattle.kc_statements.specs.declared.statement.Conjuncts.TheVariants.{Visibles}
+use Rattle.kc_tree_model.specs.declared.statement.Conjuncts.TheVariants.{Visibles}
 use Rattle.kc_symbol_lines.specs.declared.located.Position.{Position}
 use Rattle.kc_symbol_lines.specs.declared.located.LocatedExpr.{LocatedExpr}
 use Rattle.kc_symbol_lines.specs.declared.contexts.Enclosing.{Enclosing}

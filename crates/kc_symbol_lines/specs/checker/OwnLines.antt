@@ -1,14 +1,15 @@
 -- What is on the attribute lines of a group, as the code has it.
 use Rattle.std.specs.Prelude.{ℕ, Bool, false, is_some, List, [], ◌∷◌, ◌++◌, Option, Some, None, if◌then◌else◌}
 use Rattle.kc_parser.specs.declared.listing.Line.{Line}
-use Rattle.kc_statements.specs.declared.statement.Conjuncts.{Conjuncts}
-use Rattle.kc_statements.specs.declared.statement.Conjuncts.TheVariants.{Dependencies}
+use Rattle.kc_tree_model.specs.declared.statement.Conjuncts.{Conjuncts}
+use Rattle.kc_tree_model.specs.declared.statement.Conjuncts.TheVariants.{Dependencies}
 use Rattle.kc_symbol_lines.specs.declared.own_lines.Given.{Given}
 use Rattle.kc_symbol_lines.specs.declared.own_lines.Given.TheVariants as given
 use Rattle.kc_symbol_lines.specs.declared.located.Position.{Position}
 use Rattle.kc_symbol_lines.specs.declared.located.LocatedExpr.{LocatedExpr}
-use Rattle.kc_statements.specs.between.StatementViews.{conjunct_given, default_given, is_range, prompt_given}
-use Rattle.kc_statements.specs.declared.statement.Attribute.{Attribute}
+use Rattle.kc_tree_model.specs.between.Attributes.{conjunct_given, is_range}
+use Rattle.kc_tree_model.specs.Statements.{default_of, prompt_of}
+use Rattle.kc_statements.specs.between.StatementViews.{ReadAttribute}
 
 abbrev pub position_at : (file line : ℕ) → Position
 position_at file line = record { file = file; line = line }
@@ -24,8 +25,8 @@ parts_in which file [] = []
 parts_in which file (l ∷ ls) = located_if (position_at file l.number) (conjunct_given which l.attribute) ++ parts_in which file ls
 
 -- whether an attribute is a default, or a range
-abbrev pub is_given : Given → Attribute → Bool
-is_given given.Default a = is_some (default_given a)
+abbrev pub is_given : Given → ReadAttribute → Bool
+is_given given.Default a = is_some (default_of a)
 is_given given.Range a = is_range a
 
 -- the places of defaults, or of ranges
@@ -54,4 +55,4 @@ prompt_at a file ls line (Some c) = prompt_parts a file ls line c ∷ []
 -- for each prompt among some of its lines
 abbrev pub prompts_in : EnclosingLists → ℕ → List Line → List Line → List (List LocatedExpr)
 prompts_in a file all [] = []
-prompts_in a file all (l ∷ ls) = prompt_at a file all l.number (prompt_given l.attribute) ++ prompts_in a file all ls
+prompts_in a file all (l ∷ ls) = prompt_at a file all l.number (prompt_of l.attribute) ++ prompts_in a file all ls

@@ -9,18 +9,18 @@ use Rattle.kc_tree_model.specs.Conditions.{GroupInContext}
 use Rattle.kc_tree_model.specs.Contents.{contents_of, definitions_of}
 use Rattle.kc_tree_model.specs.Limits.{names_defined}
 use Rattle.kc_reasons_model.specs.SymbolLines.{target_positions}
-use Rattle.kc_statements.specs.declared.statement.Attribute.{Attribute}
+use Rattle.kc_statements.specs.between.StatementViews.{ReadAttribute}
 use Rattle.kc_parser.specs.declared.listing.Line.{Line}
-use Rattle.kc_statements.specs.declared.statement.ReverseKind.{ReverseKind}
-use Rattle.kc_statements.specs.declared.statement.ReverseKind.TheVariants.{Select, Imply}
+use Rattle.kc_tree_model.specs.declared.statement.ReverseKind.{ReverseKind}
+use Rattle.kc_tree_model.specs.declared.statement.ReverseKind.TheVariants.{Select, Imply}
 use Rattle.kc_symbol_lines.specs.declared.located.Position.{Position}
 use Rattle.kc_symbol_lines.specs.declared.targets.GatheredLines.{GatheredLines}
 use Rattle.kc_symbol_lines.specs.between.LinesView.{position_view}
-use Rattle.kc_statements.specs.between.StatementViews.{target_given}
+use Rattle.kc_tree_model.specs.between.Attributes.{target_given}
 use Rattle.kc_symbol_lines.specs.checker.OwnLines.{position_at}
 
 -- the number of the symbol that an attribute selects, or implies, if an entry defines it
-abbrev pub target_symbol : TreeModel → ReverseKind → Attribute → Option ℕ
+abbrev pub target_symbol : TreeModel → ReverseKind → ReadAttribute → Option ℕ
 target_symbol t which a = option_and_then (symbol_of_name_id t.tree t.exprs.names) (target_given which a)
 
 abbrev pub target_keys : TreeModel → ReverseKind → List Line → List ℕ

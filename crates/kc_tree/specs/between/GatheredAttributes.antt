@@ -1,8 +1,8 @@
 -- The collected attributes of symbols, each under its symbol's number.
 use Rattle.std.specs.Prelude.{ℕ, ◌<◌, List, length, slice_index}
 use Rattle.kc_tree.specs.between.GroupedItems.{IsGrouped}
-use Rattle.kc_tree.specs.declared.tree_lists.Attributes.{Attributes}
-use Rattle.kc_tree.specs.declared.tree_lists.GroupedAttributes.{GroupedAttributes}
+use Rattle.kc_tree.specs.declared.attributes.Attributes.{Attributes}
+use Rattle.kc_tree.specs.declared.attributes.GroupedAttributes.{GroupedAttributes}
 
 -- each key of a list is below a count
 abbrev pub AreKeys : ℕ → List ℕ → Type 0

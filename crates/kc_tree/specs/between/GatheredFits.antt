@@ -2,9 +2,9 @@
 use Rattle.std.specs.Prelude.{◌≡◌, ℕ, ◌<◌, ◌^◌, length, All, Some, slice_get}
 use Rattle.kc_tree.specs.between.Views.{DefaultFits, RangeFits, HasOperands, ReverseDependencyFits, MemberDefaultFits}
 use Rattle.kc_tree.specs.between.GatheredAttributes.{AreKeys, HaveKeys}
-use Rattle.kc_tree.specs.between.StoredParts.{EntryRowFits}
-use Rattle.kc_tree.specs.declared.parts.SymbolRow.{SymbolRow}
-use Rattle.kc_tree.specs.declared.parts.ChoiceRow.{ChoiceRow}
+use Rattle.kc_tree.specs.between.StoredFits.{EntryRowFits}
+use Rattle.kc_tree.specs.declared.rows.SymbolRow.{SymbolRow}
+use Rattle.kc_tree.specs.declared.rows.ChoiceRow.{ChoiceRow}
 use Rattle.kc_tree.specs.declared.tree_lists.TreeLists.{TreeLists}
 
 -- the symbol, choice, name, expression and title numbers in the collected lists are in range, and bounds of ranges are operands

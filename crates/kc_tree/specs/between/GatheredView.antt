@@ -6,9 +6,9 @@ use Rattle.kc_tree_model.specs.Trees as tree
 use Rattle.kc_tree_model.specs.Trees.{Tree}
 use Rattle.kc_tree.specs.between.Views.{default_view, range_view, reverse_dependency_view, member_default_view}
 use Rattle.kc_tree.specs.between.GroupedItems.{items_of}
-use Rattle.kc_tree.specs.between.PartsView.{from_rows, entry_from_row}
-use Rattle.kc_tree.specs.declared.parts.SymbolRow.{SymbolRow}
-use Rattle.kc_tree.specs.declared.parts.ChoiceRow.{ChoiceRow}
+use Rattle.kc_tree.specs.between.StoredView.{from_rows, entry_from_row}
+use Rattle.kc_tree.specs.declared.rows.SymbolRow.{SymbolRow}
+use Rattle.kc_tree.specs.declared.rows.ChoiceRow.{ChoiceRow}
 use Rattle.kc_tree.specs.declared.tree_lists.TreeLists.{TreeLists}
 
 -- the symbol that a number and a row represent, with the attributes collected under the number

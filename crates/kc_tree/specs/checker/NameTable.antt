@@ -1,6 +1,6 @@
 -- The symbol of each name.
 use Rattle.std.specs.Prelude.{◌≡◌, ℕ, ◌<◌, List, length, Option, Some, None, slice_get, slice_index_or}
-use Rattle.kc_tree.specs.declared.parts.SymbolRow.{SymbolRow}
+use Rattle.kc_tree.specs.declared.rows.SymbolRow.{SymbolRow}
 
 -- `table` has the first `n` symbols at the numbers of their names, and no symbol at a number that isn't its name's
 pub record IsTable (names : ℕ) (symbols : List SymbolRow) (n : ℕ) (table : List (Option ℕ)) : Type 0 where

@@ -1,7 +1,7 @@
 -- The definitions of a tree without a fault, and what is known of its contents.
 use Rattle.kc_tree_model.proofs.Common.{◌≡◌, ◌⊎◌, inl, inr, ℕ, Bool, true, false, not, ◌&&◌, ◌||◌, List, [], ◌∷◌, ◌++◌, Option, Some, None, refl, ap, sym, ◌∙◌, subst, map, filter, list_all, slice_get, filter_map, flat_map, is_some, is_none, bytes_eq, ◌==◌, eqb-true, Language, Strict, Linux}
 use Rattle.kc_tree_model.proofs.Common.{TreeKind, ChoiceMember, TreeFault, Symbol, Choice, config, Group, Line, of_head, file_end, from_head, defined_name, opens_choice, GroupInContext, Contents, contents_of, defines, type_given, choice_of_symbol, symbol_of, choice_of, is_first_definition}
-use Rattle.kc_tree_model.proofs.Common.{choice_of_first_definition, unit_of_head, when, is_no_member_kind, may_follow_member, definition_faults, faults_of_head, faults_of_group}
+use Rattle.kc_tree_model.proofs.Common.{choice_of_first_definition, unit_of_head, when, is_no_member_kind, only_extends_member, definition_faults, faults_of_head, faults_of_group}
 use Rattle.kc_tree_model.specs.declared.ids.Unit.{Unit as TreeUnit}
 use Rattle.kc_tree_model.specs.Contents.{first_definition}
 use Rattle.kc_tree_model.specs.TreeFaults.{is_added_attribute, is_addition, is_same_choice}
@@ -53,7 +53,7 @@ right_true false b e h = h
 right_true true b e h = cc
 
 -- a definition in a choice that may follow another one is in the choice of the first
-may_follow : (l : Language) (c : Contents) (name : List ℕ) (p : GroupInContext) (n : ℕ) → p.choice ≡ Some n → may_follow_member l c name p ≡ true
+may_follow : (l : Language) (c : Contents) (name : List ℕ) (p : GroupInContext) (n : ℕ) → p.choice ≡ Some n → only_extends_member l c name p ≡ true
     → choice_of_first_definition c name ≡ Some n
 may_follow Strict c name p n i h = cc
 may_follow (Linux version) c name p n i h =
@@ -76,7 +76,7 @@ module _ (language : Language) (c : Contents) (none : (p : GroupInContext) → H
 
   pub member_rule : (p : GroupInContext) (name : List ℕ) → Has p c.places → defined_name p.group ≡ Some name
       → ((is_some p.choice && is_no_member_kind language (type_given c name)) ≡ false)
-      × ((not (is_first_definition c name p) && is_some (choice_of_symbol c name) && not (may_follow_member language c name p)) ≡ false)
+      × ((not (is_first_definition c name p) && is_some (choice_of_symbol c name) && not (only_extends_member language c name p)) ≡ false)
   member_rule p name h e = neither _ _ (not_when _ ChoiceMember (nothing_left _ _ (nothing_left _ _ (sound p name h e)).0).1)
 
   -- in a tree without a fault, a definition within a choice is its symbol's first definition, or in the same choice as that
@@ -84,7 +84,7 @@ module _ (language : Language) (c : Contents) (none : (p : GroupInContext) → H
       → choice_of_symbol c name ≡ Some k → p.choice ≡ Some n
       → (is_first_definition c name p ≡ true) ⊎ (choice_of_first_definition c name ≡ Some n)
   is_first_or_again p name k n h e m i =
-      by_first (is_first_definition c name p) (is_some (choice_of_symbol c name)) (may_follow_member language c name p) (member_rule p name h e).1 (ap is_some m)
+      by_first (is_first_definition c name p) (is_some (choice_of_symbol c name)) (only_extends_member language c name p) (member_rule p name h e).1 (ap is_some m)
       (may_follow language c name p n i)
 
 -- a group that `defines` a name has this name as its defined name

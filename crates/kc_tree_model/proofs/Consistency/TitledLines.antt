@@ -24,7 +24,7 @@ title_same : (q h : Head) (x title : List ℕ) → title_in q ≡ Some x → tit
 title_same q h x title first second r a b = let same : q ≡ h = cc in let both : Some x ≡ Some title = sym first ∙ ap title_in same ∙ second in cc
 
 titled_by : (f : List ℕ → Head) → ((x : List ℕ) → title_in (f x) ≡ Some x) → (t : Lexeme) (us : List Lexeme) (h : Head) (title : List ℕ)
-    → title_in h ≡ Some title → (b : Bool) → cond b (no_more (head (f (quoted_text t.text))) us) (Err Malformed) ≡ Ok (head h) → Titled (t ∷ us) title
+    → title_in h ≡ Some title → (b : Bool) → cond b (no_more {A = Statement} (head (f (quoted_text t.text))) us) (Err Malformed) ≡ Ok (head h) → Titled (t ∷ us) title
 titled_by f has t [] h title e true k =
     (t, [], refl, title_same (f (quoted_text t.text)) h (quoted_text t.text) title (has (quoted_text t.text)) e (Ok (head (f (quoted_text t.text)))) refl k)
 titled_by f has t (u ∷ us) h title e true k = cc
@@ -36,7 +36,7 @@ titled f has [] h title e k = cc
 titled f has (t ∷ us) h title e k = titled_by f has t us h title e (is_quoted_kind t.kind) k
 
 no_main : (t : Lexeme) (us : List Lexeme) (h : Head) (title : List ℕ) → title_in h ≡ Some title → (b : Bool)
-    → cond b (no_more (head mainmenu) us) (Err Malformed) ≡ Ok (head h) → ⊥
+    → cond b (no_more {A = Statement} (head mainmenu) us) (Err Malformed) ≡ Ok (head h) → ⊥
 no_main t [] h title e true k = not_titled mainmenu h title refl e (Ok (head mainmenu)) refl k
 no_main t (u ∷ us) h title e true k = cc
 no_main t us h title e false k = cc

@@ -1,10 +1,11 @@
 -- No file is left unread: a `source` after as many open files as may be is TooDeep before.
-use Rattle.kc_tree_model.proofs.Common.{◌≡◌, ℕ, zero, suc, ◌+◌, ◌<◌, ◌≤◌, Bool, true, false, not, cond, List, [], ◌∷◌, ◌++◌, Option, Some, None, Result, Ok, Err, refl, ap, sym, ◌∙◌, length, drop, arith, filter_map, is_some, nat_le, cons_option, leb-false, TreeKind, SourceLoop, MissingFile, TooDeep}
+use Rattle.kc_tree_model.proofs.Common.{◌≡◌, ℕ, zero, suc, ◌+◌, ◌<◌, ◌≤◌, List, [], ◌∷◌, ◌++◌, Option, Some, None, Result, Ok, Err, refl, ap, sym, ◌∙◌, length, drop, arith, filter_map, cons_option, TreeKind}
 use Rattle.kc_tree_model.proofs.Common.{TreeFault, LogicalLine, Head, config, choice, menu, condition, comment, source, Statement, head, attribute, block_of_head, path_of_head, Block, Group, Position, GroupHead, of_head, file_end, from_head, open_blocks, sourced_path, innermost, FileSource}
-use Rattle.kc_tree_model.proofs.Common.{bytes_in, is_in_list, open_files, MAX_OPEN_FILES, with_statement, with_group, path_to_read, Outcome, continue_after_file, continue_after_source, continue_after_statement, continue_after_line, read_lines, read_file}
+use Rattle.kc_tree_model.proofs.Common.{bytes_in, open_files, MAX_OPEN_FILES, with_statement, with_group, path_to_read, Outcome, continue_after_file, continue_after_source, continue_after_statement, continue_after_line, read_lines, read_file}
 use Rattle.kc_tree_model.specs.LogicalLines.{lines_of}
 use Rattle.kc_tree_model.specs.Limits.{source_fault}
 use Rattle.kc_tree_model.specs.TreeReading.{statement_on_line}
+use Rattle.kc_tree_model.proofs.SourceFaults.{faultless_source}
 use Rattle.kc_tree_model.proofs.NestedTrees.OpenTrees.{EndsMatch, ends_first}
 use Rattle.kc_tree_model.proofs.NestedTrees.LineFits.{Fits, line_fits}
 use Rattle.kc_tree_model.proofs.NestedTrees.OpenBlocks.{popped}
@@ -20,7 +21,7 @@ no_file (of_head (comment title)) b e = refl
 no_file (of_head (source path)) b e = cc
 no_file x b e = refl
 
-no_files : (gs hs : List Group) → AllBlocks gs → filter_map sourced_path (gs ++ hs) ≡ filter_map sourced_path hs
+pub no_files : (gs hs : List Group) → AllBlocks gs → filter_map sourced_path (gs ++ hs) ≡ filter_map sourced_path hs
 no_files [] hs own = refl
 no_files (g ∷ gs) hs own = ap (λ o. cons_option o (filter_map sourced_path (gs ++ hs))) (no_file g.head own.0.0 own.0.1) ∙ no_files gs hs own.1
 
@@ -35,18 +36,9 @@ pub one_more_file : (r : FileSource) (read : List Group) (at : Position) (path :
 unfolding source_group
 one_more_file r read at path = refl
 
-past_kind : (b : Bool) (k : TreeKind) (o : Option TreeKind) → cond b (Some k) o ≡ None → (b ≡ false) × (o ≡ None)
-past_kind true k o h = cc
-past_kind false k o h = (refl, h)
-
 -- if a `source` has no fault, fewer files than MAX_OPEN_FILES are open before it
 pub has_room : (r : FileSource) (read : List Group) (path : List ℕ) → source_fault r read path ≡ None → length (open_files r read) < MAX_OPEN_FILES
-unfolding source_fault
-has_room r read path h =
-    let a = past_kind (is_in_list path (open_files r read)) SourceLoop _ h in
-    let b = past_kind (not (is_some (r.bytes path))) MissingFile _ a.1 in
-    let c = past_kind (nat_le MAX_OPEN_FILES (length (open_files r read))) TooDeep _ b.1 in
-    leb-false MAX_OPEN_FILES (length (open_files r read)) c.0
+has_room r read path h = (faultless_source r read path h).few_open
 
 -- two readings of lines that agree after what was read since a file began
 abbrev Agree : List Group → (List Group → Outcome) → (List Group → Outcome) → Type 0

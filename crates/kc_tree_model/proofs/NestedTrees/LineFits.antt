@@ -320,7 +320,7 @@ line_fits language read l o h = fits_given read (lexemes_from language 0 0 l.tex
 
 -- the name that a line defines
 named_well : (t : Lexeme) (ts : List Lexeme) (name : List ℕ) (b : Bool) → is_name t ≡ b
-    → cond b (no_more (head (config t.text)) ts) (Err Malformed) ≡ Ok (head (config name)) → (t.text ≡ name) × (is_name t ≡ true)
+    → cond b (no_more {A = Statement} (head (config t.text)) ts) (Err Malformed) ≡ Ok (head (config name)) → (t.text ≡ name) × (is_name t ≡ true)
 named_well t [] name true e h = (cc, e)
 named_well t (u ∷ ts) name true e h = cc
 named_well t ts name false e h = cc
@@ -407,12 +407,12 @@ environment_value : (t : Lexeme) (ts : List Lexeme) (a : Attribute) (d : Default
 environment_value t [] a d m h = cc
 environment_value t (u ∷ ts) a d m h = environment_value_if t u (is_quoted_kind u.kind) ts a d m h
 
-no_default : (ts : List Lexeme) (a : Attribute) (d : DefaultAttribute) → default_of a ≡ Some d → no_more (attribute modules) ts ≡ Ok (attribute a) → ⊥
+no_default : (ts : List Lexeme) (a : Attribute) (d : DefaultAttribute) → default_of a ≡ Some d → no_more {A = Statement} (attribute modules) ts ≡ Ok (attribute a) → ⊥
 no_default (t ∷ ts) a d m h = cc
-no_default [] a d m h = let made : modules ≡ a = attribute_same modules a (Ok (attribute modules)) refl h in let none : default_of modules ≡ Some d = ap default_of made ∙ m in cc
+no_default [] a d m h = let made : modules ≡ a = attribute_same modules a (Ok (attribute modules)) refl h in let none : default_of {E = Expr} {O = Operand} {N = List ℕ} modules ≡ Some d = ap default_of made ∙ m in cc
 
 option_value_by : (t : Lexeme) (b c : Bool) (ts : List Lexeme) (a : Attribute) (d : DefaultAttribute) → default_of a ≡ Some d
-    → cond b (no_more (attribute modules) ts) (cond c (environment_line ts) (Err Malformed)) ≡ Ok (attribute a) → IsValueIn (t ∷ ts) d.value
+    → cond b (no_more {A = Statement} (attribute modules) ts) (cond c (environment_line ts) (Err Malformed)) ≡ Ok (attribute a) → IsValueIn (t ∷ ts) d.value
 option_value_by t true c ts a d m h = absurd (no_default ts a d m h)
 option_value_by t false true ts a d m h = environment_value t ts a d m h
 option_value_by t false false ts a d m h = cc

@@ -110,7 +110,7 @@ module _ (k : Keyword) where
       (deep_map (IsDeep ts) (HasDeepExpr k ts) (leading_expr ts) (λ h. (ts, h.0, comes ts, h.1)) (deep_leading ts)) (λ r e.
       let parsed = of_parsed ts r e in
       let parts : extent ts ++ r.rest ≡ ts = ap (λ us. extent ts ++ us) parsed.2 ∙ sym (extent_front ts) in
-      subst (λ us. OfDeep (HasDeepExpr k us)
+      subst (λ us. OfDeep {A = Statement} (HasDeepExpr k us)
       (optional_if r.rest >>= λ c. Ok (attribute (f (record { value = r.expr; single = r.single; condition = c; from_environment = false }))))) parts
       (deep_line (extent ts) r.rest (λ c. attribute (f (record { value = r.expr; single = r.single; condition = c; from_environment = false }))) (before (extent ts) r.expr parsed.0)))
 

@@ -1,6 +1,6 @@
 -- What the relation gives is what is read.
 use Rattle.kc_tree_model.proofs.Common.{◌≡◌, ◌≤◌, ◌+◌, ℕ, zero, suc, cond, List, [], ◌∷◌, Option, Some, None, refl, ap, sym, ◌∙◌, length, arith, lt-ltb, MAX_TREE_BYTES, MAX_OPEN_FILES, TreeKind, TooMany, TreeFault, LogicalLine, source, head, Group, Position, of_head, FileSource, bytes_in}
-use Rattle.kc_tree_model.proofs.Common.{with_group, Outcome, ended_by_fault, at_file_end, continue_after_file, continue_after_source, continue_after_statement, continue_after_line, read_lines, read_file, read_root, reading_from, HasLines, Appends, nothing, statement, SourcesPath, SourcesLines}
+use Rattle.kc_tree_model.proofs.Common.{with_group, Outcome, ended_by_fault, at_file_end, continue_after_file, continue_after_source, continue_after_statement, continue_after_line, read_lines, read_file, read_root, reading_from, Appends, nothing, statement, SourcesPath, SourcesLines}
 use Rattle.kc_tree_model.proofs.Common.{place, IsRead, at_end, line, sourced, ComesTo, here, past_line, past_file, into_file, FaultAt, of_line, of_source, of_end, HasFirstFile, IsWholeReading, IsCutReading, no_file, large_file, comes_to_fault}
 use Rattle.std.proofs.lemmas.Bool.{le-ltb}
 use Rattle.kc_tree_model.specs.LogicalLines.{lines_of}
@@ -9,17 +9,12 @@ use Rattle.kc_tree_model.specs.TreeReading.{statement_on_line}
 use Rattle.kc_tree_model.proofs.LineLaws.LogicalLines.{lines_are_so}
 use Rattle.kc_tree_model.proofs.NestedTrees.FileCoverage.{each_file_read}
 use Rattle.kc_tree_model.proofs.ReadingLaws.LineFaults.{line_of_nothing, line_of_statement, line_of_fault}
-use Rattle.kc_tree_model.proofs.ReadingLaws.SourceFaults.{source_of_none, source_of_fault}
 
 pub bytes_by : (o : Option (List ℕ)) (bytes : List ℕ) → o ≡ Some bytes → elim o as (λ _. List ℕ) [ None ↦ [] | Some text ↦ text ] ≡ bytes
 bytes_by None bytes e = cc
 bytes_by (Some text) bytes e = cc
 
 module _ (r : FileSource) where
-  -- the lines of a file are those that are read
-  lines_there : (path : List ℕ) (lines : List LogicalLine) → HasLines r path lines → lines_of (bytes_in r path) ≡ lines
-  lines_there path lines h = ap lines_of (bytes_by (r.bytes path) h.0 h.1) ∙ (lines_are_so h.0 lines).1 h.2
-
   -- a line that appends
   appended : (sub : List ℕ → List Group → Outcome) (rest : List Group → Outcome) (at : Position) (l : LogicalLine) (read next : List Group)
       → Appends r at l read next
@@ -52,10 +47,10 @@ module _ (r : FileSource) where
   through_file n zero file l ls lines read path inner o s h few e = absurd (omega arith)
   through_file n (suc m) file l ls lines read path inner o s h few e =
       let next : List Group = with_group (place file l) (of_head (source path)) read in
-      let sub : read_file (suc m) r path next ≡ inner = ap (λ x. read_lines (read_file m r) r (r.number path) x next) (lines_there path lines s.has_lines)
+      let sub : read_file (suc m) r path next ≡ inner = ap (λ x. read_lines (read_file m r) r (r.number path) x next) ((lines_are_so (bytes_in r path) lines).1 s.has_lines)
       ∙ h m (omega arith) in
       sourced_line (read_file (suc m) r) (read_lines (read_file (suc m) r) r file ls) (place file l) l read path None s.sources
-      (source_of_none r read path s.faultless)
+      s.faultless
       ∙ ap (λ (x : Outcome). continue_after_file (read_lines (read_file (suc m) r) r file ls) (place file l) x x.fault) sub
       ∙ e
 
@@ -98,8 +93,7 @@ module _ (r : FileSource) where
     (_, refl),
   )
   fault_there file read _ _ (of_source {l = l} {ls = ls} {path = path} {kind = kind} s first) = (
-    (λ m. sourced_line (read_file m r) (read_lines (read_file m r) r file ls) (place file l) l read path (Some kind) s
-        (source_of_fault r read path kind first)),
+    (λ m. sourced_line (read_file m r) (read_lines (read_file m r) r file ls) (place file l) l read path (Some kind) s first),
     (_, refl),
   )
   fault_there file read _ _ (of_end e) = ((λ m. ap (at_file_end file read) e), (_, refl))
@@ -107,7 +101,7 @@ module _ (r : FileSource) where
   -- the first file
   root_read : (n : ℕ) (lines : List LogicalLine) (o : Outcome) → HasFirstFile r lines → Reads n (r.number r.root) lines [] o → reading_from r ≡ o
   root_read n lines o b h =
-      let all : lines_of (bytes_in r r.root) ≡ lines = lines_there r.root lines (b.0, b.1, b.3) in
+      let all : lines_of (bytes_in r r.root) ≡ lines = ap lines_of (bytes_by (r.bytes r.root) b.0 b.1) ∙ (lines_are_so b.0 lines).1 b.3 in
       let more : suc (MAX_OPEN_FILES + n) ≡ MAX_OPEN_FILES + suc n = omega arith in
       ap (read_root r) b.1
       ∙ ap (λ large. cond large (ended_by_fault (record { file = r.number r.root; line = 0 }) TooMany []) (read_file MAX_OPEN_FILES r r.root []))

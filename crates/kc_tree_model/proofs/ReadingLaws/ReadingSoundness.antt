@@ -1,7 +1,7 @@
 -- What is read is what the relation gives.
-use Rattle.kc_tree_model.proofs.Common.{◌≡◌, ◌≤◌, ◌<◌, ◌+◌, ℕ, zero, suc, Bool, true, false, cond, List, [], ◌∷◌, Option, Some, None, Result, Ok, Err, refl, ap, sym, ◌∙◌, subst, length, drop, arith, ◌↔◌, nat_lt, ltb-true, ltb-false, MAX_TREE_BYTES, MAX_OPEN_FILES, TreeKind, MissingFile, TooMany}
+use Rattle.kc_tree_model.proofs.Common.{◌≡◌, ◌≤◌, ◌<◌, ◌+◌, ℕ, zero, suc, Bool, true, false, cond, List, [], ◌∷◌, Option, Some, None, Result, Ok, Err, refl, ap, sym, ◌∙◌, subst, length, drop, arith, ◌↔◌, nat_lt, ltb-true, ltb-false, MAX_TREE_BYTES, MAX_OPEN_FILES, TreeKind, TooMany}
 use Rattle.kc_tree_model.proofs.Common.{TreeFault, LogicalLine, source, Statement, head, attribute, Block, Group, of_head, file_end, innermost, open_blocks, FileSource, bytes_in, open_files, with_statement, with_group, path_to_read, Outcome, ended_by_fault, at_file_end, continue_after_file}
-use Rattle.kc_tree_model.proofs.Common.{continue_after_source, continue_after_statement, continue_after_line, read_lines, read_file, read_root, reading_from, HasForm, HasLines, Appends, nothing, statement, SourcesPath, SourcesLines, place, IsRead, at_end, line, sourced, ComesTo, here, past_line}
+use Rattle.kc_tree_model.proofs.Common.{continue_after_source, continue_after_statement, continue_after_line, read_lines, read_file, read_root, reading_from, HasForm, Appends, nothing, statement, SourcesPath, SourcesLines, place, IsRead, at_end, line, sourced, ComesTo, here, past_line}
 use Rattle.kc_tree_model.proofs.Common.{past_file, into_file, FaultAt, of_line, of_source, of_end, HasFirstFile, IsWholeReading, IsCutReading, no_file, large_file, comes_to_fault}
 use Rattle.kc_tree_model.specs.LogicalLines.{lines_of}
 use Rattle.kc_tree_model.specs.Limits.{source_fault}
@@ -13,7 +13,6 @@ use Rattle.kc_tree_model.proofs.NestedTrees.OpenBlocks.{popped}
 use Rattle.kc_tree_model.proofs.NestedTrees.ReadingNests.{Since, Closes, Reads, after_given, source_group, file_closes}
 use Rattle.kc_tree_model.proofs.NestedTrees.FileCoverage.{same_files, one_more_file, has_room}
 use Rattle.kc_tree_model.proofs.ReadingLaws.LineFaults.{IsFaultless, LineIs, line_is}
-use Rattle.kc_tree_model.proofs.ReadingLaws.SourceFaults.{SourceIs, source_is}
 use Rattle.kc_tree_model.proofs.ReadingLaws.ReadingCompleteness.{bytes_by, whole_read, cut_read}
 
 -- the relation of reading comes from these remaining lines of a file to a fault that ends the reading with outcome `o`
@@ -31,11 +30,6 @@ pub record Has (r : FileSource) (file : ℕ) (ls : List LogicalLine) (read : Lis
 -- the relation has each outcome of these lines, after what was read since a file began
 abbrev HasAll : FileSource → List Group → ℕ → List LogicalLine → (List Group → Outcome) → Type 0
 HasAll r start file ls p = (read : List Group) → Since start read → Has r file ls read (p read)
-
-some_by : (bytes : List ℕ → Option (List ℕ)) (path : List ℕ) (o : Option (List ℕ)) → bytes path ≡ o → (bytes path ≡ None → ⊥)
-    → (text : List ℕ) × (bytes path ≡ Some text)
-some_by bytes path None e h = absurd (h e)
-some_by bytes path (Some text) e h = (text, e)
 
 some_or_none : (o : Option TreeFault) (fault : TreeFault) → o ≡ None → o ≡ Some fault → ⊥
 some_or_none o fault e h = cc
@@ -56,11 +50,6 @@ module _ (r : FileSource) where
         whole = λ h. absurd (some_or_none o.fault fault h e);
         cut = λ _ _. record { at = file; rest = ls; there = read; comes = here; fault = f };
       }
-
-  file_lines : (path : List ℕ) → (r.bytes path ≡ None → ⊥) → HasLines r path (lines_of (bytes_in r path))
-  file_lines path there =
-      let (text, e) = some_by r.bytes path (r.bytes path) refl there in
-      (text, e, (lines_are_so text (lines_of (bytes_in r path))).0 (ap lines_of (sym (bytes_by (r.bytes path) text e))))
 
   at_last : (file : ℕ) (read : List Group) (o : Option (Group × Block)) → innermost read ≡ o → Has r file [] read (at_file_end file read o)
   at_last file read None e = record { whole = λ h. at_end e; cut = λ fault h. absurd (some_or_none None fault refl h) }
@@ -107,18 +96,18 @@ module _ (r : FileSource) where
 
     has_source : (p : List Group → Outcome) (file : ℕ) (l : LogicalLine) (ls : List LogicalLine) (read : List Group) (path : List ℕ) (k : Option TreeKind)
         → source_fault r read path ≡ k
-        → SourceIs r read path k → SourcesPath r read l path → HasAll r start file ls p → Since start read
+        → SourcesPath r read l path → HasAll r start file ls p → Since start read
         → Has r file (l ∷ ls) read (continue_after_source f p (place file l) path (source_group read (place file l) path ∷ read) k)
     unfolding source_group Reads
-    has_source p file l ls read path (Some kind) e is sources rest s = has_fault file (l ∷ ls) read _ _ refl (of_source sources is)
-    has_source p file l ls read path None e is sources rest s =
+    has_source p file l ls read path (Some kind) e sources rest s = has_fault file (l ∷ ls) read _ _ refl (of_source sources e)
+    has_source p file l ls read path None e sources rest s =
         let next : List Group = source_group read (place file l) path ∷ read in
         let same = same_files r start read s in
         let matched : EndsMatch next = ((λ c. cc), s.matched) in
         let room : length (open_files r start) < MAX_OPEN_FILES = omega (arith, has_room r read path e, same) in
         let sub = within path next refl matched room (one_more_file r read (place file l) path ∙ ap suc same) in
         has_after p file l ls read path (f path next) (f path next).fault refl rest s
-        (record { sources = sources; faultless = is; has_lines = file_lines path (is MissingFile) }) sub (λ h. closes path next refl matched h)
+        (record { sources = sources; faultless = e; has_lines = (lines_are_so (bytes_in r path) (lines_of (bytes_in r path))).0 refl }) sub (λ h. closes path next refl matched h)
 
     has_statement : (p : List Group
         → Outcome) (file : ℕ) (l : LogicalLine) (ls : List LogicalLine) (read : List Group) (s : Statement) (path : Option (List ℕ)) → path_to_read
@@ -133,7 +122,7 @@ module _ (r : FileSource) where
         let same : y ≡ path = cc in
         subst (λ x. Has r file (l ∷ ls) read
         (continue_after_source f p (place file l) x (with_group (place file l) (of_head (source y)) read) (source_fault r read x))) same
-        (has_source p file l ls read y (source_fault r read y) refl (source_is r read y) (record { faultless = faultless; form = form }) rest since)
+        (has_source p file l ls read y (source_fault r read y) refl (record { faultless = faultless; form = form }) rest since)
     has_statement p file l ls read (head x) (Some path) e faultless form fits rest since = cc
     has_statement p file l ls read (attribute a) (Some path) e faultless form fits rest since = cc
 

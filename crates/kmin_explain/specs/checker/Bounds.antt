@@ -2,7 +2,7 @@
 use Rattle.std.specs.Prelude.{Bool, true, false}
 use Rattle.kc_value.specs.declared.tri.Tri.{Tri}
 use Rattle.kc_value.specs.declared.tri.Tri.TheVariants.{N, M}
-use Rattle.kc_rules_model.specs.Kinds.{is_n, is_y}
+use Rattle.kc_value.specs.Tri.{is_y, is_n}
 
 -- whether nothing that is to be shown is above a bound, or else below it
 abbrev pub is_never_off : (above : Bool) → Tri → Bool

@@ -1,9 +1,9 @@
 -- The definitions of symbols among the statements of a listing.
-use Rattle.std.specs.Prelude.{ℕ, Bool, true, false, ◌&&◌, ◌==◌, [], ◌∷◌, nat_le, List, length, find, reverse, Option, Some, None, option_and_then, option_map, slice_range, if◌then◌else◌}
+use Rattle.std.specs.Prelude.{ℕ, Bool, true, false, ◌&&◌, ◌==◌, [], ◌∷◌, nat_le, List, length, find, reverse, Option, Some, None, is_some, option_and_then, option_map, slice_range, if◌then◌else◌}
 use Rattle.std.specs.List.{list_any, range_with_len}
 use Rattle.std.specs.Option.{option_or}
-use Rattle.kc_statements.specs.declared.statement.Attribute.{Attribute}
-use Rattle.kc_statements.specs.declared.statement.Attribute.TheVariants.{Typed, TypedPrompt, TypedDefault}
+use Rattle.kc_statements.specs.between.StatementViews.{ReadAttribute}
+use Rattle.kc_tree_model.specs.Statements.{type_of}
 use Rattle.kc_parser.specs.declared.listing.Group.{Group}
 use Rattle.kc_parser.specs.declared.listing.GroupHead.{GroupHead}
 use Rattle.kc_parser.specs.declared.listing.GroupHead.TheVariants.{Config}
@@ -49,11 +49,8 @@ abbrev pub first_of : List Group → (symbol : ℕ) → Option TextPlace
 first_of groups symbol = option_map place_of (find (defines symbol) groups)
 
 -- whether an attribute gives a type
-abbrev pub gives_type : Attribute → Bool
-gives_type (Typed kind) = true
-gives_type (TypedPrompt kind condition) = true
-gives_type (TypedDefault kind default) = true
-gives_type attribute = false
+abbrev pub gives_type : ReadAttribute → Bool
+gives_type a = is_some (type_of a)
 
 -- whether one of the attributes from one place up to another gives a type; false where the list doesn't have them
 abbrev pub has_type : List Line → (begin end : ℕ) → Bool

@@ -11,7 +11,7 @@ use Rattle.kc_answers.specs.ReadAnswers.{AreAnswersRefused}
 use Rattle.kmin_inputs.specs.FileContents.{VariableContent, MatchVariable}
 use Rattle.kmin_report.specs.StandardError.{SpelledBytes, TakesLines}
 use Rattle.kmin_report.specs.Reports.{ErrorLine, answers_line}
-use Rattle.kmin_options.specs.Jobs.{Expansion}
+use Rattle.kmin_options.specs.Jobs.{GivenExpansion}
 use Rattle.kc_answers.specs.RunStates.{questions_of}
 use Rattle.kmin_inputs.specs.JobAnswers.{lent_answer, AreJobAnswers}
 use Rattle.kmin_inputs.specs.AnswerStops.{StopsAtAnswers, answers_status}
@@ -46,6 +46,6 @@ pub record AreLent (variable_of : List ℕ → VariableContent) (names : List (L
   pub each : (question : List ℕ) → keyword_in_table after question ≡ option_or (keyword_in_table before question) (lent_answer names values question)
 
 -- the answers to a job's questions, and the questions that its answer files answer, in order of their first answers
-pub record AnswersAndQuestions (content_of : List ℕ → FileContent) (variable_of : List ℕ → VariableContent) (expansion : Expansion) (answers : RecordedAnswers) (answered : List (List ℕ)) : Type 0 where
+pub record AnswersAndQuestions (content_of : List ℕ → FileContent) (variable_of : List ℕ → VariableContent) (expansion : GivenExpansion) (answers : RecordedAnswers) (answered : List (List ℕ)) : Type 0 where
   pub job : AreJobAnswers content_of variable_of expansion answers
   pub answered_are : answered ≡ questions_of job.recorded

@@ -9,7 +9,7 @@ use Rattle.kc_dotconfig_model.specs.PrefixGrammar.{is_prefix}
 use Rattle.kc_value.specs.Lines.{has_newline}
 use Rattle.kc_macros_model.specs.Variables.{is_environment_name}
 use Rattle.kc_tree_model.specs.LogicalLines.{without_white_end}
-use Rattle.kmin_options.specs.Jobs.{Definition, Expansion}
+use Rattle.kmin_options.specs.Jobs.{Definition, GivenExpansion}
 
 -- the one value that was found for an option or a word of the command line; empty if there is none
 abbrev pub value_of : Found → List ℕ → List ℕ
@@ -84,7 +84,7 @@ and_then (Ok x) f = f x
 and_then (Err line) f = Err line
 
 -- the values of `--answers`, `--define` and `--env`; refused if one is malformed, or if the path of `--tree` has a newline
-abbrev pub expansion_of : Found → ValueResult Expansion
+abbrev pub expansion_of : Found → ValueResult GivenExpansion
 expansion_of found =
     and_then (definitions_of (values_of found (codes "define"))) (λ definitions.
     and_then (environment_of (values_of found (codes "env"))) (λ environment.
@@ -100,7 +100,7 @@ is_expanded found =
     || nat_lt 0 (length (values_of found (codes "env")))))
 
 -- the values of `--answers`, `--define` and `--env`, or `None` if no option turns the expansion of macros on
-abbrev pub expansion_if_given : Found → ValueResult (Option Expansion)
+abbrev pub expansion_if_given : Found → ValueResult (Option GivenExpansion)
 expansion_if_given found = if is_expanded found then and_then (expansion_of found) (λ e. Ok (Some e)) else Ok None
 
 -- the value of `--prefix`; refused unless names of symbols in configuration files may have it in front

@@ -6,7 +6,7 @@ use Rattle.kc_tree_model.specs.Trees.{Tree}
 use Rattle.kc_rules_model.specs.declared.values.UserValue.{UserValue}
 use Rattle.kc_dotconfig_model.specs.Formats.{FileFormat}
 use Rattle.kc_dotconfig_model.specs.ConfigLines.{LineMeaning}
-use Rattle.kc_dotconfig_model.specs.ConfigFiles.{FileMeans, notices_from, file_assignment, overlaid_by}
+use Rattle.kc_dotconfig_model.specs.ConfigFiles.{FileMeans, notices_from, file_assignment, merged_files}
 use Rattle.kc_dotconfig_model.specs.LoadFaults.{IsAccepted}
 use Rattle.kc_dotconfig_model.specs.declared.choice_line.ChoiceLine.{ChoiceLine}
 use Rattle.kc_dotconfig_model.specs.OtherChoices.{choice_lines_from}
@@ -35,7 +35,7 @@ pub record IsLoaded (content : FileContent) (format : FileFormat) (tree : Tree) 
 pub record AreLoaded (content_of : List ℕ → FileContent) (format : FileFormat) (strict : Bool) (tree : Tree) (paths : List (List ℕ)) (before users : List (Option UserValue)) (taken : SpelledBytes) (failed : ℕ) (taken_after : SpelledBytes) (failed_after : ℕ) : Type 0 where
   pub meanings : List (List LineMeaning)
   pub mean : FilesMean content_of format strict tree paths meanings
-  pub users_are : users ≡ overlaid_by tree before meanings
+  pub users_are : users ≡ merged_files tree before meanings
   pub reported : TakesLines taken failed (notice_lines tree paths meanings) taken_after failed_after
 
 -- the lines of members of several files, from the vectors that hold them

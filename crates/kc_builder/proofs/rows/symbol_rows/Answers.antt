@@ -15,9 +15,9 @@ pub loop-s-preserved : goal.loop-s-preserved
 loop-s-preserved c =
     let e = as_many c.args.listing.now c.args.symbols.now c.requires.shown c.requires.symbols in
     let n = ap length c.as_slice-names.ensures.value in
-    let about = get_or c.args.symbols.now c.loop-s.s nothing in
-    let r = c.row_of.ensures ∙ ap (λ g. row_of_symbol g c.index-names-s.result about) c.as_slice-groups.ensures.value
-    ∙ ap (λ i. row_of_symbol c.args.listing.now.groups.items i about) c.index-names-s.is in
+    let symbol_summary = get_or c.args.symbols.now c.loop-s.s nothing in
+    let r = c.row_of.ensures ∙ ap (λ g. row_of_symbol g c.index-names-s.result symbol_summary) c.as_slice-groups.ensures.value
+    ∙ ap (λ i. row_of_symbol c.args.listing.now.groups.items i symbol_summary) c.index-names-s.is in
     row_more c.args.listing.now.groups.items c.as_slice-names.result.now c.args.symbols.now c.loop-s.rows.items c.push.new.self.items c.loop-s.s
     c.index-names-s.result nothing (omega arith) (omega arith) c.loop-s.invariant
     (c.in_ok-push.ensures.items ∙ ap (λ x. c.loop-s.rows.items ++ x ∷ []) r)

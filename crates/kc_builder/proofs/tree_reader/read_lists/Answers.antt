@@ -27,8 +27,8 @@ returns c =
     let shown = shown_of_reading files root l given e.fault e.read c.in-None.is in
     let read : IsReadIn c.language.result l files root = record { written = c.language.ensures; shows = shown } in
     record {
-      ok = IfOk-weaker c.lists_of.result (IsGatheredRead files root) (IsGathered files root)
-          (λ g k. record { untold = reported_tree_fault files root l given e.fault e.read None c.in-None.is k.faultless; lists = k.lists; lines = k.lines })
+      ok = IfOk-weaker c.lists_of.result (λ r. IsGatheredRead files root r.0 r.1) (λ r. IsGathered files root r.0 r.1)
+          (λ r k. record { untold = reported_tree_fault files root l given e.fault e.read None c.in-None.is k.faultless; lists = k.lists; lines_are = k.lines_are })
           (c.lists_of.ensures.ok files root read);
       fault = IfErr-weaker c.lists_of.result (IsFaultRead files root) (λ f. (f ≡ no_memory) ⊎ IsReportedFault files root f)
           (λ f k. reported_or_memory files root f (reported_of_checks files root l given e.fault e.read f c.in-None.is k))

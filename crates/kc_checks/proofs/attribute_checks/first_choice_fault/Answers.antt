@@ -1,4 +1,5 @@
 use Rattle.kc_checks.proofs.Common.{◌≡◌, ◌||◌, Some, sym, ap, ◌∙◌, arith, common_steps, elements, is_some, TreeFault, prompt_of, choice_faults, attribute_in}
+use Rattle.kc_statements.proofs.AttributeViews.{is_prompt_same}
 use Rattle.kc_checks.proofs.FaultKinds.{left_more, left_reported, left_none}
 use Rattle.kc_checks.proofs.attribute_checks.first_choice_fault.Goals as goal
 use Rattle.kc_checks.proofs.attribute_checks.first_choice_fault.Goals.{then-prompted, else-prompted}
@@ -10,7 +11,7 @@ returns-in-Some c = record {
       let l = c.index-lines-i.result in
       let reported = left_reported e g (choice_faults members) c.loop-i.prompted c.args.lines.now c.loop-i.i l c.in-Some.kind (omega arith) c.index-lines-i.is
       (c.in-Some.ensures.fault read members h m) in
-      ap Some (c.fault_at.ensures ∙ ap (λ n. let t : TreeFault = record { file = Some n; line = l.number; kind = c.in-Some.kind } in t) (sym f))
+      ap Some (c.at_line.ensures ∙ ap (λ n. let t : TreeFault = record { file = Some n; line = l.number; kind = c.in-Some.kind } in t) (sym f))
       ∙ sym (c.loop-i.invariant read g members h m f ∙ reported);
 }
 
@@ -22,7 +23,7 @@ loop-i-preserved c = λ read g members h m f.
     let prompted : c.if-prompted.prompted ≡ (c.loop-i.prompted || prompts) =
     elim c.if-prompted.branch [
       | then-prompted w ↦ w.prompted-is ∙ w.if-prompted.true ∙ sym (ap (λ b. b || prompts) w.if-prompted.true)
-      | else-prompted w ↦ w.prompted-is ∙ w.is_prompt-prompted.ensures.prompt e ∙ sym (ap (λ b. b || prompts) w.if-prompted.false)
+      | else-prompted w ↦ w.prompted-is ∙ w.is_prompt-prompted.ensures ∙ is_prompt_same e l.attribute ∙ sym (ap (λ b. b || prompts) w.if-prompted.false)
     ] in
     c.loop-i.invariant read g members h m f
     ∙ left_more e g (choice_faults members) c.loop-i.prompted c.if-prompted.prompted c.args.lines.now c.loop-i.i l (omega arith) c.index-lines-i.is

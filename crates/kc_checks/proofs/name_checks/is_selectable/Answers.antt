@@ -1,5 +1,5 @@
 use Rattle.kc_checks.proofs.Common.{None, get_or, sym, ◌∙◌, place-get, contents_of, names_defined, SymbolSummary}
-use Rattle.kc_checks.proofs.Symbols.{about_is, kind_is, symbol_below, undefined_selectable, selectable_some, selectable_none}
+use Rattle.kc_checks.proofs.Symbols.{symbol_summary_is, kind_is, symbol_below, undefined_selectable, selectable_some, selectable_none}
 use Rattle.kc_checks.proofs.name_checks.is_selectable.Goals as goal
 
 abbrev nothing : SymbolSummary
@@ -15,17 +15,17 @@ pub returns-in-Some-kind : goal.returns-in-Some-kind
 returns-in-Some-kind c = record {
   value = λ read h.
       let at = place-get c.args.name.now (names_defined read) c.in-Some.s (sym (c.in-Some.ensures read h)) in
-      let about = about_is read c.args.symbols.now (c.requires.symbols read h) c.in-Some.s c.args.name.now nothing at in
+      let symbol_summary = symbol_summary_is read c.args.symbols.now (c.requires.symbols read h) c.in-Some.s c.args.name.now nothing at in
       c.is_tri_kind.ensures ∙ sym (selectable_some (contents_of read) c.args.name.now c.in-Some-kind.kind
-      (sym (kind_is read c.args.name.now (get_or c.args.symbols.now c.in-Some.s nothing) about) ∙ sym c.in-Some-kind.ensures));
+      (sym (kind_is read c.args.name.now (get_or c.args.symbols.now c.in-Some.s nothing) symbol_summary) ∙ sym c.in-Some-kind.ensures));
 }
 
 pub returns-in-None-kind : goal.returns-in-None-kind
 returns-in-None-kind c = record {
   value = λ read h.
       let at = place-get c.args.name.now (names_defined read) c.in-Some.s (sym (c.in-Some.ensures read h)) in
-      let about = about_is read c.args.symbols.now (c.requires.symbols read h) c.in-Some.s c.args.name.now nothing at in
-      sym (selectable_none (contents_of read) c.args.name.now (sym (kind_is read c.args.name.now (get_or c.args.symbols.now c.in-Some.s nothing) about)
+      let symbol_summary = symbol_summary_is read c.args.symbols.now (c.requires.symbols read h) c.in-Some.s c.args.name.now nothing at in
+      sym (selectable_none (contents_of read) c.args.name.now (sym (kind_is read c.args.name.now (get_or c.args.symbols.now c.in-Some.s nothing) symbol_summary)
       ∙ sym c.in-None-kind.ensures));
 }
 

@@ -1,9 +1,9 @@
-use Rattle.kc_checks.proofs.Common.{◌≡◌, false, Some, length, map, sym, ap, ◌∙◌, arith, elements, slice_get, is_some, option_map, option_or, get_or_read, length-map, TreeFault, groups_in_context, contents_of, names_defined, attribute_faults, faults_of_lines, kind_of, line_in, as_many_names}
+use Rattle.kc_checks.proofs.Common.{◌≡◌, false, Some, map, sym, ap, ◌∙◌, arith, elements, slice_get, is_some, option_map, option_or, get_or_read, TreeFault, groups_in_context, contents_of, names_defined, attribute_faults, faults_of_lines, kind_of, line_in, as_many_names}
 use Rattle.kc_checks.proofs.Common.{enclosing_choice, group_at, no_group, choice_around, SymbolSummary, RepresentsListing, IsSummary}
-use Rattle.kc_checks.proofs.GroupPlaces.{count_is, placed_count}
 use Rattle.kc_checks.proofs.FaultKinds.{fault_of, follow_is}
-use Rattle.kc_checks.proofs.FaultSearch.{again_is, config_first, config_there, definition_reported, enclosing_some, place_at, enclosing_got}
-use Rattle.kc_checks.proofs.Symbols.{about_is, as_many_abouts, kind_is, symbol_there}
+use Rattle.kc_checks.proofs.FaultSearch.{again_is, config_first, config_there, definition_reported, enclosing_some, place_at}
+use Rattle.kc_checks.proofs.Rounds.{enclosing_got}
+use Rattle.kc_checks.proofs.Symbols.{symbol_summary_is, as_many_abouts, kind_is, symbol_there}
 use Rattle.kc_checks.proofs.search.config_fault.Goals as goal
 
 pub index-requires : goal.index-requires
@@ -14,28 +14,6 @@ index-requires c =
     let h = c.requires.shown.shows in
     let there = symbol_there l.names.arena l.texts.items l.lines.items l.groups.items read h.groups_are c.args.i c.args.s c.requires.here c.requires.head in
     let n = as_many_abouts (contents_of read) (groups_in_context read) c.args.summary.now.symbols.items (c.requires.summary read h).symbols in
-    omega arith
-
-pub index-requires-2 : goal.index-requires-2
-unfolding RepresentsListing IsSummary
-index-requires-2 c =
-    let l = c.args.listing.now in
-    let read = c.requires.shown.read in
-    let h = c.requires.shown.shows in
-    let n = count_is l.names.arena (names_defined read) l.texts.items l.lines.items l.groups.items read h.groups_are in
-    let m : length c.args.summary.now.enclosing.items ≡ length read = ap length (c.requires.summary read h).enclosing
-    ∙ length-map (groups_in_context read) (enclosing_choice (contents_of read)) ∙ placed_count read in
-    omega arith
-
-pub index-requires-4 : goal.index-requires-4
-unfolding RepresentsListing IsSummary
-index-requires-4 c =
-    let l = c.args.listing.now in
-    let read = c.requires.shown.read in
-    let h = c.requires.shown.shows in
-    let n = count_is l.names.arena (names_defined read) l.texts.items l.lines.items l.groups.items read h.groups_are in
-    let m : length c.args.summary.now.enclosing.items ≡ length read = ap length (c.requires.summary read h).enclosing
-    ∙ length-map (groups_in_context read) (enclosing_choice (contents_of read)) ∙ placed_count read in
     omega arith
 
 pub is_modules-is_modules-requires-clause-here : goal.is_modules-is_modules-requires-clause-here
@@ -59,26 +37,27 @@ returns-in-Some c = record {
       let w = config_there l.names.arena names l.texts.items (group_at l.groups.items c.args.i).head c.args.s p.group.head a.head c.requires.head in
       let name = w.0 in
       let known = c.requires.summary read h in
-      let about = c.index.ensures ∙ about_is read m.symbols.items known.symbols c.args.s name c.index.result.now w.1 in
-      let member = c.is_some-is_member.ensures ∙ ap is_some (c.index-2.ensures
-      ∙ enclosing_got read m.enclosing.items c.args.i p c.index-2.result.now known.enclosing at) in
+      let symbol_summary = c.index.ensures ∙ symbol_summary_is read m.symbols.items known.symbols c.args.s name c.index.result.now w.1 in
+      let group = get_or_read l.groups.items _ _ c.requires.here c.index-group.ensures no_group in
+      let own : c.index-group.result.now.choice ≡ enclosing_choice (contents_of read) p = ap (λ g. g.choice) group
+      ∙ enclosing_got l.names.arena names l.texts.items l.lines.items l.groups.items read h.groups_are h.choices_are c.args.i p at in
+      let member = c.is_some-is_member.ensures ∙ ap is_some own in
       let again = again_is l.names.arena names l.texts.items l.lines.items l.groups.items read h.groups_are name p c.choice_around-first_choice.result
-      c.index-4.result.now c.is_same_choice-is_again.result a.has
-      (c.choice_around-first_choice.ensures ∙ ap (λ es. choice_around es c.index.result.now.first) (c.deref.ensures.value ∙ known.enclosing)
-      ∙ ap (λ (x : SymbolSummary). choice_around (map (enclosing_choice (contents_of read)) (groups_in_context read)) x.first) about)
-      (c.index-4.ensures ∙ enclosing_got read m.enclosing.items c.args.i p c.index-4.result.now known.enclosing at)
-      c.is_same_choice-is_again.ensures in
+      c.index-group.result.now.choice c.is_same_choice-is_again.result a.has h.choices_are
+      (c.choice_around-first_choice.ensures ∙ ap (λ gs. choice_around gs c.index.result.now.first) c.deref.ensures.value
+      ∙ ap (λ (x : SymbolSummary). choice_around l.groups.items x.first) symbol_summary)
+      own c.is_same_choice-is_again.ensures in
       let follow = c.only_extends_member-may_follow.ensures ∙ follow_is c.args.language l.names.arena (contents_of read) name p c.is_some-is_member.result
       c.is_same_choice-is_again.result c.lines_of-lines.result.now
       (member ∙ enclosing_some read p a.has) again (a.attributes ∙ sym (ap (map (line_in l.names.arena)) c.lines_of-lines.ensures.lines)) in
       let reported = definition_reported c.args.language read p name c.args.i c.index.result.now c.is_some-is_member.result c.is_misfit-is_misfit.result
-      c.is_first-is_first.result c.is_modules-is_modules.result c.only_extends_member-may_follow.result a.has a.number about member
+      c.is_first-is_first.result c.is_modules-is_modules.result c.only_extends_member-may_follow.result a.has a.number symbol_summary member
       c.is_misfit-is_misfit.ensures c.is_first-is_first.ensures
       (c.is_modules-is_modules.ensures.value read name h w.1) follow in
-      let file = ap (λ g. g.file) (get_or_read l.groups.items _ _ c.requires.here c.index-3.ensures no_group) ∙ sym a.file in
-      let line = ap (λ g. g.line) (get_or_read l.groups.items _ _ c.requires.here c.index-in-Some.ensures no_group) ∙ sym a.line in
-      ap Some (c.fault_at.ensures
-      ∙ ap (λ f. let t : TreeFault = record { file = Some f; line = c.index-in-Some.result.now.line; kind = c.in-Some.kind } in t) file
+      let file = ap (λ g. g.file) group ∙ sym a.file in
+      let line = ap (λ g. g.line) group ∙ sym a.line in
+      ap Some (c.at_line.ensures
+      ∙ ap (λ f. let t : TreeFault = record { file = Some f; line = c.index-group.result.now.line; kind = c.in-Some.kind } in t) file
       ∙ ap (λ n. fault_of p.group n c.in-Some.kind) line)
       ∙ sym (config_first c.args.language (contents_of read) p name w.2
       ∙ ap (λ o. option_or (option_map (fault_of p.group p.group.at.line) o)
@@ -101,25 +80,26 @@ returns c = record {
       let w = config_there l.names.arena names l.texts.items (group_at l.groups.items c.args.i).head c.args.s p.group.head a.head c.requires.head in
       let name = w.0 in
       let known = c.requires.summary read h in
-      let about = c.index.ensures ∙ about_is read m.symbols.items known.symbols c.args.s name c.index.result.now w.1 in
-      let member = c.is_some-is_member.ensures ∙ ap is_some (c.index-2.ensures
-      ∙ enclosing_got read m.enclosing.items c.args.i p c.index-2.result.now known.enclosing at) in
+      let symbol_summary = c.index.ensures ∙ symbol_summary_is read m.symbols.items known.symbols c.args.s name c.index.result.now w.1 in
+      let group = get_or_read l.groups.items _ _ c.requires.here c.index-group.ensures no_group in
+      let own : c.index-group.result.now.choice ≡ enclosing_choice (contents_of read) p = ap (λ g. g.choice) group
+      ∙ enclosing_got l.names.arena names l.texts.items l.lines.items l.groups.items read h.groups_are h.choices_are c.args.i p at in
+      let member = c.is_some-is_member.ensures ∙ ap is_some own in
       let again = again_is l.names.arena names l.texts.items l.lines.items l.groups.items read h.groups_are name p c.choice_around-first_choice.result
-      c.index-4.result.now c.is_same_choice-is_again.result a.has
-      (c.choice_around-first_choice.ensures ∙ ap (λ es. choice_around es c.index.result.now.first) (c.deref.ensures.value ∙ known.enclosing)
-      ∙ ap (λ (x : SymbolSummary). choice_around (map (enclosing_choice (contents_of read)) (groups_in_context read)) x.first) about)
-      (c.index-4.ensures ∙ enclosing_got read m.enclosing.items c.args.i p c.index-4.result.now known.enclosing at)
-      c.is_same_choice-is_again.ensures in
+      c.index-group.result.now.choice c.is_same_choice-is_again.result a.has h.choices_are
+      (c.choice_around-first_choice.ensures ∙ ap (λ gs. choice_around gs c.index.result.now.first) c.deref.ensures.value
+      ∙ ap (λ (x : SymbolSummary). choice_around l.groups.items x.first) symbol_summary)
+      own c.is_same_choice-is_again.ensures in
       let follow = c.only_extends_member-may_follow.ensures ∙ follow_is c.args.language l.names.arena (contents_of read) name p c.is_some-is_member.result
       c.is_same_choice-is_again.result c.lines_of-lines.result.now
       (member ∙ enclosing_some read p a.has) again (a.attributes ∙ sym (ap (map (line_in l.names.arena)) c.lines_of-lines.ensures.lines)) in
       let reported = definition_reported c.args.language read p name c.args.i c.index.result.now c.is_some-is_member.result c.is_misfit-is_misfit.result
-      c.is_first-is_first.result c.is_modules-is_modules.result c.only_extends_member-may_follow.result a.has a.number about member
+      c.is_first-is_first.result c.is_modules-is_modules.result c.only_extends_member-may_follow.result a.has a.number symbol_summary member
       c.is_misfit-is_misfit.ensures c.is_first-is_first.ensures
       (c.is_modules-is_modules.ensures.value read name h w.1) follow in
-      let file = ap (λ g. g.file) (get_or_read l.groups.items _ _ c.requires.here c.index-3.ensures no_group) ∙ sym a.file in
+      let file = ap (λ g. g.file) group ∙ sym a.file in
       let lines = ap (map (line_in l.names.arena)) c.lines_of-lines.ensures.lines ∙ sym a.attributes in
-      let kind = c.kind.ensures ∙ kind_is read name c.index.result.now about in
+      let kind = c.kind.ensures ∙ kind_is read name c.index.result.now symbol_summary in
       c.first_symbol_fault.ensures.fault read p.group name h (c.is_modules-is_modules.ensures.value read name h w.1) (sym file)
       ∙ ap (λ ls. slice_get (faults_of_lines p.group (attribute_faults (contents_of read) name c.kind.result) false ls) 0) lines
       ∙ ap (λ k. slice_get (faults_of_lines p.group (attribute_faults (contents_of read) name k) false p.group.attributes) 0) kind

@@ -28,7 +28,7 @@ returns-in-Negated g t c =
 pub returns-in-Shown : goal.returns-in-Shown
 returns-in-Shown g t c = record {
   value = rw (node_of c.args.store.now c.args.index _ _ c.requires.sound c.requires.there c.node.ensures.value c.in-Shown.is)
-      (c.shown_value.ensures ∙ ap y_for_m c.value_at-in-Shown.ensures.value);
+      (c.y_for_m.ensures ∙ ap y_for_m c.value_at-in-Shown.ensures.value);
 }
 
 pub ands-init : goal.ands-init

@@ -2,7 +2,7 @@ use Rattle.std.proofs.Common.{◌∙◌, [], refl, sym}
 use Rattle.std.specs.Prelude.{codes}
 use Rattle.kc_macros_model.specs.declared.token_sort.TokenSort.TheVariants.{Word}
 use Rattle.kc_macros_model.specs.WrittenTokens.{written_as}
-use Rattle.kc_macro_forms.proofs.RealTokenLemmas.{source_same, source_other}
+use Rattle.kc_macro_forms.proofs.SignificantTokenLemmas.{source_same, source_other}
 use Rattle.kc_macro_forms.proofs.line_texts.source_line.Goals as goal
 
 pub returns-then-is_text : goal.returns-then-is_text

@@ -1,6 +1,6 @@
 use Rattle.kc_macro_lines.proofs.Common.{◌≡◌, ◌∙◌, true, false, sym, assigned_of}
 use Rattle.kc_macro_lines.proofs.CopiedLineLemmas.{none_found, not_so}
-use Rattle.kc_macro_lines.proofs.QuietLemmas.{prompts_not}
+use Rattle.kc_macro_lines.proofs.NothingToExpandLemmas.{prompts_not}
 use Rattle.kc_macro_lines.proofs.copied_lines.begins_nothing_to_expand.Goals as goal
 
 pub returns-then-not-may_begin_prompt : goal.returns-then-not-may_begin_prompt

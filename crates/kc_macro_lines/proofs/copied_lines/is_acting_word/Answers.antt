@@ -1,5 +1,5 @@
 use Rattle.std.proofs.Common.{◌∙◌, sym}
-use Rattle.kc_macro_lines.proofs.QuietLemmas.{acts_not}
+use Rattle.kc_macro_lines.proofs.NothingToExpandLemmas.{acts_not}
 use Rattle.kc_macro_lines.proofs.copied_lines.is_acting_word.Goals as goal
 
 pub returns-then-not-ends_acting : goal.returns-then-not-ends_acting

@@ -1,5 +1,5 @@
 use Rattle.std.proofs.Common.{◌∙◌, ap, get_or}
-use Rattle.kc_macro_lines.specs.checker.QuietLines.{bounds_prompt}
+use Rattle.kc_macro_lines.specs.checker.LinesWithoutMacros.{bounds_prompt}
 use Rattle.kc_macro_lines.proofs.copied_lines.may_begin_prompt.Goals as goal
 
 pub returns : goal.returns

@@ -15,4 +15,5 @@ unfolding Describes RepresentsListing
 returns-clause-describes c = λ r before d. record {
   shows = lists_grown _ _ _ _ _ (c.args.text ∷ []) _ _ _ before (grows_same c.args.read.now.listing.names.arena) c.in-Ok.ensures.items d.shows;
   counted = counted_grown r _ (c.args.text ∷ []) _ _ _ _ _ before c.in-Ok.ensures.items d.counted;
+  enclosed = d.enclosed;
 }

@@ -26,6 +26,7 @@ returns c = record {
       shows = lists_attribute _ _ _ _ _ _ _ before (record { number = c.args.line; attribute = c.args.attribute.now }) c.in-Ok.ensures.items c.requires.held
           d.shows;
       counted = counted_attribute r _ _ _ _ _ before c.args.line (attribute_in c.args.read.now.listing.names.arena c.args.attribute.now) d.counted;
+      enclosed = d.enclosed;
     },
   );
 }

@@ -31,7 +31,7 @@ returns-in-Ok-Some c = λ r before d.
     c.push_statement.new.read
     (sym (c.fault_before_form.ensures r before d) ∙ c.in_default.is) c.in-Ok.ensures.gives c.in-Ok-Some.path
     (rw c.in-Ok-Some.field-0-is at (c.in-Ok-Some.ensures.appends r before
-    (record { shows = shows_grown c.args.read.now.listing c.statement_of.new.arena before c.in-Ok.ensures.grows d.shows; counted = d.counted })))
+    (record { shows = shows_grown c.args.read.now.listing c.statement_of.new.arena before c.in-Ok.ensures.grows d.shows; counted = d.counted; enclosed = d.enclosed })))
 
 pub returns-in-Ok-None : goal.returns-in-Ok-None
 unfolding Describes
@@ -41,7 +41,7 @@ returns-in-Ok-None c = λ r before d.
     c.push_statement.new.read
     (sym (c.fault_before_form.ensures r before d) ∙ c.in_default.is) c.in-Ok.ensures.gives (sym c.is_help_keyword.ensures ∙ c.if-is_help_keyword.true)
     (rw c.in-Ok-None.field-0-is at (c.in-Ok-None.ensures.appends r before
-    (record { shows = shows_grown c.args.read.now.listing c.statement_of.new.arena before c.in-Ok.ensures.grows d.shows; counted = d.counted })))
+    (record { shows = shows_grown c.args.read.now.listing c.statement_of.new.arena before c.in-Ok.ensures.grows d.shows; counted = d.counted; enclosed = d.enclosed })))
 
 pub returns-in-Ok-None-2 : goal.returns-in-Ok-None-2
 unfolding Describes
@@ -51,7 +51,7 @@ returns-in-Ok-None-2 c = λ r before d.
     c.push_statement.new.read
     (sym (c.fault_before_form.ensures r before d) ∙ c.in_default.is) c.in-Ok.ensures.gives (sym c.is_help_keyword.ensures ∙ c.if-is_help_keyword.false)
     (rw c.in-Ok-None.field-0-is at (c.in-Ok-None.ensures.appends r before
-    (record { shows = shows_grown c.args.read.now.listing c.statement_of.new.arena before c.in-Ok.ensures.grows d.shows; counted = d.counted })))
+    (record { shows = shows_grown c.args.read.now.listing c.statement_of.new.arena before c.in-Ok.ensures.grows d.shows; counted = d.counted; enclosed = d.enclosed })))
 
 pub returns-in-Err-push_statement : goal.returns-in-Err-push_statement
 unfolding Describes
@@ -64,4 +64,5 @@ returns-in-Err-push_statement c = λ r before d.
       shows = shows_grown c.args.read.now.listing c.statement_of.new.arena before
           c.in-Ok.ensures.grows d.shows;
       counted = d.counted;
+      enclosed = d.enclosed;
     }))

@@ -13,9 +13,9 @@ pub returns-in-Err : goal.returns-in-Err
 returns-in-Err c = record {
   read =
       help_faulty c.args.file.number c.args.file.bytes.now c.args.at c.args.number c.args.columns c.help.begin c.help.lines c.help.invariant
-      c.physical_at-line.result c.physical_at-line.ensures.line c.in-Err.kind c.fault_at.result
+      c.physical_at-line.result c.physical_at-line.ensures.line c.in-Err.kind c.at_line.result
       (sym c.is_of_help.ensures.value ∙ c.if-not-is_of_help.false) (λ language read. c.in-Err.ensures language read (c.args.number + c.help.lines) true)
-      c.fault_at.ensures;
+      c.at_line.ensures;
 }
 
 pub help-preserved : goal.help-preserved

@@ -6,7 +6,7 @@ returns-in-Err c = absent_root c.args.from c.new.result c.in-Err.kind c.in-Err.e
 
 pub returns-then-file-gt-MAX_TREE_BYTES : goal.returns-then-file-gt-MAX_TREE_BYTES
 returns-then-file-gt-MAX_TREE_BYTES c =
-    rw c.fault_at-fault.ensures (large_root c.args.from c.new-then-file-gt-MAX_TREE_BYTES.result c.in-Ok.file.number c.in-Ok.file.bytes.now c.in-Ok.ensures.0
+    rw c.at_line-fault.ensures (large_root c.args.from c.new-then-file-gt-MAX_TREE_BYTES.result c.in-Ok.file.number c.in-Ok.file.bytes.now c.in-Ok.ensures.0
     c.in-Ok.ensures.1 c.in-Ok.ensures.2 c.if-file-gt-MAX_TREE_BYTES.true c.new-then-file-gt-MAX_TREE_BYTES.ensures)
 
 pub returns : goal.returns

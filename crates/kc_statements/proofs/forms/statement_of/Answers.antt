@@ -1,7 +1,7 @@
 use Rattle.kc_tokens.specs.Token.{lexemes_of}
 use Rattle.kc_statements.specs.between.StatementViews.{statement_in, StatementNodesExist}
-use Rattle.kc_statements.specs.declared.statement.Head.TheVariants as heads
-use Rattle.kc_statements.specs.declared.statement.Statement.TheVariants.{Head}
+use Rattle.kc_tree_model.specs.declared.statement.Head.TheVariants as heads
+use Rattle.kc_tree_model.specs.declared.statement.Statement.TheVariants.{Head}
 use Rattle.kc_statements.proofs.FormLemmas.{by_keyword, left_given, left_held}
 use Rattle.kc_statements.proofs.ArenaGrowth.{grows_none}
 use Rattle.kc_statements.proofs.forms.statement_of.Goals as goal

@@ -2,4 +2,4 @@ use Rattle.kc_checks.specs.checker.SummarySteps.{IsSummedTo}
 use Rattle.kc_checks.proofs.summary.Summary.new.Given as goal
 
 abbrev pub invariant-loop-i : goal.invariant-loop-i
-invariant-loop-i l = IsSummedTo l.listing l.i l.inside.items l.summary
+invariant-loop-i l = IsSummedTo l.listing l.i l.summary

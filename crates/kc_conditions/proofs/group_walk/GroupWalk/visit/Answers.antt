@@ -1,8 +1,7 @@
 use Rattle.kc_conditions.proofs.Common.{◌≡◌, ◌∙◌, List, None, [], length, arith, refl, sym, subst, common_steps, slice_get, is_linux_6_12, Grows, represents_on, grows_same, attribute_held, Group, open_blocks, conjunction_of, context, dependencies_of, AreAppended, RepresentsPrompt, or_yes, grows_on}
-use Rattle.kc_parser.proofs.AppendSteps.{on_ok}
 use Rattle.kc_tree_model.specs.Conditions.{prompts_of}
 use Rattle.kc_conditions.proofs.Growth.{there_on, conjoins_there, joined_on}
-use Rattle.kc_conditions.proofs.WalkSteps.{enclosing_shown, entry_is, ended, entered, end_side, other_side, prompt_there, prompt_represents, inside_on, around_on, what_on}
+use Rattle.kc_conditions.proofs.WalkSteps.{enclosing_shown, entry_is, ended, entered, end_side, other_side, prompt_there, prompt_represents, inside_on, around_on, what_on, on_ok}
 use Rattle.kc_conditions.proofs.group_walk.GroupWalk.visit.Goals as goal
 
 pub entry_conditions-requires-clause-dependencies : goal.entry_conditions-requires-clause-dependencies

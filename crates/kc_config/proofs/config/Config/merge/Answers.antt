@@ -1,33 +1,33 @@
-use Rattle.kc_config.proofs.Common.{◌≡◌, ◌++◌, ℕ, List, Option, IsTrue, length, take, ◌∙◌, sym, ap, subst, arith, common_steps, elements, filter, is_none, changed_users, FitsChanges, IsTouched, IsCountOf, IsListOf, IsChanged, user_of, dependencies, user_fits, UserValue, overlay, Configured, tree_in}
-use Rattle.kc_config.proofs.Common.{FitsTree, changes_of, users_of, units_of, overs}
-use Rattle.kc_config.proofs.MergedValues.{fits_overs}
+use Rattle.kc_config.proofs.Common.{◌≡◌, ◌++◌, ℕ, List, Option, IsTrue, length, take, ◌∙◌, sym, ap, subst, arith, common_steps, elements, filter, is_none, changed_users, FitsChanges, IsTouched, IsCountOf, IsListOf, IsChanged, user_of, dependencies, user_fits, UserValue, merged_users, Configured, tree_in}
+use Rattle.kc_config.proofs.Common.{FitsTree, changes_of, users_of, units_of, merged_assigns}
+use Rattle.kc_config.proofs.MergedValues.{merged_fits}
 use Rattle.kc_config.proofs.UserValueUnits.{fits_changes}
-use Rattle.kc_config.proofs.ConfigSolutions.{solved_by, merged_kept, merged_users}
+use Rattle.kc_config.proofs.ConfigSolutions.{solved_by, merged_kept, users_merged}
 use Rattle.kc_config.proofs.config.Config.merge.Goals as goal
 
 pub apply-requires : goal.apply-requires
 apply-requires c = record {
-  fits = let e : c.deref-3.result.now ≡ changes_of (overs c.self.inside.session.users c.args.fragment.now.assigns.items) = c.deref-3.ensures.value
-      ∙ c.in_ok-push_overs.ensures
-      ∙ ap (λ (l : List (ℕ × Option UserValue)). l ++ changes_of (overs c.users-users.result.now c.deref.result.now)) c.in_ok-changes.ensures.items
-      ∙ ap (λ (l : List (Option UserValue)). changes_of (overs l c.deref.result.now)) c.users-users.ensures.users
-      ∙ ap (λ (l : List (ℕ × UserValue)). changes_of (overs c.self.inside.session.users l)) c.deref.ensures.value in
+  fits = let e : c.deref-3.result.now ≡ changes_of (merged_assigns c.self.inside.session.users c.args.fragment.now.assigns.items) = c.deref-3.ensures.value
+      ∙ c.in_ok-push_merged.ensures
+      ∙ ap (λ (l : List (ℕ × Option UserValue)). l ++ changes_of (merged_assigns c.users-users.result.now c.deref.result.now)) c.in_ok-changes.ensures.items
+      ∙ ap (λ (l : List (Option UserValue)). changes_of (merged_assigns l c.deref.result.now)) c.users-users.ensures.users
+      ∙ ap (λ (l : List (ℕ × UserValue)). changes_of (merged_assigns c.self.inside.session.users l)) c.deref.ensures.value in
       let v : c.args.self.now ≡ c.self.inside.session = sym c.self.view_is in
       subst (FitsChanges (length (tree_in c.self.inside.session).units) (λ u x. IsTrue (user_fits (tree_in c.self.inside.session) u x))) (sym e)
-      (fits_changes (tree_in c.self.inside.session) (overs c.self.inside.session.users c.args.fragment.now.assigns.items)
-      (fits_overs (tree_in c.self.inside.session) c.self.inside.session.users c.args.fragment.now.assigns.items c.self.invariant.solved.fits
+      (fits_changes (tree_in c.self.inside.session) (merged_assigns c.self.inside.session.users c.args.fragment.now.assigns.items)
+      (merged_fits (tree_in c.self.inside.session) c.self.inside.session.users c.args.fragment.now.assigns.items c.self.invariant.solved.fits
       (subst (λ (s : Configured). FitsTree (tree_in s) c.args.fragment.now.assigns.items) v c.requires.fits)));
 }
 
 pub invariant_of-self-in-Ok-apply : goal.invariant_of-self-in-Ok-apply
 invariant_of-self-in-Ok-apply c =
-    let e : c.deref-3.result.now ≡ changes_of (overs c.self.inside.session.users c.args.fragment.now.assigns.items) = c.deref-3.ensures.value
-    ∙ c.in_ok-push_overs.ensures
-    ∙ ap (λ (l : List (ℕ × Option UserValue)). l ++ changes_of (overs c.users-users.result.now c.deref.result.now)) c.in_ok-changes.ensures.items
-    ∙ ap (λ (l : List (Option UserValue)). changes_of (overs l c.deref.result.now)) c.users-users.ensures.users
-    ∙ ap (λ (l : List (ℕ × UserValue)). changes_of (overs c.self.inside.session.users l)) c.deref.ensures.value in
+    let e : c.deref-3.result.now ≡ changes_of (merged_assigns c.self.inside.session.users c.args.fragment.now.assigns.items) = c.deref-3.ensures.value
+    ∙ c.in_ok-push_merged.ensures
+    ∙ ap (λ (l : List (ℕ × Option UserValue)). l ++ changes_of (merged_assigns c.users-users.result.now c.deref.result.now)) c.in_ok-changes.ensures.items
+    ∙ ap (λ (l : List (Option UserValue)). changes_of (merged_assigns l c.deref.result.now)) c.users-users.ensures.users
+    ∙ ap (λ (l : List (ℕ × UserValue)). changes_of (merged_assigns c.self.inside.session.users l)) c.deref.ensures.value in
     let v : c.args.self.now ≡ c.self.inside.session = sym c.self.view_is in
-    let users : c.apply.new.self.users ≡ changed_users (changes_of (overs c.self.inside.session.users c.args.fragment.now.assigns.items)) c.self.inside.session.users = c.in-Ok-apply.ensures.users
+    let users : c.apply.new.self.users ≡ changed_users (changes_of (merged_assigns c.self.inside.session.users c.args.fragment.now.assigns.items)) c.self.inside.session.users = c.in-Ok-apply.ensures.users
     ∙ ap (λ (l : List (ℕ × Option UserValue)). changed_users l c.self.inside.session.users) e in
     let valued = c.in-Ok.ensures.ok
     ∙ ap (λ (l : List (Option UserValue)). c.self.inside.valued.items ++ filter (λ u. is_none (user_of l u)) (units_of c.deref-2.result.now))
@@ -43,16 +43,16 @@ invariant_of-self-in-Ok-apply c =
 
 pub returns-in-Ok-apply-clause-users : goal.returns-in-Ok-apply-clause-users
 returns-in-Ok-apply-clause-users c =
-    let e : c.deref-3.result.now ≡ changes_of (overs c.self.inside.session.users c.args.fragment.now.assigns.items) = c.deref-3.ensures.value
-    ∙ c.in_ok-push_overs.ensures
-    ∙ ap (λ (l : List (ℕ × Option UserValue)). l ++ changes_of (overs c.users-users.result.now c.deref.result.now)) c.in_ok-changes.ensures.items
-    ∙ ap (λ (l : List (Option UserValue)). changes_of (overs l c.deref.result.now)) c.users-users.ensures.users
-    ∙ ap (λ (l : List (ℕ × UserValue)). changes_of (overs c.self.inside.session.users l)) c.deref.ensures.value in
+    let e : c.deref-3.result.now ≡ changes_of (merged_assigns c.self.inside.session.users c.args.fragment.now.assigns.items) = c.deref-3.ensures.value
+    ∙ c.in_ok-push_merged.ensures
+    ∙ ap (λ (l : List (ℕ × Option UserValue)). l ++ changes_of (merged_assigns c.users-users.result.now c.deref.result.now)) c.in_ok-changes.ensures.items
+    ∙ ap (λ (l : List (Option UserValue)). changes_of (merged_assigns l c.deref.result.now)) c.users-users.ensures.users
+    ∙ ap (λ (l : List (ℕ × UserValue)). changes_of (merged_assigns c.self.inside.session.users l)) c.deref.ensures.value in
     let v : c.args.self.now ≡ c.self.inside.session = sym c.self.view_is in
-    let users : c.apply.new.self.users ≡ changed_users (changes_of (overs c.self.inside.session.users c.args.fragment.now.assigns.items)) c.self.inside.session.users = c.in-Ok-apply.ensures.users
+    let users : c.apply.new.self.users ≡ changed_users (changes_of (merged_assigns c.self.inside.session.users c.args.fragment.now.assigns.items)) c.self.inside.session.users = c.in-Ok-apply.ensures.users
     ∙ ap (λ (l : List (ℕ × Option UserValue)). changed_users l c.self.inside.session.users) e in
-    subst (λ (s : Configured). c.apply.new.self.users ≡ overlay (users_of (tree_in s) c.args.fragment.now.assigns.items) s.users) (sym v)
-    (merged_users c.self.inside.settled.now c.self.inside.session c.self.inside.valued.items c.args.fragment.now.assigns.items c.apply.new.self.users
+    subst (λ (s : Configured). c.apply.new.self.users ≡ merged_users (users_of (tree_in s) c.args.fragment.now.assigns.items) s.users) (sym v)
+    (users_merged c.self.inside.settled.now c.self.inside.session c.self.inside.valued.items c.args.fragment.now.assigns.items c.apply.new.self.users
     c.self.invariant (subst (λ (s : Configured). FitsTree (tree_in s) c.args.fragment.now.assigns.items) v c.requires.fits) users)
 
 pub returns-in-Ok-apply-clause-solved : goal.returns-in-Ok-apply-clause-solved
@@ -106,11 +106,11 @@ returns-in-Err-clause-changed c = grind (arith, common_steps)
 pub returns-in_err-changes-clause-solved : goal.returns-in_err-changes-clause-solved
 returns-in_err-changes-clause-solved c = grind (arith, elements)
 
-pub returns-in_err-push_overs-clause-solved : goal.returns-in_err-push_overs-clause-solved
-returns-in_err-push_overs-clause-solved c = grind (arith, common_steps)
+pub returns-in_err-push_merged-clause-solved : goal.returns-in_err-push_merged-clause-solved
+returns-in_err-push_merged-clause-solved c = grind (arith, common_steps)
 
-pub returns-in_err-push_overs-clause-settled : goal.returns-in_err-push_overs-clause-settled
-returns-in_err-push_overs-clause-settled c = grind (arith, common_steps)
+pub returns-in_err-push_merged-clause-settled : goal.returns-in_err-push_merged-clause-settled
+returns-in_err-push_merged-clause-settled c = grind (arith, common_steps)
 
 pub returns-clause-changed : goal.returns-clause-changed
 returns-clause-changed c = grind (arith, common_steps)

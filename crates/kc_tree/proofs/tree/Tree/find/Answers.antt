@@ -4,7 +4,7 @@ use Rattle.kc_tree.proofs.tree.Tree.find.Goals as goal
 
 pub returns-clause-symbol : goal.returns-clause-symbol
 returns-clause-symbol c =
-    let p = c.self.inside.parts in
+    let p = c.self.inside in
     let e : index_of_name c.args.name.now p.arena.names ≡ Some c.in_ok-id.id = sym c.find.ensures ∙ c.in_ok-id.was in
     rw (← c.self.view_is) (rw (← c.self.view_is) at c.symbol_at.ensures.symbol
     ∙ reported_by_place (tree_from_rows p) c.args.name.now p.arena.names c.in_ok-id.id e)

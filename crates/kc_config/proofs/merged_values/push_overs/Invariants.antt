@@ -1,5 +1,0 @@
-use Rattle.kc_config.proofs.Common.{◌≡◌, ◌++◌, take, changes_of, overs}
-use Rattle.kc_config.proofs.merged_values.push_overs.Given as goal
-
-abbrev pub invariant-loop-unit : goal.invariant-loop-unit
-invariant-loop-unit l = l.changes.items ≡ l.fn.changes.items ++ changes_of (overs l.fn.users (take l.unit-index l.fn.assigns))
