@@ -44,10 +44,10 @@ def files_of(folder, parts=PARTS):
     return sorted(found)
 
 
-def sum_of(folder, parts=PARTS):
-    """A checksum of a crate's files in these parts of it."""
+def sum_of(folder):
+    """A checksum of a crate's files."""
     made = hashlib.sha256()
-    for path in files_of(folder, parts):
+    for path in files_of(folder):
         with open(f"{folder}/{path}", "rb") as it:
             made.update(repr((path, it.read())).encode())
     return made.hexdigest()

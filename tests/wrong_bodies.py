@@ -12,6 +12,13 @@ REFUSED, LET_THROUGH, AT_A_NAME = "refused", "LET THROUGH", "REFUSED ONLY AT A N
 NOT_COMPILED, NO_VERDICT = "DOES NOT COMPILE", "NO VERDICT"
 
 
+def without_comments(path, text):
+    """The text of a crate's file without its comments, which change nothing that a check judges."""
+    if path.endswith(".antt"):
+        return re.sub(r"^[ \t]*--[^\n]*\n", "", text, flags=re.M)
+    return re.sub(rf"^[ \t]*//[^\n]*\n|{HIDDEN}", lambda it: "" if it[0].lstrip().startswith("//") else it[0], text, flags=re.M | re.S)
+
+
 class BadEdit(Exception):
     """Why an edit can't be applied."""
 

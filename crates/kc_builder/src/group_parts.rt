@@ -35,7 +35,7 @@ pub(crate) struct GroupParts {
 }
 
 impl GroupParts {
-    /// What no group gives, with capacity for the entries of so many. An `Err` means out of memory.
+    /// What no group gives, with capacity for the entries of this number of groups. An `Err` means out of memory.
     fn new(alloc: Global, groups: usize) -> Result<GroupParts, AllocError>
         ensures { IfOk result AreEmpty }
     {

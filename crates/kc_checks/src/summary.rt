@@ -51,7 +51,8 @@ impl SymbolSummary {
 }
 
 /// A summary of a listing: the summary of each symbol, the number of choices, the members of choices, each under the number of its
-/// choice, by all definitions (`members`) and by first ones alone (`own_members`), and the units, each where it begins: a choice, or a symbol that is first defined outside choices.
+/// choice, by all definitions (`members`) and by first ones alone (`own_members`), and the units, each where it begins: a choice, or
+/// a symbol that is first defined outside choices.
 #[derive(Drop)]
 pub struct Summary {
     pub symbols: Vec<SymbolSummary>,

@@ -186,8 +186,8 @@ fn yes_and_no(arena: &mut Arena) -> Result<(ExprId, ExprId), ExprFault>
 }
 
 impl GroupWalk {
-    /// A walk before the first group of a listing, with the expressions `y` and `n` added to its arena, and with capacity for so many
-    /// groups and attribute lines.
+    /// A walk before the first group of a listing, with the expressions `y` and `n` added to its arena, and with capacity for these
+    /// numbers of groups and of attribute lines.
     pub(crate) fn new(
         alloc: Global,
         arena: Arena,
@@ -295,8 +295,8 @@ impl GroupWalk {
         }
     }
 
-    /// Walks the next group of a tree in `language`, given by its statement and its attribute lines: adds its joined conditions, and opens or ends a
-    /// block.
+    /// Walks the next group of a tree in `language`, given by its statement and its attribute lines: adds its joined conditions, and
+    /// opens or ends a block.
     pub(crate) fn visit(
         &mut self,
         language: Language,

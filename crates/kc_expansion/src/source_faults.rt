@@ -21,7 +21,7 @@ fn is_open(open_files: &[&[u8]], path: &[u8]) -> bool
     open_files.iter().any(|other| is_text(other, path))
 }
 
-/// How many bytes a file has, None if it can't be read; `MAX_FILE_BYTES` stands for any size above the limit.
+/// How many bytes a file has, None if it can't be read; `MAX_FILE_BYTES` for any size above the limit.
 fn size_of(read: &FileRead) -> Option<usize>
     ensures { result ≡ size_read (file_of read.now) }
 {

@@ -4,12 +4,14 @@ use kc_evaluation::Valuation;
 use kc_value::Text;
 use std::alloc::Global;
 
-/// What a text is written by: the values of symbols, how strings are spelled, and the paths of the tree's files in the order of their
-/// numbers, if places are shown.
+/// What a text is written by.
 #[derive(Clone, Copy)]
-pub(crate) struct Context<'a> {
+pub struct Context<'a> {
     pub alloc: Global,
+    /// The values of symbols.
     pub under: &'a Valuation<'a>,
+    /// How strings are spelled.
     pub strings: Strings,
+    /// The paths of the tree's files in the order of their numbers.
     pub paths: &'a [Text],
 }

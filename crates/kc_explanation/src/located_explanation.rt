@@ -1,30 +1,28 @@
 //! The text that explains a symbol's value, with the places of lines.
-ghost use Rattle.std.specs.Prelude.{◌≡◌, ◌<◌, ◌++◌, ◌∷◌, [], length, map, slice_get, option_map, codes, All, OnOk, Some};
+ghost use Rattle.std.specs.Prelude.{◌≡◌, ◌<◌, ◌++◌, ◌∷◌, [], length, map, slice_get, option_map, codes, OnOk, Some};
+ghost use Rattle.std.specs.Global.{Vec};
 ghost use Rattle.kc_tree.specs.between.Views.{reverse_dependency_view, symbol_view, SymbolFits};
 ghost use Rattle.kc_dependencies.specs.checker.StoredRules.{AreReverseDependencies};
-ghost use Rattle.kc_evaluation.specs.checker.ValuationView.{valuation_tree, valuation_exprs, valuation_values};
 ghost use Rattle.kc_reasons.specs.between.ReasonsView.{reasons_view};
 ghost use Rattle.kc_symbol_lines.specs.between.LinesView.{position_view, symbol_lines_view};
 ghost use Rattle.kc_located_reasons.specs.between.PartsView.{located_alternatives_view, ArePartsThere};
+ghost use Rattle.kc_located_reasons.specs.declared.located_parts.LocatedPart.{LocatedPart};
 ghost use Rattle.kc_explanation.specs.Explained.{case_text, chosen_text};
 ghost use Rattle.kc_explanation.specs.Located.{place_in_parentheses, located_first_line, located_forcing_line, located_forcing_lines, located_details_at, located_unmet_at};
 ghost use Rattle.kc_explanation.specs.checker.Contexts.{exprs_of, tree_of, values_of};
-ghost use Rattle.kc_explanation.specs.checker.PartLines.{needed_lines, forces_lines, detail_lines};
+ghost use Rattle.kc_explanation.specs.checker.PartLines.{part_text, needed_lines, forces_lines, detail_lines};
 ghost use Rattle.kc_explanation.specs.between.ReasonPlacesView.{places_view};
 
 use super::context::Context;
 use super::explanation::{is_without_prompt, name_of, push_case, push_chosen};
-use super::located_texts::push_place_if;
-use super::part_texts::{PartText, push_part_lines};
+use super::part_texts::push_part_lines;
+use super::place_texts::push_place_if;
 use super::token_texts::{push_value, push_value_text};
-use kc_dotconfig_model::Strings;
-use kc_evaluation::Valuation;
 use kc_located_reasons::LocatedPart;
 use kc_reasons::{Case, SymbolReasons};
 use kc_symbol_lines::{Position, SymbolLines};
 use kc_tree::{ReverseDependency, Sym, Symbol};
-use kc_value::Text;
-use std::alloc::{AllocError, Global};
+use std::alloc::AllocError;
 
 /// The places of what gives a symbol its value, and of what its prompts and the dependencies of its definitions lack.
 #[derive(Drop)]
@@ -37,41 +35,38 @@ pub struct ReasonPlaces {
 /// Appends what gives a value, and where, if there is a place, up to the end of the line.
 fn push_given(
     out: &mut Vec<u8>,
-    under: &Valuation<'_>,
-    paths: &[Text],
+    by: &Context<'_>,
     chosen: Option<Sym>,
     case: Case,
     at: Option<Position>,
 ) -> Result<(), AllocError>
-    ensures { OnOk result (out.new.items ≡ out.old.items ++ (chosen_text (valuation_tree under.now) chosen ++ (case_text case ++ (place_in_parentheses paths.now (option_map position_view at) ++ 10 ∷ [])))) }
+    ensures { OnOk result (out.new.items ≡ out.old.items ++ (chosen_text (tree_of by.now) chosen ++ (case_text case ++ (place_in_parentheses by.now.paths.now (option_map position_view at) ++ 10 ∷ [])))) }
 {
-    push_chosen(out, under, chosen)?;
+    push_chosen(out, by.under, chosen)?;
     push_case(out, case)?;
-    push_place_if(out, paths, at)?;
+    push_place_if(out, by.paths, at)?;
     out.extend_from_slice(b"\n")?;
     Ok(())
 }
 
-/// Appends the first line of the text that explains symbol `s`: its value and what gives it, and where, if there is a place. `paths`
-/// has those of the tree's files in the order of their numbers. An `Err` means out of memory.
+/// Appends the first line of the text that explains symbol `s`: its value and what gives it, and where, if there is a place. An `Err`
+/// means out of memory.
 pub fn push_located_first_line(
     out: &mut Vec<u8>,
-    under: &Valuation<'_>,
-    strings: Strings,
-    paths: &[Text],
+    by: &Context<'_>,
     s: Sym,
     chosen: Option<Sym>,
     case: Case,
     at: Option<Position>,
 ) -> Result<(), AllocError>
-    requires there { s < length (valuation_tree under.now).symbols }
-    ensures { OnOk result (out.new.items ≡ out.old.items ++ located_first_line strings paths.now (valuation_tree under.now) (valuation_values under.now) s chosen case (option_map position_view at)) }
+    requires there { s < length (tree_of by.now).symbols }
+    ensures { OnOk result (out.new.items ≡ out.old.items ++ located_first_line by.now.strings by.now.paths.now (tree_of by.now) (values_of by.now) s chosen case (option_map position_view at)) }
 {
-    out.extend_from_slice(name_of(under, s).as_bytes())?;
+    out.extend_from_slice(name_of(by.under, s).as_bytes())?;
     out.extend_from_slice(b"=")?;
-    push_value_text(out, strings, &under.symbol(s))?;
+    push_value_text(out, by.strings, &by.under.symbol(s))?;
     out.extend_from_slice(b": ")?;
-    push_given(out, under, paths, chosen, case, at)?;
+    push_given(out, by, chosen, case, at)?;
     Ok(())
 }
 
@@ -85,7 +80,7 @@ pub fn place_at(places: &[Position], number: usize) -> Option<Position>
     }
 }
 
-/// The selects or the implies of a symbol, with the word before each of their lines, and their places, if these are shown.
+/// The selects or the implies of a symbol, with the word before each of their lines, and their places.
 #[derive(Clone, Copy)]
 struct Forces<'a> {
     word: &'a str,
@@ -148,7 +143,7 @@ fn push_forcing_lines(
     Ok(())
 }
 
-/// Appends a line for each of the selects of a symbol with these numbers, and where, as far as places are shown.
+/// Appends a line for each of the selects of a symbol with these numbers, and where.
 fn push_selects(
     out: &mut Vec<u8>,
     by: &Context<'_>,
@@ -167,7 +162,7 @@ fn push_selects(
     push_forcing_lines(out, by, selects, selected_by)
 }
 
-/// Appends a line for each select and imply of a symbol that is among its reasons, and where, as far as places are shown.
+/// Appends a line for each select and imply of a symbol that is among its reasons, and where.
 fn push_forces(
     out: &mut Vec<u8>,
     by: &Context<'_>,
@@ -189,14 +184,14 @@ fn push_forces(
 }
 
 /// Appends what the prompts need, if there is one.
-fn push_needs<P: PartText>(
+fn push_needs(
     out: &mut Vec<u8>,
     by: &Context<'_>,
     without_prompt: bool,
-    needs: &[Vec<P>],
+    needs: &[Vec<LocatedPart>],
 ) -> Result<(), AllocError>
-    requires { All (λ v. All (P.is_there (exprs_of by.now)) v.items) needs.now }
-    ensures { OnOk result (out.new.items ≡ out.old.items ++ needed_lines without_prompt (map (λ v. map (P.part_text by.now) v.items) needs.now)) }
+    requires there { ArePartsThere (exprs_of by.now) needs.now }
+    ensures { OnOk result (out.new.items ≡ out.old.items ++ needed_lines without_prompt (map (λ (v : Vec LocatedPart). map (part_text by.now) v.items) needs.now)) }
 {
     if without_prompt {
         out.extend_from_slice(b"  it has no prompt\n")
@@ -206,20 +201,20 @@ fn push_needs<P: PartText>(
 }
 
 /// Appends what comes after a symbol's value and what was asked: what its prompts need, what selects and implies it, and what is unmet.
-fn push_details<P: PartText>(
+fn push_details(
     out: &mut Vec<u8>,
     by: &Context<'_>,
     symbol: &Symbol<'_>,
     reasons: &SymbolReasons,
-    needs: &[Vec<P>],
-    unmet: &[Vec<P>],
+    needs: &[Vec<LocatedPart>],
+    unmet: &[Vec<LocatedPart>],
     selectors: &[Position],
     impliers: &[Position],
 ) -> Result<(), AllocError>
     requires fits { SymbolFits (exprs_of by.now) (length (tree_of by.now).symbols) symbol.now }
-    requires needs { All (λ v. All (P.is_there (exprs_of by.now)) v.items) needs.now }
-    requires unmet { All (λ v. All (P.is_there (exprs_of by.now)) v.items) unmet.now }
-    ensures { OnOk result (out.new.items ≡ out.old.items ++ detail_lines by.now (symbol_view (exprs_of by.now) symbol.now) reasons.now.hindrance (map (λ v. map (P.part_text by.now) v.items) needs.now) (map position_view selectors.now) (map position_view impliers.now) reasons.now.selected_by.items reasons.now.implied_by.items (map (λ v. map (P.part_text by.now) v.items) unmet.now)) }
+    requires needs { ArePartsThere (exprs_of by.now) needs.now }
+    requires unmet { ArePartsThere (exprs_of by.now) unmet.now }
+    ensures { OnOk result (out.new.items ≡ out.old.items ++ detail_lines by.now (symbol_view (exprs_of by.now) symbol.now) reasons.now.hindrance (map (λ (v : Vec LocatedPart). map (part_text by.now) v.items) needs.now) (map position_view selectors.now) (map position_view impliers.now) reasons.now.selected_by.items reasons.now.implied_by.items (map (λ (v : Vec LocatedPart). map (part_text by.now) v.items) unmet.now)) }
 {
     push_needs(out, by, is_without_prompt(reasons.hindrance, symbol), needs)?;
     push_forces(out, by, symbol, reasons, selectors, impliers)?;
@@ -227,31 +222,21 @@ fn push_details<P: PartText>(
 }
 
 /// Appends what comes in the text that explains symbol `s` after its value and what was asked: what its prompts need, what selects and
-/// implies it, and what is unmet, by its reasons, its lines and the places of what it lacks. `paths` has those of the tree's files in
-/// the order of their numbers. An `Err` means out of memory.
+/// implies it, and what is unmet, by its reasons, its lines and the places of what it lacks. An `Err` means out of memory.
 pub fn push_located_details(
-    alloc: Global,
     out: &mut Vec<u8>,
-    under: &Valuation<'_>,
-    strings: Strings,
-    paths: &[Text],
+    by: &Context<'_>,
     s: Sym,
     lines: &SymbolLines,
     reasons: &SymbolReasons,
     places: &ReasonPlaces,
 ) -> Result<(), AllocError>
-    requires there { s < length (valuation_tree under.now).symbols }
-    requires needs { ArePartsThere (valuation_exprs under.now) places.now.needs.items }
-    requires unmet { ArePartsThere (valuation_exprs under.now) places.now.unmet.items }
-    ensures { OnOk result (out.new.items ≡ out.old.items ++ located_details_at strings paths.now (valuation_tree under.now) (valuation_values under.now) s (symbol_lines_view (valuation_exprs under.now) lines.now) (reasons_view (valuation_exprs under.now) reasons.now) (places_view (valuation_exprs under.now) places.now)) }
+    requires there { s < length (tree_of by.now).symbols }
+    requires needs { ArePartsThere (exprs_of by.now) places.now.needs.items }
+    requires unmet { ArePartsThere (exprs_of by.now) places.now.unmet.items }
+    ensures { OnOk result (out.new.items ≡ out.old.items ++ located_details_at by.now.strings by.now.paths.now (tree_of by.now) (values_of by.now) s (symbol_lines_view (exprs_of by.now) lines.now) (reasons_view (exprs_of by.now) reasons.now) (places_view (exprs_of by.now) places.now)) }
 {
-    let by = &Context {
-        alloc,
-        under,
-        strings,
-        paths,
-    };
-    let symbol = &under.rules.tree.symbol(s);
+    let symbol = &by.under.rules.tree.symbol(s);
     push_details(
         out,
         by,
@@ -265,29 +250,20 @@ pub fn push_located_details(
 }
 
 /// Appends of symbol `s`, which is selected against its dependencies, what selects it, by the numbers of the selects that decide, and
-/// what is unmet. `paths` has those of the tree's files in the order of their numbers. An `Err` means out of memory.
+/// what is unmet. An `Err` means out of memory.
 pub fn push_located_unmet(
-    alloc: Global,
     out: &mut Vec<u8>,
-    under: &Valuation<'_>,
-    strings: Strings,
-    paths: &[Text],
+    by: &Context<'_>,
     s: Sym,
     selectors: &[Position],
     selected_by: &[usize],
     unmet: &[Vec<LocatedPart>],
 ) -> Result<(), AllocError>
-    requires there { s < length (valuation_tree under.now).symbols }
-    requires unmet { ArePartsThere (valuation_exprs under.now) unmet.now }
-    ensures { OnOk result (out.new.items ≡ out.old.items ++ located_unmet_at strings paths.now (valuation_tree under.now) (valuation_values under.now) s (map position_view selectors.now) selected_by.now (located_alternatives_view (valuation_exprs under.now) unmet.now)) }
+    requires there { s < length (tree_of by.now).symbols }
+    requires unmet { ArePartsThere (exprs_of by.now) unmet.now }
+    ensures { OnOk result (out.new.items ≡ out.old.items ++ located_unmet_at by.now.strings by.now.paths.now (tree_of by.now) (values_of by.now) s (map position_view selectors.now) selected_by.now (located_alternatives_view (exprs_of by.now) unmet.now)) }
 {
-    let by = &Context {
-        alloc,
-        under,
-        strings,
-        paths,
-    };
-    let symbol = &under.rules.tree.symbol(s);
+    let symbol = &by.under.rules.tree.symbol(s);
     push_selects(out, by, symbol, selectors, selected_by)?;
     push_part_lines(out, by, b"unmet: ", unmet)
 }

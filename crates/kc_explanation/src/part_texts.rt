@@ -1,60 +1,55 @@
 //! The text of what conditions lack.
 ghost use Rattle.std.specs.Prelude.{◌≡◌, ◌++◌, map, All, OnOk};
+ghost use Rattle.std.specs.Global.{Vec};
 ghost use Rattle.kc_reasons.specs.between.Parts.{part_view, IsThere};
+ghost use Rattle.kc_located_reasons.specs.between.PartsView.{IsPartThere, ArePartsThere};
+ghost use Rattle.kc_located_reasons.specs.declared.located_parts.LocatedPart.{LocatedPart};
 ghost use Rattle.kc_explanation.specs.Explained.{low_part_text};
 ghost use Rattle.kc_explanation.specs.checker.Contexts.{exprs_of, names_of};
-ghost use Rattle.kc_explanation.specs.checker.PartLines.{part_line, part_lines};
+ghost use Rattle.kc_explanation.specs.checker.PartLines.{part_text, part_line, part_lines};
 
 use super::context::Context;
-use super::token_texts::push_spelled_expression;
+use super::place_texts::push_place;
+use super::token_texts::push_expression;
 use super::words::wanted_text;
+use kc_located_reasons::LocatedPart;
 use kc_reasons::LowPart;
 use std::alloc::AllocError;
 
-/// A part of a condition that is too low, as a text has it: with the place of its line, or without.
-pub(crate) trait PartText {
-    ghost use Rattle.std.specs.Prelude.{ℕ, List};
-    ghost use Rattle.kc_expr.specs.between.Arena.{Exprs};
-    ghost use Rattle.kc_explanation.specs.declared.context.Context.{Context};
-
-    /// That the part is an expression of the arena.
-    ghost is_there: { Exprs → Self → Type 0 };
-
-    ghost part_text: { Context → Self → List ℕ };
-
-    /// Appends the part.
-    fn push_part(&self, out: &mut Vec<u8>, by: &Context<'_>) -> Result<(), AllocError>
-        requires { is_there (exprs_of by.now) self.now }
-        ensures { OnOk result (out.new.items ≡ out.old.items ++ part_text by.now self.now) };
+/// Appends a part of a condition that is too low, and where it is `m` that `y` is wanted of it.
+fn push_low_part(out: &mut Vec<u8>, by: &Context<'_>, part: LowPart) -> Result<(), AllocError>
+    requires there { IsThere (exprs_of by.now) part }
+    ensures { OnOk result (out.new.items ≡ out.old.items ++ low_part_text by.now.strings (names_of by.now) (part_view (exprs_of by.now) part)) }
+{
+    push_expression(out, by, part.expr)?;
+    let value = by.under.condition(part.expr);
+    out.extend_from_slice(wanted_text(value, part.wanted).as_bytes())
 }
 
-impl PartText for LowPart {
-    ghost is_there = { IsThere };
-
-    ghost part_text = { λ by p. low_part_text by.strings (names_of by) (part_view (exprs_of by) p) };
-
-    fn push_part(&self, out: &mut Vec<u8>, by: &Context<'_>) -> Result<(), AllocError> {
-        push_spelled_expression(out, by, self.expr)?;
-        let value = by.under.condition(self.expr);
-        out.extend_from_slice(wanted_text(value, self.wanted).as_bytes())
-    }
+/// Appends a part of a condition that is too low, and the place of its line.
+fn push_part(out: &mut Vec<u8>, by: &Context<'_>, part: LocatedPart) -> Result<(), AllocError>
+    requires there { IsPartThere (exprs_of by.now) part }
+    ensures { OnOk result (out.new.items ≡ out.old.items ++ part_text by.now part) }
+{
+    push_low_part(out, by, part.part)?;
+    push_place(out, by.paths, part.at)
 }
 
 /// Appends a line of parts that are all needed, after a word.
-fn push_part_line<P: PartText>(
+fn push_part_line(
     out: &mut Vec<u8>,
     by: &Context<'_>,
     word: &[u8],
-    parts: &[P],
+    parts: &[LocatedPart],
 ) -> Result<(), AllocError>
-    requires { All (P.is_there (exprs_of by.now)) parts.now }
-    ensures { OnOk result (out.new.items ≡ out.old.items ++ part_line word.now (map (P.part_text by.now) parts.now)) }
+    requires there { All (IsPartThere (exprs_of by.now)) parts.now }
+    ensures { OnOk result (out.new.items ≡ out.old.items ++ part_line word.now (map (part_text by.now) parts.now)) }
 {
     out.extend_from_slice(b"  ")?;
     let mut lead = word;
     for part in parts {
         out.extend_from_slice(lead)?;
-        part.push_part(out, by)?;
+        push_part(out, by, *part)?;
         lead = b" and ";
     }
     out.extend_from_slice(b"\n")?;
@@ -62,14 +57,14 @@ fn push_part_line<P: PartText>(
 }
 
 /// Appends a line for each alternative: the first begins with a word, the others with `or`.
-pub(crate) fn push_part_lines<P: PartText>(
+pub(crate) fn push_part_lines(
     out: &mut Vec<u8>,
     by: &Context<'_>,
     word: &[u8],
-    lists: &[Vec<P>],
+    lists: &[Vec<LocatedPart>],
 ) -> Result<(), AllocError>
-    requires { All (λ v. All (P.is_there (exprs_of by.now)) v.items) lists.now }
-    ensures { OnOk result (out.new.items ≡ out.old.items ++ part_lines word.now (map (λ v. map (P.part_text by.now) v.items) lists.now)) }
+    requires there { ArePartsThere (exprs_of by.now) lists.now }
+    ensures { OnOk result (out.new.items ≡ out.old.items ++ part_lines word.now (map (λ (v : Vec LocatedPart). map (part_text by.now) v.items) lists.now)) }
 {
     let mut lead = word;
     for list in lists {

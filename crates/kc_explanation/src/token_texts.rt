@@ -25,7 +25,7 @@ use kc_minimal::push_spelled;
 use kc_reasons::parts_at;
 use kc_tokens::Relop;
 use kc_value::{Tri, loose_number_of, push_escaped};
-use std::alloc::{AllocError, Global};
+use std::alloc::AllocError;
 
 /// Appends the value of a symbol as it is spelled in a configuration file.
 pub(crate) fn push_value_text(
@@ -196,35 +196,11 @@ fn tokens_at(by: &Context<'_>, id: ExprId) -> Result<Vec<SpelledToken>, AllocErr
     spelled_tokens(by.alloc, by.under.rules.tree.arena(), id)
 }
 
-/// Appends an expression, each name with its value in parentheses.
-pub(crate) fn push_spelled_expression(
-    out: &mut Vec<u8>,
-    by: &Context<'_>,
-    id: ExprId,
-) -> Result<(), AllocError>
+/// Appends an expression, each name with its value in parentheses. An `Err` means out of memory.
+pub fn push_expression(out: &mut Vec<u8>, by: &Context<'_>, id: ExprId) -> Result<(), AllocError>
     requires there { id < length (exprs_of by.now).nodes }
     ensures { OnOk result (out.new.items ≡ out.old.items ++ spelled_with_values by.now.strings (names_of by.now) (node_expr (exprs_of by.now) id)) }
 {
     let tokens = tokens_at(by, id)?;
     push_tokens(out, by, &tokens)
-}
-
-/// Appends an expression, each name with its value in parentheses. An `Err` means out of memory.
-pub fn push_expression(
-    alloc: Global,
-    out: &mut Vec<u8>,
-    under: &Valuation<'_>,
-    strings: Strings,
-    id: ExprId,
-) -> Result<(), AllocError>
-    requires there { id < length (valuation_exprs under.now).nodes }
-    ensures { OnOk result (out.new.items ≡ out.old.items ++ spelled_with_values strings (environment (valuation_tree under.now) (valuation_values under.now)) (node_expr (valuation_exprs under.now) id)) }
-{
-    let by = &Context {
-        alloc,
-        under,
-        strings,
-        paths: &[],
-    };
-    push_spelled_expression(out, by, id)
 }

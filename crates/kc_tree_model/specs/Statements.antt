@@ -17,16 +17,19 @@ use Rattle.kc_tree_model.specs.declared.statement.Statement.{Statement as Statem
 abbrev pub Head : Type 0
 Head = HeadOf Expr (List ℕ) (List ℕ)
 
--- a default; a `select` or an `imply`; a `range`; an attribute
+-- a `default`, or an `option env`
 abbrev pub DefaultAttribute : Type 0
 DefaultAttribute = DefaultOf Expr
 
+-- a `select` or an `imply`
 abbrev pub TargetAttribute : Type 0
 TargetAttribute = TargetOf Expr (List ℕ)
 
+-- a `range`
 abbrev pub RangeAttribute : Type 0
 RangeAttribute = RangeOf Expr Operand
 
+-- an attribute
 abbrev pub Attribute : Type 0
 Attribute = AttributeOf Expr Operand (List ℕ)
 

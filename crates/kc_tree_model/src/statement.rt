@@ -6,8 +6,8 @@ ghost use Rattle.kc_tree_model.specs.between.Attributes.{is_prompt, is_range, if
 use super::keyword::Block;
 use kc_value::Kind;
 
-/// A statement other than an attribute: it closes the entry that is open, and may open a new one ("Kconfig syntax"). `E` stands for
-/// an expression, `N` for the name of a symbol, `T` for a title or a path.
+/// A statement other than an attribute: it closes the entry that is open, and may open a new one ("Kconfig syntax"). `E` is the type
+/// of an expression, `N` of the name of a symbol, `T` of a title or a path.
 #[derive(Drop)]
 pub enum Head<E, N, T> {
     /// The name of the symbol that a `config` statement defines.

@@ -87,7 +87,7 @@ impl KeptFile {
     }
 }
 
-/// The last bytes, so many, or all where there are fewer.
+/// The last `count` bytes, or all where there are fewer.
 fn last_bytes(bytes: &[u8], count: usize) -> &[u8] {
     &bytes[bytes.len() - count.min(bytes.len())..]
 }
@@ -124,7 +124,7 @@ impl LineFiles for SystemLines<'_> {
     }
 }
 
-/// A path below a folder; U+FFFD stands for what isn't UTF-8 in it.
+/// A path below a folder, with U+FFFD in place of what isn't UTF-8 in it.
 fn path_below(alloc: Global, folder: &str, path: &[u8]) -> Result<String, AllocError> {
     let path = String::from_utf8_lossy(alloc, path)?;
     [folder, "/", path.as_str()].concat(alloc)

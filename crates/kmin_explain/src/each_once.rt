@@ -14,7 +14,7 @@ pub struct SymbolsOnce {
 }
 
 impl SymbolsOnce {
-    /// No symbols, of a tree that has so many.
+    /// No symbols, of a tree that has `count` of them.
     pub fn new(alloc: Global, count: u32) -> Result<SymbolsOnce, AllocError>
         ensures none { IfOk result (λ o. o.found.items ≡ []) }
         ensures marks { IfOk result AreMarked }

@@ -16,7 +16,7 @@ use super::sources::Sources;
 use super::symbol_reasons::{lines_of, listed_reasons, reason_places};
 use kc_config::user_at;
 use kc_config_reasons::{deciding_line, reasons_in, valuation};
-use kc_explanation::{push_located_details, push_located_first_line};
+use kc_explanation::{Context, push_located_details, push_located_first_line};
 use kc_reasons::{SymbolReasons, wanted_by};
 use kc_symbol_lines::SymbolLines;
 use kc_tree::Sym;
@@ -59,11 +59,15 @@ fn push_by_reasons(
     let symbol = &under.rules.tree.symbol(s);
     let wanted = wanted_by(under, symbol, user_at(by.config.users(), symbol.unit));
     let places = reason_places(alloc, under, symbol, lines, wanted, reasons.case)?;
+    let context = &Context {
+        alloc,
+        under,
+        strings: by.strings,
+        paths: by.tree_paths,
+    };
     push_located_first_line(
         out,
-        under,
-        by.strings,
-        by.tree_paths,
+        context,
         s,
         reasons.chosen,
         reasons.case,
@@ -75,17 +79,7 @@ fn push_by_reasons(
         kind: symbol.kind,
     };
     push_asked_lines(alloc, out, by, asked, reasons.case, reasons.hindrance)?;
-    push_located_details(
-        alloc,
-        out,
-        under,
-        by.strings,
-        by.tree_paths,
-        s,
-        lines,
-        reasons,
-        &places,
-    )
+    push_located_details(out, context, s, lines, reasons, &places)
 }
 
 /// The text that explains symbols, in their order: why each has its value, what the configuration files ask of it, and what it lacks.

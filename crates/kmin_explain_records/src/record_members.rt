@@ -7,12 +7,13 @@ ghost use Rattle.kc_tree_model.specs.Blocks.{Group};
 ghost use Rattle.kc_tree.specs.between.Views.{symbol_view, SymbolFits};
 ghost use Rattle.kc_dotconfig_model.specs.ConfigLines.{LineMeaning};
 ghost use Rattle.kc_config.specs.ConfigStates.{tree_in};
-ghost use Rattle.kc_evaluation.specs.checker.ValuationView.{valuation_tree, valuation_exprs, valuation_values};
+ghost use Rattle.kc_evaluation.specs.checker.ValuationView.{valuation_tree};
 ghost use Rattle.kc_reasons_model.specs.Reasons.{name_of_symbol};
 ghost use Rattle.kc_reasons.specs.between.ReasonsView.{reasons_view};
 ghost use Rattle.kc_symbol_lines.specs.between.LinesView.{position_view, symbol_lines_view};
 ghost use Rattle.kc_located_reasons.specs.between.PartsView.{ArePartsThere};
 ghost use Rattle.kc_explanation.specs.between.ReasonPlacesView.{places_view};
+ghost use Rattle.kc_explanation.specs.checker.Contexts.{exprs_of, tree_of, values_of};
 ghost use Rattle.kmin_messages.specs.between.MessageViews.{AppendsTokens};
 ghost use Rattle.kmin_explain_records.specs.ReasonWords.{hindrance_word, lift_of_case};
 ghost use Rattle.kmin_records.specs.JsonValues.{or_null, object_of};
@@ -25,9 +26,8 @@ use super::forcing_members::{write_forcing_list, write_symbol};
 use super::needed_members::{write_alternatives, write_needs, write_position};
 use super::reason_words::{case_word, hindrance_word, lift_of_case};
 use json::Writer;
-use kc_dotconfig::Strings;
 use kc_evaluation::Valuation;
-use kc_explanation::{ReasonPlaces, is_without_prompt, name_of};
+use kc_explanation::{Context, ReasonPlaces, is_without_prompt, name_of};
 use kc_reasons::{Case, Hindrance, SymbolReasons};
 use kc_symbol_lines::{Position, SymbolLines};
 use kc_tree::{Sym, Symbol};
@@ -90,19 +90,18 @@ fn write_hindrance(writer: &mut Writer, hindrance: Option<Hindrance>) -> Result<
 /// Writes the members `lift`, `chosen` and `given_at`.
 fn write_case_details(
     writer: &mut Writer,
-    under: &Valuation<'_>,
-    paths: &[Text],
+    by: &Context<'_>,
     chosen: Option<Sym>,
     case: Case,
     at: Option<Position>,
 ) -> Result<(), AllocError>
-    ensures { OnOk result (AppendsTokens writer.old writer.new (list_tokens ((codes "lift", or_null text_of_json (lift_of_case case)) ∷ (codes "chosen", or_null (λ m. text_of_json (name_of_symbol (valuation_tree under.now) m)) chosen) ∷ (codes "given_at", or_null (λ p. object_of (position_members paths.now p)) (option_map position_view at)) ∷ []))) }
+    ensures { OnOk result (AppendsTokens writer.old writer.new (list_tokens ((codes "lift", or_null text_of_json (lift_of_case case)) ∷ (codes "chosen", or_null (λ m. text_of_json (name_of_symbol (tree_of by.now) m)) chosen) ∷ (codes "given_at", or_null (λ p. object_of (position_members by.now.paths.now p)) (option_map position_view at)) ∷ []))) }
 {
     write_optional(writer, "lift", lift_of_case(case))?;
     writer.key("chosen")?;
-    write_chosen(writer, under, chosen)?;
+    write_chosen(writer, by.under, chosen)?;
     writer.key("given_at")?;
-    write_given_at(writer, paths, at)
+    write_given_at(writer, by.paths, at)
 }
 
 /// Writes the member `defined_at`.
@@ -115,24 +114,21 @@ fn write_defined_at(writer: &mut Writer, paths: &[Text], at: Position) -> Result
 
 /// Writes the members that have the name and value of symbol `s`, the place of its first definition, and what gives the value.
 pub(crate) fn write_given(
-    alloc: Global,
     writer: &mut Writer,
-    under: &Valuation<'_>,
-    strings: Strings,
-    paths: &[Text],
+    by: &Context<'_>,
     s: Sym,
     defined_at: Position,
     chosen: Option<Sym>,
     case: Case,
     at: Option<Position>,
 ) -> Result<(), AllocError>
-    requires there { s < length (valuation_tree under.now).symbols }
-    ensures { OnOk result (AppendsTokens writer.old writer.new (list_tokens (given_members strings paths.now (valuation_tree under.now) (valuation_values under.now) s (position_view defined_at) chosen case (option_map position_view at)))) }
+    requires there { s < length (tree_of by.now).symbols }
+    ensures { OnOk result (AppendsTokens writer.old writer.new (list_tokens (given_members by.now.strings by.now.paths.now (tree_of by.now) (values_of by.now) s (position_view defined_at) chosen case (option_map position_view at)))) }
 {
-    write_symbol(alloc, writer, under, strings, s)?;
-    write_defined_at(writer, paths, defined_at)?;
+    write_symbol(writer, by, s)?;
+    write_defined_at(writer, by.paths, defined_at)?;
     write_text(writer, "case", case_word(case))?;
-    write_case_details(writer, under, paths, chosen, case, at)
+    write_case_details(writer, by, chosen, case, at)
 }
 
 /// Writes the members `asked` and `hindrance`.
@@ -155,66 +151,46 @@ pub(crate) fn write_asked_members(
 
 /// Writes the members `needs` and `unmet`.
 pub(crate) fn write_lacking(
-    alloc: Global,
     writer: &mut Writer,
-    under: &Valuation<'_>,
-    strings: Strings,
-    paths: &[Text],
+    by: &Context<'_>,
     symbol: &Symbol<'_>,
     hindrance: Option<Hindrance>,
     places: &ReasonPlaces,
 ) -> Result<(), AllocError>
-    requires needs { ArePartsThere (valuation_exprs under.now) places.now.needs.items }
-    requires unmet { ArePartsThere (valuation_exprs under.now) places.now.unmet.items }
-    ensures { OnOk result (AppendsTokens writer.old writer.new (list_tokens (lacking_members strings paths.now (valuation_tree under.now) (valuation_values under.now) (symbol_view (valuation_exprs under.now) symbol.now) hindrance (places_view (valuation_exprs under.now) places.now)))) }
+    requires needs { ArePartsThere (exprs_of by.now) places.now.needs.items }
+    requires unmet { ArePartsThere (exprs_of by.now) places.now.unmet.items }
+    ensures { OnOk result (AppendsTokens writer.old writer.new (list_tokens (lacking_members by.now.strings by.now.paths.now (tree_of by.now) (values_of by.now) (symbol_view (exprs_of by.now) symbol.now) hindrance (places_view (exprs_of by.now) places.now)))) }
 {
     let without_prompt = is_without_prompt(hindrance, symbol);
     writer.key("needs")?;
-    write_needs(
-        alloc,
-        writer,
-        under,
-        strings,
-        paths,
-        without_prompt,
-        &places.needs,
-    )?;
+    write_needs(writer, by, without_prompt, &places.needs)?;
     writer.key("unmet")?;
-    write_alternatives(alloc, writer, under, strings, paths, &places.unmet)
+    write_alternatives(writer, by, &places.unmet)
 }
 
 /// Writes the members `selected_by` and `implied_by`.
 pub(crate) fn write_forcing_members(
-    alloc: Global,
     writer: &mut Writer,
-    under: &Valuation<'_>,
-    strings: Strings,
-    paths: &[Text],
+    by: &Context<'_>,
     symbol: &Symbol<'_>,
     lines: &SymbolLines,
     reasons: &SymbolReasons,
 ) -> Result<(), AllocError>
-    requires fits { SymbolFits (valuation_exprs under.now) (length (valuation_tree under.now).symbols) symbol.now }
-    ensures { OnOk result (AppendsTokens writer.old writer.new (list_tokens (forcing_members strings paths.now (valuation_tree under.now) (valuation_values under.now) (symbol_view (valuation_exprs under.now) symbol.now) (symbol_lines_view (valuation_exprs under.now) lines.now) (reasons_view (valuation_exprs under.now) reasons.now)))) }
+    requires fits { SymbolFits (exprs_of by.now) (length (tree_of by.now).symbols) symbol.now }
+    ensures { OnOk result (AppendsTokens writer.old writer.new (list_tokens (forcing_members by.now.strings by.now.paths.now (tree_of by.now) (values_of by.now) (symbol_view (exprs_of by.now) symbol.now) (symbol_lines_view (exprs_of by.now) lines.now) (reasons_view (exprs_of by.now) reasons.now)))) }
 {
     writer.key("selected_by")?;
     write_forcing_list(
-        alloc,
         writer,
-        under,
-        strings,
-        paths,
+        by,
         symbol.selectors,
         &lines.selectors,
         &reasons.selected_by,
     )?;
     writer.key("implied_by")?;
     write_forcing_list(
-        alloc,
         writer,
-        under,
-        strings,
-        paths,
+        by,
         symbol.impliers,
         &lines.impliers,
         &reasons.implied_by,

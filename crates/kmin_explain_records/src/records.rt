@@ -29,7 +29,7 @@ use json::Writer;
 use kc_config::user_at;
 use kc_config_reasons::valuation;
 use kc_evaluation::Valuation;
-use kc_explanation::ReasonPlaces;
+use kc_explanation::{Context, ReasonPlaces};
 use kc_reasons::{SymbolReasons, wanted_by};
 use kc_symbol_lines::{Position, SymbolLines};
 use kc_tree::{Sym, Symbol};
@@ -65,12 +65,15 @@ fn write_members(
         file: symbol.file,
         line: symbol.line,
     };
-    write_given(
+    let context = &Context {
         alloc,
-        writer,
         under,
-        by.strings,
-        by.tree_paths,
+        strings: by.strings,
+        paths: by.tree_paths,
+    };
+    write_given(
+        writer,
+        context,
         s,
         defined_at,
         reasons.chosen,
@@ -83,26 +86,8 @@ fn write_members(
         kind: symbol.kind,
     };
     write_asked_members(alloc, writer, by, asked, reasons.case, reasons.hindrance)?;
-    write_lacking(
-        alloc,
-        writer,
-        under,
-        by.strings,
-        by.tree_paths,
-        symbol,
-        reasons.hindrance,
-        places,
-    )?;
-    write_forcing_members(
-        alloc,
-        writer,
-        under,
-        by.strings,
-        by.tree_paths,
-        symbol,
-        lines,
-        reasons,
-    )
+    write_lacking(writer, context, symbol, reasons.hindrance, places)?;
+    write_forcing_members(writer, context, symbol, lines, reasons)
 }
 
 /// The line of JSON for symbol `s`, by its reasons and lines.
@@ -158,8 +143,8 @@ fn push_explained_record(
 }
 
 /// A line of JSON for each of some symbols, in their order, with what `explanation_of` says of it: its members are `name`, `value`,
-/// `defined_at`, `case`, `lift`, `chosen`, `given_at`, `asked`, `hindrance`, `needs`, `unmet`, `selected_by` and `implied_by`. With `all` every
-/// select and imply is listed, also those that don't decide. An `Err` means out of memory.
+/// `defined_at`, `case`, `lift`, `chosen`, `given_at`, `asked`, `hindrance`, `needs`, `unmet`, `selected_by` and `implied_by`. With `all`
+/// every select and imply is listed, also those that don't decide. An `Err` means out of memory.
 pub fn records_of(
     alloc: Global,
     by: &Sources<'_>,

@@ -42,7 +42,7 @@ abbrev pub step_with : (name : Option (List ℕ)) → Option Cause → (other : 
 step_with (Some name) (Some cause) (Some other) = Some (record { name = name; cause = cause; other = other })
 step_with name cause other = None
 
--- the place after a place of a circle of so many
+-- the place after a place of a circle of `count` places
 abbrev pub next_place : (count at : ℕ) → ℕ
 next_place count at = if nat_lt (at + 1) count then at + 1 else 0
 

@@ -112,7 +112,7 @@ fn limit_of_source(alloc: Global, texts: &Texts, first: &str) -> Result<Limit, A
     Ok(limit_of_count(count))
 }
 
-/// The limit that the last of so many `source` lines passes.
+/// The limit that the last of `count` `source` lines passes.
 fn limit_of_count(count: usize) -> Limit
     ensures { result ≡ (if nat_le MAX_FILES count then Files else TreeBytes) }
 {

@@ -102,7 +102,7 @@ fn step_at<'a>(
     Ok(step_with(name_at(names, at), cause, name_at(names, next)))
 }
 
-/// The place after a place of a circle of so many.
+/// The place after a place of a circle of `count` places.
 fn next_place(count: usize, at: usize) -> usize
     requires there { at < count }
     ensures value { result ≡ next_place count at }

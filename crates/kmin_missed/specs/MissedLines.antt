@@ -25,7 +25,8 @@ in_one_line front (line ∷ lines) = front ++ (drop 2 line ++ in_one_line (codes
 abbrev pub missed_of : SourcesModel → List ℕ
 missed_of g = missed g.tree g.users g.values
 
--- `VALUE: WHY; DETAIL; DETAIL..`, by the reasons of symbol s and its lines: its value, why the line isn't taken, and what `explain` says below that
+-- `VALUE: WHY; DETAIL; DETAIL..`, by the reasons of symbol s and its lines: its value, why the line isn't taken, and what `explain` says
+-- below that
 abbrev pub cause_by : SourcesModel → ℕ → Symbol → PlainReasons → SymbolLines → List ℕ
 cause_by g s symbol r lines =
     value_text g.strings (value_of_symbol g.tree g.values s) ++ (codes ": " ++ (why_text r.hindrance
@@ -55,7 +56,8 @@ abbrev pub missed_row : SourcesModel → ℕ → Kind → Option AssigningPlace 
 missed_row g s kind None = []
 missed_row g s kind (Some p) = asking_front g s kind p ++ (cause_at g s ++ 10 ∷ [])
 
--- of each configuration file whose last line on symbol s a later one overrides that line, then the line that counts, if the symbol is missed
+-- of each configuration file whose last line on symbol s a later one overrides that line, then the line that counts, if the symbol is
+-- missed
 abbrev pub missed_rows : SourcesModel → (is_missed : Bool) → ℕ → Symbol → List ℕ
 missed_rows g is_missed s symbol =
     flat_map (overridden_row g s symbol.kind) (overridden (places_of (unit_for g s) s 0 g.meanings))

@@ -15,7 +15,7 @@ ghost use Rattle.kmin_explain.specs.between.Sources.{config_of, AreReadSources, 
 use crate::one_line::push_in_one_line;
 use kc_config::user_at;
 use kc_config_reasons::{reasons_in, valuation};
-use kc_explanation::{push_located_details, push_value_of, push_why};
+use kc_explanation::{Context, push_located_details, push_value_of, push_why};
 use kc_reasons::{SymbolReasons, wanted_by};
 use kc_symbol_lines::SymbolLines;
 use kc_tree::Sym;
@@ -41,17 +41,13 @@ fn details_by(
     let wanted = wanted_by(under, symbol, user_at(by.config.users(), symbol.unit));
     let places = reason_places(alloc, under, symbol, lines, wanted, reasons.case)?;
     let mut text = Vec::new(alloc);
-    push_located_details(
+    let context = &Context {
         alloc,
-        &mut text,
         under,
-        by.strings,
-        by.tree_paths,
-        s,
-        lines,
-        reasons,
-        &places,
-    )?;
+        strings: by.strings,
+        paths: by.tree_paths,
+    };
+    push_located_details(&mut text, context, s, lines, reasons, &places)?;
     Ok(text)
 }
 

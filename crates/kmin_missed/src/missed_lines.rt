@@ -175,7 +175,7 @@ fn push_missed_rows(
     )
 }
 
-/// The marks of the symbols in a list, of a tree that has so many symbols. An `Err` means out of memory.
+/// The marks of the symbols in a list, of a tree that has `count` symbols. An `Err` means out of memory.
 pub fn marked(alloc: Global, count: u32, symbols: &[Sym]) -> Result<SymbolsOnce, AllocError>
     requires there { All (λ s. s < count) symbols.now }
     ensures marks { IfOk result (λ marks. (s : ℕ) → s < count → slice_index_or marks.is_found.items s false ≡ list_any (λ m. m == s) symbols.now) }

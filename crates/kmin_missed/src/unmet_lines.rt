@@ -14,7 +14,7 @@ ghost use Rattle.kmin_explain.specs.between.Sources.{config_of, AreReadSources, 
 
 use crate::one_line::push_in_one_line;
 use kc_config_reasons::{reasons_in, valuation};
-use kc_explanation::{push_located_unmet, push_name, push_tree_place, push_value_of};
+use kc_explanation::{Context, push_located_unmet, push_name, push_tree_place, push_value_of};
 use kc_located_reasons::dependencies_lack_at;
 use kc_reasons::SymbolReasons;
 use kc_symbol_lines::{Position, SymbolLines};
@@ -39,12 +39,15 @@ fn unmet_details(
     let symbol = &under.rules.tree.symbol(s);
     let unmet = dependencies_lack_at(alloc, under, symbol, lines)?;
     let mut text = Vec::new(alloc);
-    push_located_unmet(
+    let context = &Context {
         alloc,
-        &mut text,
         under,
-        by.strings,
-        by.tree_paths,
+        strings: by.strings,
+        paths: by.tree_paths,
+    };
+    push_located_unmet(
+        &mut text,
+        context,
         s,
         &lines.selectors,
         &reasons.selected_by,

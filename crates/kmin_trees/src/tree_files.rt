@@ -25,11 +25,12 @@ pub(crate) struct GatheredFiles<L> {
     pub(crate) read: Result<ReadTree<L>, TreeFault>,
 }
 
-/// What is left for the files of a tree: their number and their bytes.
+/// What the files of a tree are read with: what is left of their number and of their bytes, and the block that each is read into.
 #[derive(Drop)]
 struct Budget {
     files: u32,
     bytes: usize,
+    block: [u8; MAX_BLOCK_BYTES],
 }
 
 impl Budget {
@@ -38,6 +39,7 @@ impl Budget {
         Budget {
             files: MAX_FILES as u32,
             bytes: MAX_FILE_BYTES,
+            block: [0; MAX_BLOCK_BYTES],
         }
     }
 
@@ -242,7 +244,7 @@ fn insert_one<F: Files>(
     if texts.get(path).is_some() {
         return Ok(false);
     }
-    let Some(bytes) = read_below(alloc, root, path, files)? else {
+    let Some(bytes) = read_below(alloc, root, path, files, &mut budget.block)? else {
         budget.take(0);
         return Ok(false);
     };
@@ -251,12 +253,13 @@ fn insert_one<F: Files>(
     Ok(true)
 }
 
-/// The bytes of the file of a path below the root; `None` if it can't be opened or read.
+/// The bytes of the file of a path below the root, read by way of `block`; `None` if it can't be opened or read.
 fn read_below<F: Files>(
     alloc: Global,
     root: &str,
     path: &str,
     files: &mut F,
+    block: &mut [u8; MAX_BLOCK_BYTES],
 ) -> Result<Option<Vec<u8>>, AllocError>
     ensures same { F.surroundings files.new ≡ F.surroundings files.old }
     ensures bytes { IfOk result (λ found. IfSome found (λ bytes. MatchContentStart ((F.surroundings files.old).content (path_below root.now path.now)) bytes.items)) }
@@ -269,7 +272,7 @@ fn read_below<F: Files>(
     match files.reader_if_there(&place) {
         Some(mut reader) => {
             let capacity = files.size_of(&reader).min(MAX_FILE_BYTES);
-            let found = read_front(alloc, &mut reader, capacity, &mut [0; MAX_BLOCK_BYTES]);
+            let found = read_front(alloc, &mut reader, capacity, block);
             files.close(reader);
             found
         }

@@ -1,12 +1,18 @@
--- Lines of the text that explains a symbol's value, with places or without.
+-- Lines of the text that explains a symbol's value.
 use Rattle.std.specs.Prelude.{ℕ, Bool, List, [], ◌∷◌, ◌++◌, Option, codes, if◌then◌else◌}
 use Rattle.kc_tree_model.specs.Trees.{Symbol}
 use Rattle.kc_tree_model.specs.Blocks.{Position}
 use Rattle.kc_reasons_model.specs.declared.cases.Hindrance.{Hindrance}
 use Rattle.kc_explanation.specs.declared.context.Context.{Context}
 use Rattle.kc_explanation.specs.Explained.{inner_line, is_without_prompt}
-use Rattle.kc_explanation.specs.Located.{located_forcing_lines}
-use Rattle.kc_explanation.specs.checker.Contexts.{tree_of, values_of}
+use Rattle.kc_located_reasons.specs.declared.located_parts.LocatedPart.{LocatedPart}
+use Rattle.kc_located_reasons.specs.between.PartsView.{located_part_view}
+use Rattle.kc_explanation.specs.Located.{located_part_text, located_forcing_lines}
+use Rattle.kc_explanation.specs.checker.Contexts.{exprs_of, tree_of, values_of, names_of}
+
+-- the text of a part
+abbrev pub part_text : Context → LocatedPart → List ℕ
+part_text by p = located_part_text by.strings (names_of by) by.paths.now (located_part_view (exprs_of by) p)
 
 -- the texts of parts that are all needed: `WORD`, the first part, ` and `, the next one
 abbrev pub joined_parts : List ℕ → List (List ℕ) → List ℕ

@@ -3,7 +3,7 @@ use Rattle.std.specs.Prelude.{◌≡◌, ℕ, zero, suc, ◌<◌, ◌≤◌, Lis
 use Rattle.kc_expr.specs.between.Arena.{Exprs}
 use Rattle.kc_expr.specs.Lookup.{index_of_name}
 
--- the number of a symbol, from an entry of a symbol table's `numbers`: one less than the entry; None for 0, which stands for a
+-- the number of a symbol, from an entry of a symbol table's `numbers`: one less than the entry; None for 0, the entry of a
 -- name without a symbol
 abbrev pub number_in_slot : ℕ → Option ℕ
 number_in_slot zero = None

@@ -51,7 +51,7 @@ fn change(
     Ok(twice!(session.apply(changes, &mut Tally::new(alloc))))
 }
 
-/// Whether a new user value of unit 1 changes these units, and so many are evaluated.
+/// Whether a new user value of unit 1 changes these units, and evaluates this number of units.
 fn changes_these(
     rt: &impl Abort,
     alloc: Global,

@@ -5,11 +5,11 @@ use Rattle.kc_explanation.proofs.located_explanation.push_located_details.Goals 
 
 pub returns : goal.returns
 returns c =
-    let exprs = valuation_exprs c.args.under.now in
-    let tree = valuation_tree c.args.under.now in
-    let values = valuation_values c.args.under.now in
-    let strings = c.args.strings in
-    let paths = c.args.paths.now in
+    let exprs = valuation_exprs c.args.by.now.under.now in
+    let tree = valuation_tree c.args.by.now.under.now in
+    let values = valuation_values c.args.by.now.under.now in
+    let strings = c.args.by.now.strings in
+    let paths = c.args.by.now.paths.now in
     let r = c.args.reasons.now in
     let places = c.args.places.now in
     let symbol = symbol_view exprs c.symbol.result in

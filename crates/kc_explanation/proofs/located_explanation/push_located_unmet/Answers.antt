@@ -5,13 +5,13 @@ use Rattle.kc_explanation.proofs.located_explanation.push_located_unmet.Goals as
 
 pub returns : goal.returns
 returns c =
-    let exprs = valuation_exprs c.args.under.now in
-    let tree = valuation_tree c.args.under.now in
-    let values = valuation_values c.args.under.now in
+    let exprs = valuation_exprs c.args.by.now.under.now in
+    let tree = valuation_tree c.args.by.now.under.now in
+    let values = valuation_values c.args.by.now.under.now in
     on_ok_weaker c.push_part_lines.result
     (λ w. joined_two c.args.out.now.items _ _ _ _ c.in_ok-push_selects.ensures
-    (w ∙ ap (λ x. c.push_selects.new.out.items ++ x) (located_lines c.args.strings (environment tree values) exprs c.args.paths.now (codes "unmet: ") c.args.unmet.now))
+    (w ∙ ap (λ x. c.push_selects.new.out.items ++ x) (located_lines c.args.by.now.strings (environment tree values) exprs c.args.by.now.paths.now (codes "unmet: ") c.args.unmet.now))
     ∙ ap (λ x. c.args.out.now.items ++ x)
-    (sym (located_unmet_is c.args.strings c.args.paths.now tree values c.args.s (symbol_view exprs c.symbol.result)
+    (sym (located_unmet_is c.args.by.now.strings c.args.by.now.paths.now tree values c.args.s (symbol_view exprs c.symbol.result)
     (map position_view c.args.selectors.now) c.args.selected_by.now (located_alternatives_view exprs c.args.unmet.now) c.symbol.ensures.symbol)))
     c.push_part_lines.ensures

@@ -4,12 +4,12 @@ use Rattle.kmin_explain_records.proofs.forcing_members.write_numbered.Goals as g
 
 pub returns-else-number-all : goal.returns-else-number-all
 returns-else-number-all c =
-    let under = c.args.under.now in
+    let under = c.args.by.now.under.now in
     let all = c.args.all.now in
     let view = reverse_dependency_view (valuation_exprs under) in
     let n = c.args.number in
     let none : slice_get (map view all) n ≡ None = slice_get_past (map view all) n (subst (λ k. k ≤ n) (sym (length-map all view)) c.if-number-all.false) in
     as_tokens _ _ [] _
-    (ap (λ (f : Option ReverseDependency). flat_map json_tokens (forcing_json c.args.strings c.args.paths.now (valuation_tree under) (valuation_values under) f (slice_get (map position_view c.args.places.now) n)))
+    (ap (λ (f : Option ReverseDependency). flat_map json_tokens (forcing_json c.args.by.now.strings c.args.by.now.paths.now (valuation_tree under) (valuation_values under) f (slice_get (map position_view c.args.places.now) n)))
     (sym none))
     (nothing_more _)

@@ -3,8 +3,8 @@ use Rattle.kmin_explain_records.proofs.forcing_members.write_symbol.Goals as goa
 
 pub returns : goal.returns
 returns c =
-    let tree = valuation_tree c.args.under.now in
-    let value = value_text c.args.strings (value_of_symbol tree (valuation_values c.args.under.now) c.args.s) in
+    let tree = valuation_tree c.args.by.now.under.now in
+    let value = value_text c.args.by.now.strings (value_of_symbol tree (valuation_values c.args.by.now.under.now) c.args.s) in
     as_last c.write_bytes.result _ _ _ _
     (ap (λ (name : List ℕ). list_tokens ((codes "name", string name) ∷ (codes "value", text_json c.deref.result.now) ∷ [])) c.name_of.ensures
     ∙ ap (λ (text : List ℕ). list_tokens ((codes "name", string (name_of_symbol tree c.args.s)) ∷ (codes "value", text_json text) ∷ []))

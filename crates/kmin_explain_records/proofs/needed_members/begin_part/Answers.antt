@@ -4,8 +4,8 @@ use Rattle.kmin_explain_records.proofs.needed_members.begin_part.Goals as goal
 
 pub returns : goal.returns
 returns c =
-    let under = c.args.under.now in
-    let part = spelled_with_values c.args.strings (environment (valuation_tree under) (valuation_values under)) (node_expr (valuation_exprs under) c.args.id) in
+    let under = c.args.by.now.under.now in
+    let part = spelled_with_values c.args.by.now.strings (environment (valuation_tree under) (valuation_values under)) (node_expr (valuation_exprs under) c.args.id) in
     as_last c.write_bytes.result _ _ _ _
     (ap (λ (bytes : List ℕ). begin_object ∷ list_tokens ((codes "part", text_json bytes) ∷ []))
     (c.deref.ensures.value ∙ c.in_ok-push_expression.ensures ∙ ap (λ (before : List ℕ). before ++ part) c.new-text.ensures.items))

@@ -3,8 +3,8 @@ use Rattle.kmin_explain_records.proofs.needed_members.write_alternatives.Goals a
 
 pub returns : goal.returns
 returns c =
-    let under = c.args.under.now in
+    let under = c.args.by.now.under.now in
     as_last c.end_array.result _ _ _ _
     (viewed_array (λ (v : Vec LocatedPart). located_parts_view (valuation_exprs under) v.items)
-    (parts_json c.args.strings (environment (valuation_tree under) (valuation_values under)) c.args.paths.now) c.args.lists.now)
+    (parts_json c.args.by.now.strings (environment (valuation_tree under) (valuation_values under)) c.args.by.now.paths.now) c.args.lists.now)
     (and_last _ _ _ _ _ _ (and_then _ _ _ _ _ (wrote _ _ _ _ c.in_ok-begin_array.ensures) c.in_ok-write_each_alternative.ensures) (last_write _ _ _ _ c.end_array.ensures))

@@ -3,14 +3,14 @@ use Rattle.kmin_explain_records.proofs.needed_members.write_each_alternative.Goa
 
 pub loop-list-preserved : goal.loop-list-preserved
 loop-list-preserved c =
-    let under = c.args.under.now in
-    let parts = λ (ps : List LocatedPart). json_tokens (parts_json c.args.strings (environment (valuation_tree under) (valuation_values under)) c.args.paths.now (located_parts_view (valuation_exprs under) ps)) in
+    let under = c.args.by.now.under.now in
+    let parts = λ (ps : List LocatedPart). json_tokens (parts_json c.args.by.now.strings (environment (valuation_tree under) (valuation_values under)) c.args.by.now.paths.now (located_parts_view (valuation_exprs under) ps)) in
     one_more_written (λ (v : Vec LocatedPart). parts v.items) c.args.lists.now c.loop-list.list-index c.list-item.result _ _ _ c.loop-list-test.true c.loop-list.invariant
     (as_tokens _ _ _ _ (ap parts c.deref.ensures.value ∙ ap (λ (v : Vec LocatedPart). parts v.items) c.list-item.is) c.in_ok-write_parts.ensures)
 
 pub returns : goal.returns
 returns c =
-    let under = c.args.under.now in
+    let under = c.args.by.now.under.now in
     all_written
-    (λ (v : Vec LocatedPart). json_tokens (parts_json c.args.strings (environment (valuation_tree under) (valuation_values under)) c.args.paths.now (located_parts_view (valuation_exprs under) v.items)))
+    (λ (v : Vec LocatedPart). json_tokens (parts_json c.args.by.now.strings (environment (valuation_tree under) (valuation_values under)) c.args.by.now.paths.now (located_parts_view (valuation_exprs under) v.items)))
     c.args.lists.now c.loop-list.list-index _ _ c.loop-list-test.false c.loop-list.invariant

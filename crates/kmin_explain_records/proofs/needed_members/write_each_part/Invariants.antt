@@ -4,5 +4,5 @@ use Rattle.kmin_explain_records.proofs.needed_members.write_each_part.Given as g
 abbrev pub invariant-loop-part : goal.invariant-loop-part
 invariant-loop-part l =
     AppendsTokens l.fn.writer l.writer
-    (flat_map (λ (p : LocatedPart). json_tokens (part_json l.strings (environment (valuation_tree l.under) (valuation_values l.under)) l.paths (located_part_view (valuation_exprs l.under) p)))
+    (flat_map (λ (p : LocatedPart). json_tokens (part_json l.by.strings (environment (valuation_tree l.by.under.now) (valuation_values l.by.under.now)) l.by.paths.now (located_part_view (valuation_exprs l.by.under.now) p)))
     (take l.part-index l.parts))

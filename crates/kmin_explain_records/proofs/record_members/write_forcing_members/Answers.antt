@@ -4,12 +4,12 @@ use Rattle.kmin_explain_records.proofs.record_members.write_forcing_members.Goal
 
 pub returns : goal.returns
 returns c =
-    let strings = c.args.strings in
-    let paths = c.args.paths.now in
-    let tree = valuation_tree c.args.under.now in
-    let values = valuation_values c.args.under.now in
-    let symbol = symbol_view (valuation_exprs c.args.under.now) c.args.symbol.now in
-    let lines = symbol_lines_view (valuation_exprs c.args.under.now) c.args.lines.now in
+    let strings = c.args.by.now.strings in
+    let paths = c.args.by.now.paths.now in
+    let tree = valuation_tree c.args.by.now.under.now in
+    let values = valuation_values c.args.by.now.under.now in
+    let symbol = symbol_view (valuation_exprs c.args.by.now.under.now) c.args.symbol.now in
+    let lines = symbol_lines_view (valuation_exprs c.args.by.now.under.now) c.args.lines.now in
     and_last _ _ _ _ _ _ (wrote _ _ _ _ c.in_ok-key.ensures)
     (and_last _ _ _ _ _ _
     (as_tokens _ _ _ _

@@ -4,19 +4,19 @@ use Rattle.kmin_explain_records.proofs.record_members.write_lacking.Goals as goa
 
 pub returns : goal.returns
 returns c =
-    let exprs = valuation_exprs c.args.under.now in
-    let names = environment (valuation_tree c.args.under.now) (valuation_values c.args.under.now) in
-    let paths = c.args.paths.now in
+    let exprs = valuation_exprs c.args.by.now.under.now in
+    let names = environment (valuation_tree c.args.by.now.under.now) (valuation_values c.args.by.now.under.now) in
+    let paths = c.args.by.now.paths.now in
     let without = is_without_prompt c.args.hindrance (symbol_view exprs c.args.symbol.now) in
     and_last _ _ _ _ _ _ (wrote _ _ _ _ c.in_ok-key.ensures)
     (and_last _ _ _ _ _ _
     (as_tokens _ _ _ _
-    (ap (λ (b : Bool). json_tokens (needs_json c.args.strings names paths b (located_alternatives_view exprs c.deref.result.now)))
+    (ap (λ (b : Bool). json_tokens (needs_json c.args.by.now.strings names paths b (located_alternatives_view exprs c.deref.result.now)))
     (c.is_without_prompt-without_prompt.ensures exprs)
-    ∙ ap (λ (vs : List (Vec LocatedPart)). json_tokens (needs_json c.args.strings names paths without (located_alternatives_view exprs vs))) c.deref.ensures.value)
+    ∙ ap (λ (vs : List (Vec LocatedPart)). json_tokens (needs_json c.args.by.now.strings names paths without (located_alternatives_view exprs vs))) c.deref.ensures.value)
     c.in_ok-write_needs.ensures)
     (and_last _ _ _ _ _ _ (wrote _ _ _ _ c.in_ok-key-2.ensures)
     (as_end c.write_alternatives.result _ _ _
     (as_last c.write_alternatives.result _ _ _ _
-    (ap (λ (vs : List (Vec LocatedPart)). json_tokens (alternatives_json c.args.strings names paths (located_alternatives_view exprs vs))) c.deref-2.ensures.value)
+    (ap (λ (vs : List (Vec LocatedPart)). json_tokens (alternatives_json c.args.by.now.strings names paths (located_alternatives_view exprs vs))) c.deref-2.ensures.value)
     c.write_alternatives.ensures))))

@@ -1,15 +1,10 @@
-//! The text of places, and of what conditions lack with its places.
+//! The text of places.
 ghost use Rattle.std.specs.Prelude.{◌≡◌, ◌++◌, [], OnOk, option_map, slice_index_or};
 ghost use Rattle.kc_symbol_lines.specs.between.LinesView.{position_view};
-ghost use Rattle.kc_located_reasons.specs.between.PartsView.{located_part_view, IsPartThere};
 ghost use Rattle.kc_explanation.specs.Explained.{in_parentheses};
-ghost use Rattle.kc_explanation.specs.Located.{place_text, place_in_parentheses, located_part_text};
-ghost use Rattle.kc_explanation.specs.checker.Contexts.{exprs_of, names_of};
+ghost use Rattle.kc_explanation.specs.Located.{place_text, place_in_parentheses};
 
-use super::context::Context;
-use super::part_texts::PartText;
 use itoa::Buffer;
-use kc_located_reasons::LocatedPart;
 use kc_symbol_lines::Position;
 use kc_value::Text;
 use std::alloc::AllocError;
@@ -25,7 +20,7 @@ pub fn path_of(paths: &[Text], file: u32) -> &str
 }
 
 /// Appends a place in parentheses, by the paths of the tree's files in the order of their numbers.
-fn push_place(out: &mut Vec<u8>, paths: &[Text], at: Position) -> Result<(), AllocError>
+pub(crate) fn push_place(out: &mut Vec<u8>, paths: &[Text], at: Position) -> Result<(), AllocError>
     ensures { OnOk result (out.new.items ≡ out.old.items ++ in_parentheses (place_text paths.now (position_view at))) }
 {
     out.extend_from_slice(b" (")?;
@@ -57,16 +52,5 @@ pub(crate) fn push_place_if(
     match at {
         None => out.extend_from_slice(b""),
         Some(at) => push_place(out, paths, at),
-    }
-}
-
-impl PartText for LocatedPart {
-    ghost is_there = { IsPartThere };
-
-    ghost part_text = { λ by p. located_part_text by.strings (names_of by) by.paths.now (located_part_view (exprs_of by) p) };
-
-    fn push_part(&self, out: &mut Vec<u8>, by: &Context<'_>) -> Result<(), AllocError> {
-        self.part.push_part(out, by)?;
-        push_place(out, by.paths, self.at)
     }
 }
