@@ -42,7 +42,7 @@ pub use Rattle.kc_parser.specs.declared.listing.Line.{Line as CodeLine}
 pub use Rattle.kc_parser.specs.declared.listing.Listing.{Listing}
 pub use Rattle.kc_parser.specs.declared.listing.SymbolTable.{SymbolTable}
 pub use Rattle.kc_statements.specs.between.StatementViews.{AttributeNodesExist, attribute_in, ReadAttribute}
-pub use Rattle.kc_tree_model.specs.between.Attributes.{is_prompt, target_given}
+pub use Rattle.kc_tree_model.specs.between.Attributes.{is_prompt, target_given, DefaultAttribute, RangeAttribute, TargetAttribute}
 pub use Rattle.kc_tree_model.specs.declared.statement.ReverseKind.{ReverseKind}
 pub use Rattle.kc_tree_model.specs.declared.statement.ReverseKind.TheVariants.{Imply, Select}
 pub use Rattle.kc_tokens.specs.declared.language.Language.{Language}
@@ -65,7 +65,7 @@ pub use Rattle.kc_tree_model.specs.Conditions.{GroupInContext, attribute_conditi
 pub use Rattle.kc_tree_model.specs.Contents.{Contents, choice_number, contents_of, defines, definitions_of}
 unfoldable pub use Rattle.kc_tree_model.specs.Contents.{tree_of_files, tree_of_groups}
 pub use Rattle.kc_tree_model.specs.Limits.{names_defined}
-pub use Rattle.kc_tree_model.specs.Statements.{Attribute, DefaultAttribute, RangeAttribute, TargetAttribute, block_of_head, default_of, name_of_head, prompt_of, range_of}
+pub use Rattle.kc_tree_model.specs.Statements.{Attribute, block_of_head, default_of, name_of_head, prompt_of, range_of}
 pub use Rattle.kc_tree_model.specs.declared.statement.Head.TheVariants.{Config as config}
 pub use Rattle.kc_tree_model.specs.TreeFaults.{faults_of_group}
 unfoldable pub use Rattle.kc_tree_model.specs.TreeFaults.{tree_faults}

@@ -5,7 +5,7 @@ use Rattle.kc_checks.proofs.Common.{contents_of, bare_name, choice_number, choic
 use Rattle.kc_checks.proofs.Common.{RepresentsHead, line_in, summary_in, symbol_summaries, choices_at, group_at, read_before, type_in, SymbolSummary, CodeGroup, CodeLine, CodeHead}
 use Rattle.kc_expr.specs.Expr.{Expr, constant, alone}
 use Rattle.kc_expr.specs.between.Names.{name_alone}
-use Rattle.kc_tree_model.specs.Statements.{DefaultAttribute}
+use Rattle.kc_tree_model.specs.between.Attributes.{DefaultAttribute}
 use Rattle.kc_tree_model.specs.Contents.{member_named, name_among}
 use Rattle.kc_tree_model.specs.TreeFaults.{kind_or_bool, is_selectable}
 use Rattle.kc_value.specs.Kinds.{is_tri_kind}

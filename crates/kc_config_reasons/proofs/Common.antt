@@ -6,11 +6,13 @@ pub use Rattle.std.specs.Prelude.{Err, IfOk, Ok, OnOk, Result, option_map, rever
 pub use Rattle.std.specs.Str.{is_utf8}
 pub use Rattle.kc_config.specs.ConfigStates.{tree_in}
 pub use Rattle.kc_config_reasons.specs.between.FileLines.{KeepsLines, later_line, line_at, line_kept, line_view}
-pub use Rattle.kc_config_reasons.specs.between.Places.{file_numbers, place_view}
+pub use Rattle.kc_config_reasons.specs.between.Places.{overridden_view, place_view}
 pub use Rattle.kc_config_reasons.specs.checker.LineSteps.{AreBelow, Keeps, NumbersBelow}
-pub use Rattle.kc_config_reasons.specs.checker.PlaceSteps.{file_asking_otherwise, place_kept, places_kept}
+pub use Rattle.kc_config_reasons.specs.checker.PlaceSteps.{overridden_at, place_asking_otherwise, place_at, place_kept, places_kept}
 pub use Rattle.kc_config_reasons.specs.declared.file_lines.AskingLine.{AskingLine}
 pub use Rattle.kc_config_reasons.specs.declared.file_lines.FileLines.{FileLines}
+pub use Rattle.kc_config_reasons.specs.declared.places.AskingPlace.{AskingPlace}
+pub use Rattle.kc_config_reasons.specs.declared.places.Overridden.{Overridden}
 pub use Rattle.kc_dotconfig.specs.between.MeaningViews.{meaning_view}
 pub use Rattle.kc_dotconfig.specs.declared.meanings.Meaning.{Meaning}
 pub use Rattle.kc_dotconfig_model.specs.ConfigLines.{LineMeaning, Means, assigns, assigns_escaped, silent, unchosen}

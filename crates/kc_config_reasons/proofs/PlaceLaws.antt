@@ -4,15 +4,14 @@ use Rattle.std.specs.Global.{Vec}
 use Rattle.std.specs.Prelude.{option_to_list, find}
 use Rattle.std.specs.Borrow.{Bor}
 use Rattle.kc_config_reasons.proofs.Common.{◌≡◌, ℕ, suc, ◌+◌, ◌<◌, Bool, true, false, cond, List, [], ◌∷◌, ◌++◌, map, drop, length, Option, Some, None, refl, sym, ◌∙◌, ap, arith, get_or, Result, Ok, Err, IfOk, option_map, reverse, option_or, option_copied, AllZip, Tree, unit_of, UserValue}
-use Rattle.kc_config_reasons.proofs.Common.{LineMeaning, assigning_place, overridden, AskingLine, FileLines, line_view, line_kept, KeepsLines, place_view, file_numbers, place_kept, places_kept, file_asking_otherwise}
+use Rattle.kc_config_reasons.proofs.Common.{LineMeaning, assigning_place, overridden, AskingLine, FileLines, line_view, line_kept, KeepsLines, place_view, overridden_view, place_kept, places_kept, place_asking_otherwise, place_at, overridden_at, AskingPlace, Overridden}
 use Rattle.std.proofs.Math.Seq.{drop-cons, drop-length}
 use Rattle.std.proofs.lemmas.List.{map-append, reverse-append, length-map, length-drop}
 use Rattle.kc_rules_model.specs.Equality.{same_user}
 use Rattle.kc_rules_model.specs.checker.EqualityLaws.{users_decided}
 use Rattle.kc_reasons_model.specs.AssigningLines.{AssigningPlace, place_giving}
-use Rattle.kc_reasons_model.specs.OverriddenLines.{places_of, asks_otherwise, overriding}
-use Rattle.kc_config_reasons.specs.declared.places.Overridden.{Overridden}
-use Rattle.kc_config_reasons.specs.checker.PlaceSteps.{place_in, overridden_by}
+use Rattle.kc_reasons_model.specs.OverriddenLines.{OverriddenPlace, places_of, asks_otherwise, overriding}
+use Rattle.kc_config_reasons.specs.checker.PlaceSteps.{place_in}
 
 -- ---- by what files keep
 
@@ -68,14 +67,14 @@ module _ (u s : ℕ) where
   none_behind files = ap (place_kept u s (length files)) (drop-length files)
 
   -- one more file was asked for its line
-  pub one_more : (files : List FileLines) (k : ℕ) (file : FileLines) (o : Option (Bor AskingLine)) (old new : List (ℕ × Bor AskingLine)) (all : List AssigningPlace)
+  pub one_more : (files : List FileLines) (k : ℕ) (file : FileLines) (o : Option (Bor AskingLine)) (old new : List AskingPlace) (all : List AssigningPlace)
       → k < length files → file ≡ get_or files k file → option_copied o ≡ line_kept file u s
-      → new ≡ old ++ option_to_list (option_map (λ (l : Bor AskingLine). (k, l)) o)
+      → new ≡ old ++ option_to_list (option_map (place_at k) o)
       → map place_view old ++ places_kept u s k (drop k files) ≡ all → map place_view new ++ places_kept u s (k + 1) (drop (k + 1) files) ≡ all
   one_more files k file o old new all inside is kept pushed before =
       let next : k + 1 ≡ suc k = omega arith in
       let rest = places_kept u s (suc k) (drop (suc k) files) in
-      let pushed_place : map place_view (option_to_list (option_map (λ (l : Bor AskingLine). (k, l)) o)) ≡ option_to_list (place_in u s k file) =
+      let pushed_place : map place_view (option_to_list (option_map (place_at k) o)) ≡ option_to_list (place_in u s k file) =
       of_option o ∙ ap (λ l. option_to_list (place_giving k (option_map line_view l))) kept in
       ap (λ n. map place_view new ++ places_kept u s n (drop n files)) next
       ∙ ap (λ ps. map place_view ps ++ rest) pushed
@@ -84,7 +83,7 @@ module _ (u s : ℕ) where
       ∙ ap (λ ps. map place_view old ++ ps) (sym there)
       ∙ before
     where
-      of_option : (o : Option (Bor AskingLine)) → map place_view (option_to_list (option_map (λ (l : Bor AskingLine). (k, l)) o)) ≡ option_to_list (place_giving k (option_map line_view (option_copied o)))
+      of_option : (o : Option (Bor AskingLine)) → map place_view (option_to_list (option_map (place_at k) o)) ≡ option_to_list (place_giving k (option_map line_view (option_copied o)))
       of_option None = refl
       of_option (Some l) = refl
 
@@ -101,27 +100,24 @@ first_asking : (x : UserValue) (q : AssigningPlace) (later : List AssigningPlace
 first_asking x q later true same = ap (λ d. cond (not d) (Some q) (find (asks_otherwise x) later)) same ∙ ap (λ y. find (asks_otherwise y) later) ((users_decided x q.line.user).0 same)
 first_asking x q later false same = ap (λ d. cond (not d) (Some q) (find (asks_otherwise x) later)) same
 
-abbrev file_in : AssigningPlace → ℕ
-file_in q = q.file
-
-module _ (places : List (ℕ × Bor AskingLine)) (i : ℕ) where
+module _ (places : List AskingPlace) (i : ℕ) where
   abbrev behind : ℕ → List AssigningPlace
   behind k = map place_view (drop k places)
 
   -- the last place has none after it
-  pub none_after : i + 1 ≡ length places → file_asking_otherwise (behind i) ≡ None
+  pub none_after : i + 1 ≡ length places → place_asking_otherwise (behind i) ≡ None
   none_after last = at_most_one (behind i) (let mapped = length-map (drop i places) place_view in let left = length-drop i places in omega arith) where
-    at_most_one : (ps : List AssigningPlace) → length ps < 2 → file_asking_otherwise ps ≡ None
+    at_most_one : (ps : List AssigningPlace) → length ps < 2 → place_asking_otherwise ps ≡ None
     at_most_one [] few = refl
     at_most_one (p ∷ []) few = refl
     at_most_one (p ∷ q ∷ ps) few = absurd (omega arith)
 
   -- and any other the next one, or the one after that
-  pub one_after : (p q : ℕ × Bor AskingLine) → i < length places → i + 1 < length places → p ≡ get_or places i p → q ≡ get_or places (i + 1) q → (b : Bool) → same_user p.1.now.user q.1.now.user ≡ b
-      → file_asking_otherwise (behind i) ≡ cond b (file_asking_otherwise (behind (i + 1))) (Some q.0)
+  pub one_after : (p q : AskingPlace) → i < length places → i + 1 < length places → p ≡ get_or places i p → q ≡ get_or places (i + 1) q → (b : Bool) → same_user p.line.now.user q.line.now.user ≡ b
+      → place_asking_otherwise (behind i) ≡ cond b (place_asking_otherwise (behind (i + 1))) (Some (place_view q))
   one_after p q inside next is_p is_q b same =
-      ap file_asking_otherwise (ap (map place_view) here) ∙ ap (option_map file_in) (first_asking p.1.now.user (place_view q) (behind (suc (i + 1))) b same)
-      ∙ by_test b ∙ ap (λ ps. cond b (file_asking_otherwise (map place_view ps)) (Some q.0)) (sym there)
+      ap place_asking_otherwise (ap (map place_view) here) ∙ first_asking p.line.now.user (place_view q) (behind (suc (i + 1))) b same
+      ∙ ap (λ ps. cond b (place_asking_otherwise (map place_view ps)) (Some (place_view q))) (sym there)
     where
       there : drop (i + 1) places ≡ q ∷ drop (suc (i + 1)) places
       there = drop-cons places (i + 1) q next ∙ ap (λ x. x ∷ drop (suc (i + 1)) places) (sym is_q)
@@ -131,44 +127,37 @@ module _ (places : List (ℕ × Bor AskingLine)) (i : ℕ) where
           drop-cons places i p inside ∙ ap (λ x. x ∷ drop (suc i) places) (sym is_p)
           ∙ ap (λ ps. p ∷ ps) (ap (λ n. drop n places) (let same : suc i ≡ i + 1 = omega arith in same) ∙ there)
 
-      by_test : (b : Bool) → option_map file_in (cond b (find (asks_otherwise q.1.now.user) (behind (suc (i + 1)))) (Some (place_view q)))
-          ≡ cond b (option_map file_in (find (asks_otherwise q.1.now.user) (behind (suc (i + 1))))) (Some q.0)
-      by_test true = refl
-      by_test false = refl
-
   -- one more place was looked at
-  pub more_overridden : (p : ℕ × Bor AskingLine) (by : Option ℕ) (old new : List Overridden) → i < length places → p ≡ get_or places i p → by ≡ file_asking_otherwise (behind i)
-      → reverse old ≡ map file_numbers (overridden (behind (suc i))) → new ≡ old ++ option_to_list (overridden_by p.0 by)
-      → reverse new ≡ map file_numbers (overridden (behind i))
+  pub more_overridden : (p : AskingPlace) (by : Option AskingPlace) (old new : List Overridden) → i < length places → p ≡ get_or places i p
+      → option_map place_view by ≡ place_asking_otherwise (behind i)
+      → map overridden_view (reverse old) ≡ overridden (behind (suc i)) → new ≡ old ++ option_to_list (option_map (overridden_at p) by)
+      → map overridden_view (reverse new) ≡ overridden (behind i)
   more_overridden p by old new inside is first before pushed =
-      ap reverse pushed ∙ reverse-append old (option_to_list (overridden_by p.0 by))
-      ∙ ap (λ xs. xs ++ reverse old) (of_one (overridden_by p.0 by) ∙ ap (λ o. option_to_list (overridden_by p.0 o)) first_of_rest)
-      ∙ ap (λ xs. option_to_list (overridden_by p.0 (option_map file_in (find (asks_otherwise p.1.now.user) (behind (suc i))))) ++ xs) before
-      ∙ ap (λ xs. xs ++ map file_numbers (overridden (behind (suc i)))) (of_found (find (asks_otherwise p.1.now.user) (behind (suc i))))
-      ∙ sym (map-append file_numbers (option_to_list (overriding (place_view p) (behind (suc i)))) (overridden (behind (suc i))))
-      ∙ ap (λ ps. map file_numbers (overridden (map place_view ps))) (sym here)
+      ap (λ xs. map overridden_view (reverse xs)) pushed
+      ∙ ap (map overridden_view) (reverse-append old (option_to_list (option_map (overridden_at p) by)))
+      ∙ map-append overridden_view (reverse (option_to_list (option_map (overridden_at p) by))) (reverse old)
+      ∙ ap (λ xs. xs ++ map overridden_view (reverse old)) (of_found by)
+      ∙ ap (λ (o : Option AssigningPlace). option_to_list (option_map overriding_here o) ++ map overridden_view (reverse old)) (first ∙ ap (λ ps. place_asking_otherwise (map place_view ps)) here)
+      ∙ ap (λ xs. option_to_list (overriding (place_view p) (behind (suc i))) ++ xs) before
+      ∙ ap (λ ps. overridden (map place_view ps)) (sym here)
     where
       here : drop i places ≡ p ∷ drop (suc i) places
       here = drop-cons places i p inside ∙ ap (λ x. x ∷ drop (suc i) places) (sym is)
 
-      first_of_rest : by ≡ option_map file_in (find (asks_otherwise p.1.now.user) (behind (suc i)))
-      first_of_rest = first ∙ ap (λ ps. file_asking_otherwise (map place_view ps)) here
+      overriding_here : AssigningPlace → OverriddenPlace
+      overriding_here q = record { place = place_view p; by = q }
 
-      of_one : (o : Option Overridden) → reverse (option_to_list o) ≡ option_to_list o
-      of_one None = refl
-      of_one (Some o) = refl
-
-      of_found : (o : Option AssigningPlace) → option_to_list (overridden_by p.0 (option_map file_in o)) ≡ map file_numbers (option_to_list (option_map (λ q. record { place = place_view p; by = q }) o))
+      of_found : (o : Option AskingPlace) → map overridden_view (reverse (option_to_list (option_map (overridden_at p) o))) ≡ option_to_list (option_map overriding_here (option_map place_view o))
       of_found None = refl
       of_found (Some q) = refl
 
-pub none_yet : (places : List (ℕ × Bor AskingLine)) → [] ≡ map file_numbers (overridden (map place_view (drop (length places) places)))
-none_yet places = sym (ap (λ ps. map file_numbers (overridden (map place_view ps))) (drop-length places))
+pub none_yet : (places : List AskingPlace) → [] ≡ overridden (map place_view (drop (length places) places))
+none_yet places = sym (ap (λ ps. overridden (map place_view ps)) (drop-length places))
 
 -- what is found by what files keep is found by their lines
 pub all_found : {E : Type 0} (u s : ℕ) (files : List FileLines) (r : Result (Vec Overridden) E) (kept : List AssigningPlace) → kept ≡ places_kept u s 0 files
-    → IfOk r (λ found. found.items ≡ map file_numbers (overridden kept))
-    → IfOk r (λ found. (tree : Tree) (meanings : List (List LineMeaning)) → u ≡ unit_of tree s → AllZip (KeepsLines tree) meanings files → found.items ≡ map file_numbers (overridden (places_of u s 0 meanings)))
+    → IfOk r (λ found. map overridden_view found.items ≡ overridden kept)
+    → IfOk r (λ found. (tree : Tree) (meanings : List (List LineMeaning)) → u ≡ unit_of tree s → AllZip (KeepsLines tree) meanings files → map overridden_view found.items ≡ overridden (places_of u s 0 meanings))
 all_found u s files (Ok found) kept is e = λ tree meanings own all.
-    e ∙ ap (λ ps. map file_numbers (overridden ps)) (is ∙ ap (λ w. places_kept w s 0 files) own ∙ places_are tree s 0 meanings files all ∙ ap (λ w. places_of w s 0 meanings) (sym own))
+    e ∙ ap overridden (is ∙ ap (λ w. places_kept w s 0 files) own ∙ places_are tree s 0 meanings files all ∙ ap (λ w. places_of w s 0 meanings) (sym own))
 all_found u s files (Err f) kept is e = tt

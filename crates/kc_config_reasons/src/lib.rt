@@ -9,4 +9,4 @@ mod places;
 pub use config_reasons::{reasons_in, valuation};
 pub use file_lines::{AskingLine, FileLines};
 pub use file_reader::lines_of_file;
-pub use places::{Overridden, deciding_line, overridden_files};
+pub use places::{AskingPlace, Overridden, deciding_line, overridden_lines};

@@ -8,8 +8,8 @@ ghost use Rattle.kc_dotconfig_model.specs.ConfigLines.{LineMeaning};
 ghost use Rattle.kc_reasons_model.specs.AssigningLines.{assigning_place};
 ghost use Rattle.kc_reasons_model.specs.OverriddenLines.{places_of, overridden};
 ghost use Rattle.kc_config_reasons.specs.between.FileLines.{line_kept, KeepsLines};
-ghost use Rattle.kc_config_reasons.specs.between.Places.{place_view, file_numbers};
-ghost use Rattle.kc_config_reasons.specs.checker.PlaceSteps.{places_kept, file_asking_otherwise, overridden_by};
+ghost use Rattle.kc_config_reasons.specs.between.Places.{place_view, overridden_view};
+ghost use Rattle.kc_config_reasons.specs.checker.PlaceSteps.{place_at, overridden_at, places_kept, place_asking_otherwise};
 
 use super::file_lines::{AskingLine, FileLines};
 use kc_rules::Settled;
@@ -17,21 +17,28 @@ use kc_solver::System;
 use kc_tree::Sym;
 use std::alloc::{AllocError, Global};
 
-/// A configuration file whose last line on a symbol a later file overrides: the numbers of both files, from 0.
-#[derive(Clone, Copy, Debug, PartialEq, Eq)]
-pub struct Overridden {
+/// A line of the configuration file with this number, from 0.
+#[derive(Clone, Copy)]
+pub struct AskingPlace<'a> {
     pub file: usize,
-    pub by: usize,
+    pub line: &'a AskingLine,
+}
+
+/// The last line of a configuration file on a symbol, and that of the first later file that asks for another value.
+#[derive(Clone, Copy)]
+pub struct Overridden<'a> {
+    pub place: AskingPlace<'a>,
+    pub by: AskingPlace<'a>,
 }
 
 /// Of some configuration files, each of which overrides those before it, the last that has a line that says something of symbol `s`,
-/// which is of this unit: the number of the file, from 0, and its last such line.
-pub fn deciding_line(files: &[FileLines], unit: u32, s: Sym) -> Option<(usize, &AskingLine)>
+/// which is of this unit: its last such line.
+pub fn deciding_line(files: &[FileLines], unit: u32, s: Sym) -> Option<AskingPlace<'_>>
     ensures { (tree : Tree) (meanings : List (List LineMeaning)) → unit ≡ unit_of tree s → AllZip (KeepsLines tree) meanings files.now → option_map place_view result ≡ assigning_place unit s 0 meanings }
 {
     for file in (0..files.len()).rev() {
         if let Some(line) = files[file].line_for(unit, s) {
-            return Some((file, line));
+            return Some(AskingPlace { file, line });
         }
     }
     None
@@ -39,25 +46,25 @@ pub fn deciding_line(files: &[FileLines], unit: u32, s: Sym) -> Option<(usize, &
 
 /// Appends the line of a file, if there is one.
 fn push_place<'a>(
-    found: &mut Vec<(usize, &'a AskingLine)>,
+    found: &mut Vec<AskingPlace<'a>>,
     file: usize,
     line: Option<&'a AskingLine>,
 ) -> Result<(), AllocError>
-    ensures { OnOk result (found.new.items ≡ found.old.items ++ option_to_list (option_map (λ l. (file, l)) line.entry)) }
+    ensures { OnOk result (found.new.items ≡ found.old.items ++ option_to_list (option_map (place_at file) line.entry)) }
 {
     if let Some(line) = line {
-        found.push((file, line))?;
+        found.push(AskingPlace { file, line })?;
     }
     Ok(())
 }
 
-/// Of each file that has one, its number and its last line that says something of symbol `s` of this unit.
+/// Of each file that has one, its last line that says something of symbol `s` of this unit.
 fn places_kept(
     alloc: Global,
     files: &[FileLines],
     unit: u32,
     s: Sym,
-) -> Result<Vec<(usize, &AskingLine)>, AllocError>
+) -> Result<Vec<AskingPlace<'_>>, AllocError>
     ensures { IfOk result (λ found. map place_view found.items ≡ places_kept unit s 0 files.now) }
 {
     let mut found = Vec::new(alloc);
@@ -74,71 +81,69 @@ fn ask_alike(a: &AskingLine, b: &AskingLine) -> bool
     Settled::same_user(&a.user, &b.user)
 }
 
-/// The first later file whose line asks for another value than that of the place at `i`, where this is the one for the place after
-/// it.
-fn file_asking_otherwise(
-    places: &[(usize, &AskingLine)],
+/// The first later line that asks for another value than that at `i`, where this is the one for the line after it.
+fn place_asking_otherwise<'a>(
+    places: &[AskingPlace<'a>],
     i: usize,
-    after: Option<usize>,
-) -> Option<usize>
+    after: Option<AskingPlace<'a>>,
+) -> Option<AskingPlace<'a>>
     requires there { i < length places.now }
-    requires after { after ≡ file_asking_otherwise (map place_view (drop (i + 1) places.now)) }
-    ensures value { result ≡ file_asking_otherwise (map place_view (drop i places.now)) }
+    requires after { option_map place_view after ≡ place_asking_otherwise (map place_view (drop (i + 1) places.now)) }
+    ensures value { option_map place_view result ≡ place_asking_otherwise (map place_view (drop i places.now)) }
 {
     if i + 1 == places.len() {
         return None;
     }
-    let (_file, line) = places[i];
-    let (next_file, next_line) = places[i + 1];
-    if ask_alike(line, next_line) {
+    let place = places[i];
+    let next = places[i + 1];
+    if ask_alike(place.line, next.line) {
         after
     } else {
-        Some(next_file)
+        Some(next)
     }
 }
 
-/// Appends a file, if a later one overrides it.
-fn push_overridden(
-    found: &mut Vec<Overridden>,
-    file: usize,
-    by: Option<usize>,
+/// Appends a line, if a later one overrides it.
+fn push_overridden<'a>(
+    found: &mut Vec<Overridden<'a>>,
+    place: AskingPlace<'a>,
+    by: Option<AskingPlace<'a>>,
 ) -> Result<(), AllocError>
-    ensures { OnOk result (found.new.items ≡ found.old.items ++ option_to_list (overridden_by file by)) }
+    ensures { OnOk result (found.new.items ≡ found.old.items ++ option_to_list (option_map (overridden_at place.entry) by.entry)) }
 {
     if let Some(by) = by {
-        found.push(Overridden { file, by })?;
+        found.push(Overridden { place, by })?;
     }
     Ok(())
 }
 
-/// Of places of lines, in the order of their files, those whose line a later one overrides.
-fn overridden_among(
+/// Of lines, in the order of their files, those that a later one overrides.
+fn overridden_among<'a>(
     alloc: Global,
-    places: &[(usize, &AskingLine)],
-) -> Result<Vec<Overridden>, AllocError>
-    ensures { IfOk result (λ found. found.items ≡ map file_numbers (overridden (map place_view places.now))) }
+    places: &[AskingPlace<'a>],
+) -> Result<Vec<Overridden<'a>>, AllocError>
+    ensures { IfOk result (λ found. map overridden_view found.items ≡ overridden (map place_view places.now)) }
 {
     let mut found = Vec::new(alloc);
     let mut by = None;
     for i in (0..places.len()).rev() {
-        by = file_asking_otherwise(places, i, by);
-        let (file, _line) = places[i];
-        push_overridden(&mut found, file, by)?;
+        by = place_asking_otherwise(places, i, by);
+        push_overridden(&mut found, places[i], by)?;
     }
     found.reverse();
     Ok(found)
 }
 
-/// Of some configuration files, each of which overrides those before it, those whose last line that says something of symbol `s`,
-/// which is of this unit, asks for another value than that of a later file, each with the first such file. An `Err` means out of
+/// Of some configuration files, each of which overrides those before it, the last lines that say something of symbol `s`, which is of
+/// this unit, and ask for another value than that of a later file, each with that of the first such file. An `Err` means out of
 /// memory.
-pub fn overridden_files(
+pub fn overridden_lines(
     alloc: Global,
     files: &[FileLines],
     unit: u32,
     s: Sym,
-) -> Result<Vec<Overridden>, AllocError>
-    ensures { IfOk result (λ found. (tree : Tree) (meanings : List (List LineMeaning)) → unit ≡ unit_of tree s → AllZip (KeepsLines tree) meanings files.now → found.items ≡ map file_numbers (overridden (places_of unit s 0 meanings))) }
+) -> Result<Vec<Overridden<'_>>, AllocError>
+    ensures { IfOk result (λ found. (tree : Tree) (meanings : List (List LineMeaning)) → unit ≡ unit_of tree s → AllZip (KeepsLines tree) meanings files.now → map overridden_view found.items ≡ overridden (places_of unit s 0 meanings)) }
 {
     let places = places_kept(alloc, files, unit, s)?;
     overridden_among(alloc, &places)

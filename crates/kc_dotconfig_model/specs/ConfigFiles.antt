@@ -12,7 +12,7 @@ use Rattle.kc_rules_model.specs.MemberLines.{merged_lines}
 use Rattle.kc_dotconfig_model.specs.Formats.{FileFormat}
 use Rattle.kc_dotconfig_model.specs.declared.notice.NoticeKind.{NoticeKind}
 use Rattle.kc_dotconfig_model.specs.declared.notice.NoticeKind.TheVariants.{Escape}
-use Rattle.kc_dotconfig_model.specs.ConfigLines.{LineMeaning, assigns, assigns_escaped, unchosen, notice, silent, Means}
+use Rattle.kc_dotconfig_model.specs.ConfigLines.{LineMeaning, assigns, assigns_escaped, notice, Means}
 use Rattle.kc_tree_model.specs.LogicalLines.{without_white_end}
 
 -- the lines of a configuration file, without their newlines; the last line may lack its newline in the file
@@ -48,9 +48,7 @@ merged_user (MemberUser s) earlier = MemberUser s
 abbrev pub assigned : LineMeaning → List (Option UserValue) → List (Option UserValue)
 assigned (assigns u x) users = slice_set users u (Some (merged_user x (user_of users u)))
 assigned (assigns_escaped u text) users = slice_set users u (Some (TextUser text))
-assigned (unchosen u s) users = users
-assigned (notice kind) users = users
-assigned silent users = users
+assigned _ users = users
 
 -- the assignment of user values after the lines of a file, each over the assignment before it (`merged_user`)
 abbrev pub assigned_over : List LineMeaning → List (Option UserValue) → List (Option UserValue)
@@ -85,8 +83,6 @@ files_assignment tree meanings = merged_files tree (empty_assignment tree) meani
 -- the notices among the meanings of a file's lines, with the numbers of their lines, where the first line has the number `n`
 abbrev pub notices_from : ℕ → List LineMeaning → List (ℕ × NoticeKind)
 notices_from n [] = []
-notices_from n (assigns u x ∷ meanings) = notices_from (n + 1) meanings
 notices_from n (assigns_escaped u text ∷ meanings) = (n, Escape) ∷ notices_from (n + 1) meanings
-notices_from n (unchosen u s ∷ meanings) = notices_from (n + 1) meanings
 notices_from n (notice kind ∷ meanings) = (n, kind) ∷ notices_from (n + 1) meanings
-notices_from n (silent ∷ meanings) = notices_from (n + 1) meanings
+notices_from n (_ ∷ meanings) = notices_from (n + 1) meanings

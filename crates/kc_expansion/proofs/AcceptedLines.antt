@@ -10,7 +10,8 @@ use Rattle.kc_expr.specs.Grammar.{operand_of_lexeme}
 use Rattle.kc_tree_model.specs.declared.fault.TreeKind.TheVariants.{Malformed, LeftOut, Misplaced, StrayEnd, LineTooLong, NotUtf8}
 use Rattle.kc_tree_model.specs.declared.keyword.Keyword.TheVariants as words
 use Rattle.kc_tree_model.specs.Keywords.{is_quoted_kind, is_the_word, is_name}
-use Rattle.kc_tree_model.specs.Statements.{Head, DefaultAttribute, environment_default, TargetAttribute, Attribute}
+use Rattle.kc_tree_model.specs.Statements.{Head, environment_default, Attribute}
+use Rattle.kc_tree_model.specs.between.Attributes.{DefaultAttribute, TargetAttribute}
 use Rattle.kc_tree_model.specs.declared.statement.Head.TheVariants.{Config as config, Choice as choice, Menu as menu, Condition as condition, Comment as comment, Mainmenu as mainmenu, Ends as ends}
 use Rattle.kc_tree_model.specs.declared.statement.Attribute.TheVariants.{TypedPrompt as typed_prompt, TypedDefault as typed_default, Prompt as prompt, Default as default, Depends as depends, Select as select, Imply as imply, Range as range, Visible as visible, Help as help, Modules as modules, Optional as optional}
 use Rattle.kc_tree_model.specs.Forms.{leading_expr, ◌>>=◌, statement_of, config_line, titled_line, source_line, path_of, is_glob, prompt_line, type_line, default_line, target_line, range_of_operands, range_line, condition_line, environment_of_operand, environment_line, option_line, no_more, last_condition, optional_if}

@@ -2,6 +2,10 @@
 use Rattle.kc_expr.proofs.Common.{◌≡◌, ℕ, suc, zero, ◌<◌, ◌++◌, ◌⊎◌, inl, inr, List, [], ◌∷◌, length, get_or, map, Some, None, refl, ap, sym, ◌∙◌, subst, append_assoc, arith, rules, eqb, slice_index_or, length-map, Leaf, Node, Alone, NodeStore, Exprs, node_expr, Expr, negated, both, either, shown}
 use Rattle.kc_expr.proofs.Common.{names_in, operand_of, expr_of, some_node, stored_names, exprs_in, IsSound, names_in_reverse, AreDistinct}
 use Rattle.std.specs.Prelude.{Contains}
+use Rattle.kc_expr.specs.checker.Nodes.{joined}
+use Rattle.kc_expr.specs.declared.node.Connective.{Connective}
+use Rattle.kc_expr.specs.declared.node.Connective.TheVariants.{And, Or}
+use Rattle.kc_expr.specs.declared.node.Node.TheVariants.{Joined}
 use Rattle.std.proofs.lemmas.List.Kept.{Contains-dedup_nat, Contains-from_dedup}
 use Rattle.std.proofs.lemmas.List.Sorted.{Contains-permutation, IsPermutation-sym}
 use Rattle.std.specs.List.{dedup}
@@ -14,6 +18,8 @@ use Rattle.kc_expr.proofs.StoreLemmas.{within_nodes, node_of}
 -- a node that is no operand represents an expression that isn't just an operand
 pub not_alone : (names texts : List (List ℕ)) (es : List Expr) (n : Node) → ((a : Leaf) → n ≡ Alone a → ⊥) → operand_alone (expr_of names texts es n) ≡ None
 not_alone names texts es (Alone a) h = absurd (h a refl)
+not_alone names texts es (Joined And i j) h = refl
+not_alone names texts es (Joined Or i j) h = refl
 not_alone names texts es _ h = refl
 
 -- the operand of an arena's expression, by its node
@@ -53,6 +59,10 @@ module _ (x : List ℕ) where
   from_words (both a b) h = swapped (names_in_reverse b) (names_in_reverse a) (names_in b) (names_in a) (from_words b) (from_words a) h
   from_words (either a b) h = swapped (names_in_reverse b) (names_in_reverse a) (names_in b) (names_in a) (from_words b) (from_words a) h
   from_words _ h = h
+
+pub reverse_joined : (c : Connective) (a b : Expr) → names_in_reverse (joined c a b) ≡ names_in_reverse b ++ names_in_reverse a
+reverse_joined And a b = refl
+reverse_joined Or a b = refl
 
 -- names that were appended for the right part of an expression, and then for its left part, are those of both parts
 pub names_of_both : (front right left found all : List (List ℕ)) → found ≡ front ++ right → front ++ (right ++ left) ≡ all → found ++ left ≡ all

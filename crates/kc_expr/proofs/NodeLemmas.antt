@@ -1,11 +1,14 @@
 -- The expressions of nodes, one after another.
-use Rattle.kc_expr.proofs.Common.{◌≡◌, ℕ, suc, zero, ◌+◌, ◌<◌, ◌≤◌, List, [], ◌∷◌, ◌++◌, length, get_or, refl, ap, sym, ◌∙◌, arith, length-append, inl, inr, ◌⊎◌, get_or_append_left, get_or-append_seam, N, M, Y, tri_and, tri_or, Expr, alone, constant, negated, both, either, shown, Node, Represents}
+use Rattle.kc_expr.proofs.Common.{◌≡◌, ℕ, suc, zero, ◌+◌, ◌<◌, ◌≤◌, List, [], ◌∷◌, ◌++◌, length, get_or, refl, ap, sym, ◌∙◌, arith, length-append, inl, inr, ◌⊎◌, get_or_append_left, get_or-append_seam, N, M, Y, tri_and, tri_or, Expr, alone, constant, negated, shown, Node, Represents}
 use Rattle.kc_expr.proofs.Common.{cases_lt, expr_of, exprs_after, exprs_of, NodeFits, some_node}
 use Rattle.kc_value.specs.declared.tri.Tri.{Tri}
-use Rattle.kc_expr.specs.declared.node.Node.TheVariants.{Negated, Both, Either, Shown}
-use Rattle.kc_expr.specs.checker.Nodes.{at, AreNodes}
+use Rattle.kc_expr.specs.Expr.{Environment, value}
+use Rattle.kc_expr.specs.declared.node.Node.TheVariants.{Negated, Joined, Shown}
+use Rattle.kc_expr.specs.declared.node.Connective.{Connective}
+use Rattle.kc_expr.specs.declared.node.Connective.TheVariants.{And, Or}
+use Rattle.kc_expr.specs.checker.Nodes.{at, AreNodes, joined, joined_value}
 
-pub tri_and_comm : (a b : Tri) → tri_and a b ≡ tri_and b a
+tri_and_comm : (a b : Tri) → tri_and a b ≡ tri_and b a
 tri_and_comm N N = refl
 tri_and_comm N M = refl
 tri_and_comm N Y = refl
@@ -13,7 +16,7 @@ tri_and_comm _ N = refl
 tri_and_comm _ M = refl
 tri_and_comm _ Y = refl
 
-pub tri_and_assoc : (a b c : Tri) → tri_and (tri_and a b) c ≡ tri_and a (tri_and b c)
+tri_and_assoc : (a b c : Tri) → tri_and (tri_and a b) c ≡ tri_and a (tri_and b c)
 tri_and_assoc N b c = refl
 tri_and_assoc Y b c = refl
 tri_and_assoc M N c = refl
@@ -21,11 +24,7 @@ tri_and_assoc M _ N = refl
 tri_and_assoc M _ M = refl
 tri_and_assoc M _ Y = refl
 
--- a value that is joined by `&&` with a right value and then with a left one is the value joined with the `&&` of both
-pub chained : (least left right : Tri) → tri_and (tri_and least right) left ≡ tri_and least (tri_and left right)
-chained least left right = tri_and_assoc least right left ∙ ap (tri_and least) (tri_and_comm right left)
-
-pub tri_or_comm : (a b : Tri) → tri_or a b ≡ tri_or b a
+tri_or_comm : (a b : Tri) → tri_or a b ≡ tri_or b a
 tri_or_comm N N = refl
 tri_or_comm N M = refl
 tri_or_comm N Y = refl
@@ -33,7 +32,7 @@ tri_or_comm _ N = refl
 tri_or_comm _ M = refl
 tri_or_comm _ Y = refl
 
-pub tri_or_assoc : (a b c : Tri) → tri_or (tri_or a b) c ≡ tri_or a (tri_or b c)
+tri_or_assoc : (a b c : Tri) → tri_or (tri_or a b) c ≡ tri_or a (tri_or b c)
 tri_or_assoc N b c = refl
 tri_or_assoc Y b c = refl
 tri_or_assoc M N c = refl
@@ -41,20 +40,27 @@ tri_or_assoc M _ N = refl
 tri_or_assoc M _ M = refl
 tri_or_assoc M _ Y = refl
 
-pub ors_start : (greatest left right : Tri) → greatest ≡ right → tri_or greatest left ≡ tri_or left right
-ors_start greatest left right e = rw e (tri_or_comm right left)
+joined_comm : (c : Connective) (a b : Tri) → joined_value c a b ≡ joined_value c b a
+joined_comm And = tri_and_comm
+joined_comm Or = tri_or_comm
 
-pub ors_more : (new greatest found left right here all : Tri) → new ≡ tri_or greatest found → found ≡ right → here ≡ tri_or left right
-    → tri_or greatest here ≡ all → tri_or new left ≡ all
-ors_more new greatest found left right here all e f h k = rw (e, f) (tri_or_assoc greatest right left ∙ ap (tri_or greatest) (tri_or_comm right left)
-    ∙ ap (tri_or greatest) (sym h) ∙ k)
+joined_assoc : (c : Connective) (a b d : Tri) → joined_value c (joined_value c a b) d ≡ joined_value c a (joined_value c b d)
+joined_assoc And = tri_and_assoc
+joined_assoc Or = tri_or_assoc
 
-pub chain_start : (least left right : Tri) → least ≡ right → tri_and least left ≡ tri_and left right
-chain_start least left right e = rw e (tri_and_comm right left)
+-- the value of expressions that are joined is that of their values
+pub value_joined : (c : Connective) (names : Environment) (a b : Expr) → value names (joined c a b) ≡ joined_value c (value names a) (value names b)
+value_joined And names a b = refl
+value_joined Or names a b = refl
 
-pub chain_more : (new least found left right here all : Tri) → new ≡ tri_and least found → found ≡ right → here ≡ tri_and left right → tri_and least here ≡ all
-    → tri_and new left ≡ all
-chain_more new least found left right here all e f h k = rw (e, f) (chained least left right ∙ ap (tri_and least) (sym h) ∙ k)
+pub chain_start : (c : Connective) (value left right : Tri) → value ≡ right → joined_value c value left ≡ joined_value c left right
+chain_start c value left right e = rw e (joined_comm c right left)
+
+-- a value that is joined with a right value and then with a left one is the value joined with both
+pub chain_more : (c : Connective) (new so_far found left right here all : Tri) → new ≡ joined_value c so_far found → found ≡ right
+    → here ≡ joined_value c left right → joined_value c so_far here ≡ all → joined_value c new left ≡ all
+chain_more c new so_far found left right here all e f h k = rw (e, f) (joined_assoc c so_far right left ∙ ap (joined_value c so_far) (joined_comm c right left)
+    ∙ ap (joined_value c so_far) (sym h) ∙ k)
 
 module _ (names texts : List (List ℕ)) where
   -- the expressions of nodes stay the same when nodes are appended
@@ -67,8 +73,7 @@ module _ (names texts : List (List ℕ)) where
   same_over : (es fs : List Expr) (x y k : ℕ) (n : Node) → NodeFits x y k n → ((i : ℕ) → i < k → at fs i ≡ at es i)
       → expr_of names texts es n ≡ expr_of names texts fs n
   same_over es fs x y k (Negated i) h e = ap negated (sym (e i h))
-  same_over es fs x y k (Both i j) h e = ap (λ a. both a (at es j)) (sym (e i h.0)) ∙ ap (both (at fs i)) (sym (e j h.1))
-  same_over es fs x y k (Either i j) h e = ap (λ a. either a (at es j)) (sym (e i h.0)) ∙ ap (either (at fs i)) (sym (e j h.1))
+  same_over es fs x y k (Joined c i j) h e = ap (λ a. joined c a (at es j)) (sym (e i h.0)) ∙ ap (joined c (at fs i)) (sym (e j h.1))
   same_over es fs x y k (Shown i) h e = ap shown (sym (e i h))
   same_over es fs x y k _ h e = refl
 

@@ -5,7 +5,12 @@ use Rattle.std.proofs.Math.Bool.{or_assoc, or_comm}
 use Rattle.std.proofs.lemmas.List.{length-set, map-set, get_or-map, get_or-set_same, get_or-set_other, get_or_past}
 use Rattle.std.proofs.lemmas.Bool.Decides.{nat_tests}
 use Rattle.std.proofs.lemmas.Bool.{cases_eq, or_left, or_right}
+use Rattle.kc_expr.specs.Expr.{Expr}
+use Rattle.kc_expr.specs.ExpressionNames.{names_in}
 use Rattle.kc_expr.specs.between.Visits.{is_visited}
+use Rattle.kc_expr.specs.checker.Nodes.{joined}
+use Rattle.kc_expr.specs.declared.node.Connective.{Connective}
+use Rattle.kc_expr.specs.declared.node.Connective.TheVariants.{And, Or}
 use Rattle.kc_expr.specs.checker.ExpressionWalks.{stamped, HasFoundTo, HasVisited}
 
 -- no stamp is that of a later turn
@@ -24,6 +29,11 @@ eqb_same n = grind (arith, nat_tests)
 
 pub stamped_set : (turn : ℕ) (stamps : List ℕ) (i : ℕ) → stamped turn (slice_set stamps i turn) ≡ slice_set (stamped turn stamps) i true
 stamped_set turn stamps i = map-set (λ s. s == turn) stamps i turn ∙ ap (slice_set (stamped turn stamps) i) (eqb_same turn)
+
+-- two joined expressions have the names of both
+pub mentions_joined : (p : List ℕ → Bool) (c : Connective) (a b : Expr) → mentions p (joined c a b) ≡ (mentions p a || mentions p b)
+mentions_joined p And a b = list_any-append p (names_in a) (names_in b)
+mentions_joined p Or a b = list_any-append p (names_in a) (names_in b)
 
 module _ (exprs : Exprs) (last : ℕ) (before : List Bool) (old : List ℕ) where
   abbrev pub whole_of : (List ℕ → Bool) → Bool

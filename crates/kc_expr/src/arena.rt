@@ -8,8 +8,8 @@ use super::evaluate::value_of;
 use super::expr_parts::{ExprParts, parts_of};
 use super::ids::{ExprId, NameId};
 use super::lookup::Lookup;
-use super::names::{push_names, push_unvisited};
-use super::node::{Leaf, Node};
+use super::names::{push_names, push_new_names};
+use super::node::{Connective, Leaf, Node};
 use super::node_store::NodeStore;
 use super::operand::Operand;
 use super::parse::extent_len;
@@ -131,7 +131,9 @@ impl Arena {
         ensures memory { IfErr result (λ e. e.kind ≡ OutOfMemory) }
         ensures err { OnErr result (self.new ≡ self.old) }
     {
-        let id = self.store.push(Node::Both(a.number(), b.number()))?;
+        let id = self
+            .store
+            .push(Node::Joined(Connective::And, a.number(), b.number()))?;
         Ok(ExprId::at(id))
     }
 
@@ -299,7 +301,7 @@ impl Arena {
         ensures none { (node : ℕ) → OnErr result (is_visited walk.new node ≡ false) }
     {
         let others = found.len();
-        match push_unvisited(&self.store, id.index(), walk, found) {
+        match push_new_names(&self.store, id.index(), walk, found) {
             Ok(()) => Ok(()),
             Err(fault) => {
                 found.truncate(others);

@@ -1,5 +1,5 @@
 //! Values of expressions.
-ghost use Rattle.std.specs.Prelude.{◌≡◌, ◌<◌, length, pos};
+ghost use Rattle.std.specs.Prelude.{◌≡◌, ◌<◌, IfSome, length, pos, slice_index_or};
 ghost use Rattle.kc_value.specs.Tri.{rank};
 ghost use Rattle.kc_value.specs.declared.tri.Tri.TheVariants.{N, Y};
 ghost use Rattle.std.specs.Prelude.{◌&&◌, if◌then◌else◌};
@@ -7,13 +7,14 @@ ghost use Rattle.std.specs.Cmp.Lexicographic.{slice_cmp};
 ghost use Rattle.std.specs.Ordering.{nat_cmp};
 ghost use Rattle.kc_expr.specs.Expr.{compared_by, value, operand_value, operand_text, operand_number, is_string, compared, relation_holds, tri_of_kind, number_of_kind};
 ghost use Rattle.kc_expr.specs.between.Arena.{node_expr};
-ghost use Rattle.kc_expr.specs.checker.Nodes.{LeafFits, operand_of};
+ghost use Rattle.kc_expr.specs.declared.node.Node.TheVariants.{Joined};
+ghost use Rattle.kc_expr.specs.checker.Nodes.{LeafFits, operand_of, joined_value, some_node};
 ghost use Rattle.kc_expr.specs.checker.Store.{stored_names, exprs_in, IsSound};
 ghost use Rattle.kc_expr.specs.Lookup.{environment_of, AreDistinct};
 
 use super::ids::NameId;
 use super::lookup::Lookup;
-use super::node::{Leaf, Node};
+use super::node::{Connective, Leaf, Node};
 use super::node_store::NodeStore;
 use kc_tokens::Relop;
 use kc_value::{Kind, Tri, hex_of, int_of, loose_number_of};
@@ -161,6 +162,29 @@ fn related_value<L: Lookup>(store: &NodeStore, op: Relop, a: Leaf, b: Leaf, look
     }
 }
 
+/// The value of `&&` or `||` of two values.
+fn join(connective: Connective, a: Tri, b: Tri) -> Tri
+    ensures { result ≡ joined_value connective a b }
+{
+    match connective {
+        Connective::And => a.and(b),
+        Connective::Or => a.or(b),
+    }
+}
+
+/// The numbers of the nodes that a node joins by this connective; `None` where it is no such node.
+fn sides_of(store: &NodeStore, connective: Connective, index: usize) -> Option<(usize, usize)>
+    requires there { index < length store.now.nodes.items }
+    ensures some { IfSome result (λ sides. slice_index_or store.now.nodes.items index some_node ≡ Joined connective sides.0 sides.1) }
+{
+    match store.node(index) {
+        Node::Joined(found, left, right) if found == connective => {
+            Some((left as usize, right as usize))
+        }
+        _ => None,
+    }
+}
+
 /// The value of the expression that a node represents, by the node's number. Most expressions are just one operand.
 #[inline(always)]
 pub(crate) fn value_of<L: Lookup>(store: &NodeStore, index: usize, lookup: &L) -> Tri
@@ -186,23 +210,16 @@ fn value_at<L: Lookup>(store: &NodeStore, index: usize, lookup: &L) -> Tri
         Node::Related(op, a, b) => related_value(store, op, a, b, lookup),
         Node::Negated(e) => value_at(store, e as usize, lookup).not(),
         Node::Shown(e) => value_at(store, e as usize, lookup).y_for_m(),
-        Node::Both(left, right) => {
-            let mut least = value_at(store, right as usize, lookup);
+        Node::Joined(connective, left, right) => {
+            let mut joined = value_at(store, right as usize, lookup);
             let mut at = left as usize;
-            'ands: while let Node::Both(left, right) = store.node(at) {
-                least = least.and(value_at(store, right as usize, lookup));
-                at = left as usize;
+            'chain: while let Some((left, right)) = sides_of(store, connective, at) {
+                let value = value_at(store, right, lookup);
+                joined = join(connective, joined, value);
+                at = left;
             }
-            least.and(value_at(store, at, lookup))
-        }
-        Node::Either(left, right) => {
-            let mut greatest = value_at(store, right as usize, lookup);
-            let mut next = left as usize;
-            'ors: while let Node::Either(left, right) = store.node(next) {
-                greatest = greatest.or(value_at(store, right as usize, lookup));
-                next = left as usize;
-            }
-            greatest.or(value_at(store, next, lookup))
+            let first = value_at(store, at, lookup);
+            join(connective, joined, first)
         }
     }
 }

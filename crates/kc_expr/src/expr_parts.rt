@@ -7,7 +7,7 @@ ghost use Rattle.kc_expr.specs.checker.Nodes.{LeafFits, operand_of};
 ghost use Rattle.kc_expr.specs.checker.Store.{stored_names, exprs_in, IsSound};
 
 use super::ids::{ExprId, NameId};
-use super::node::{Leaf, Node};
+use super::node::{Connective, Leaf, Node};
 use super::node_store::NodeStore;
 use super::operand::Operand;
 use kc_tokens::Relop;
@@ -49,8 +49,14 @@ pub(crate) fn parts_of(store: &NodeStore, index: usize) -> ExprParts<'_>
             ExprParts::Related(op, operand_at(store, left), operand_at(store, right))
         }
         Node::Negated(part) => ExprParts::Negated(ExprId::at(part)),
-        Node::Both(left, right) => ExprParts::Both(ExprId::at(left), ExprId::at(right)),
-        Node::Either(left, right) => ExprParts::Either(ExprId::at(left), ExprId::at(right)),
+        Node::Joined(Connective::And, left, right) => ExprParts::Both(
+            ExprId::at(left),
+            ExprId::at(right),
+        ),
+        Node::Joined(Connective::Or, left, right) => ExprParts::Either(
+            ExprId::at(left),
+            ExprId::at(right),
+        ),
         Node::Shown(part) => ExprParts::Shown(ExprId::at(part)),
     }
 }

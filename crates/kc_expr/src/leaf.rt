@@ -12,7 +12,7 @@ ghost use Rattle.kc_expr.specs.checker.Nodes.{LeafFits, operand_of};
 ghost use Rattle.kc_expr.specs.checker.ParserResults.{first_operand, is_m, names_of_leaf, names_of_m};
 ghost use Rattle.kc_tokens.specs.Token.{lexemes_of};
 
-use super::node::{Leaf, Node};
+use super::node::{Connective, Leaf, Node};
 use super::node_store::NodeStore;
 use kc_tokens::{ExprFault, Token, TokenKind, quoted_text as text_of};
 use kc_value::{Text, Tri};
@@ -140,6 +140,6 @@ impl NodeStore {
         }
         let modules = self.word_leaf("MODULES")?;
         let name = self.push(Node::Alone(modules))?;
-        self.push(Node::Both(id, name))
+        self.push(Node::Joined(Connective::And, id, name))
     }
 }

@@ -51,11 +51,7 @@ pub(crate) fn push_names(
             }
             Node::Negated(part) => at = part as usize,
             Node::Shown(part) => at = part as usize,
-            Node::Both(left, right) => {
-                push_names(store, right as usize, found)?;
-                at = left as usize;
-            }
-            Node::Either(left, right) => {
+            Node::Joined(_, left, right) => {
                 push_names(store, right as usize, found)?;
                 at = left as usize;
             }
@@ -64,37 +60,9 @@ pub(crate) fn push_names(
 }
 
 /// Appends to `found` the numbers of the names in the expression that a node represents, skipping visited nodes, and marks the
-/// node as visited. Most expressions are just one operand.
-#[inline(always)]
-pub(crate) fn push_unvisited(
-    store: &NodeStore,
-    index: usize,
-    walk: &mut VisitedSet,
-    found: &mut Vec<NameId>,
-) -> Result<(), AllocError>
-    requires there { index < length store.now.nodes.items }
-    requires sound { IsSound store.now }
-    requires room { length walk.old ≡ length store.now.nodes.items }
-    requires found { HasFoundTo (exprs_in store.now) index walk.old found.old.items }
-    ensures walked { OnOk result (HasVisited (exprs_in store.now) index walk.old walk.new found.old.items found.new.items) }
-    ensures held { OnOk result (All (λ i. i < length (stored_names store.now)) found.old.items → All (λ i. i < length (stored_names store.now)) found.new.items) }
-    ensures kept { take (length found.old.items) found.new.items ≡ found.old.items }
-{
-    if walk.contains(index) {
-        return Ok(());
-    }
-    if let Node::Alone(leaf) = store.node(index) {
-        walk.mark(index);
-        return push_name(store, leaf, found);
-    }
-    push_new_names(store, index, walk, found)
-}
-
-/// Appends the names in the expression of a node, skipping visited nodes, and marks the node as visited. It is
-/// stamped before its names are pushed: a node below can't reach it.
-#[inline(never)]
+/// node as visited. It is stamped before its names are pushed: a node below can't reach it.
 #[tactic(auto, using(kc_tokens::proofs::KeptLists::kept_through))]
-fn push_new_names(
+pub(crate) fn push_new_names(
     store: &NodeStore,
     index: usize,
     walk: &mut VisitedSet,
@@ -122,11 +90,7 @@ fn push_new_names(
             }
             Node::Negated(part) => at = part as usize,
             Node::Shown(part) => at = part as usize,
-            Node::Both(left, right) => {
-                push_new_names(store, right as usize, walk, found)?;
-                at = left as usize;
-            }
-            Node::Either(left, right) => {
+            Node::Joined(_, left, right) => {
                 push_new_names(store, right as usize, walk, found)?;
                 at = left as usize;
             }

@@ -6,7 +6,7 @@ ghost use Rattle.kc_expr.specs.Grammar.{past_depth_limit, constant_or, extent, f
 ghost use Rattle.kc_expr.specs.checker.ParserResults.{first_kind, first_operand, first_relation, operand_read, factor_read, ands_read, ors_read, read_all_tokens, Parses, IsParsedToEnd, IsRefusedToEnd, MeetsFault};
 ghost use Rattle.kc_tokens.specs.Token.{lexemes_of};
 
-use super::node::Node;
+use super::node::{Connective, Node};
 use super::node_store::NodeStore;
 use kc_tokens::{ExprFault, ExprKind, Relop, Token, TokenKind};
 
@@ -202,7 +202,7 @@ impl NodeStore {
         let (mut left, mut next) = self.parse_factor(tokens, at, depth, condition)?;
         'ands: while is_kind_at(tokens, next, TokenKind::And) {
             let (right, after) = self.parse_factor(tokens, next + 1, depth, condition)?;
-            left = self.push(Node::Both(left, right))?;
+            left = self.push(Node::Joined(Connective::And, left, right))?;
             next = after;
         }
         Ok((left, next))
@@ -228,7 +228,7 @@ impl NodeStore {
         let (mut left, mut next) = self.parse_ands(tokens, at, depth, condition)?;
         'ors: while is_kind_at(tokens, next, TokenKind::Or) {
             let (right, after) = self.parse_ands(tokens, next + 1, depth, condition)?;
-            left = self.push(Node::Either(left, right))?;
+            left = self.push(Node::Joined(Connective::Or, left, right))?;
             next = after;
         }
         Ok((left, next))

@@ -12,7 +12,7 @@ use std::rc::Rc;
 pub struct ExpandedText<'a> {
     pub key: &'a [u8],
     pub path: &'a [u8],
-    pub text: &'a [u8],
+    pub text: &'a Rc<Vec<u8>>,
 }
 
 /// The expanded files of a tree, in the order in which their last lines were read, so that the first file of the tree is the

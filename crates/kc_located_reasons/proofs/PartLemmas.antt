@@ -1,6 +1,6 @@
 -- Parts with their places.
 use Rattle.std.proofs.Common.{ℕ, ◌<◌, get_or, append_assoc, add-one, drop-cons}
-use Rattle.kc_located_reasons.proofs.Common.{◌≡◌, ◌+◌, length, drop, List, [], ◌∷◌, ◌++◌, map, refl, ap, sym, ◌∙◌, All, map-append, Tri, Part, parts_view, position_view, located_view, all_located, at_place, lacking_at, located_lacking, LocatedPart, located_part_view, located_parts_view, part_at}
+use Rattle.kc_located_reasons.proofs.Common.{◌≡◌, ◌+◌, length, drop, List, [], ◌∷◌, ◌++◌, map, refl, ap, sym, ◌∙◌, map-append, Tri, Part, parts_view, position_view, located_view, all_located, at_place, lacking_at, located_lacking, LocatedPart, located_part_view, located_parts_view, part_at}
 use Rattle.kc_expr.specs.Expr.{Environment}
 use Rattle.kc_expr.specs.between.Arena.{Exprs}
 use Rattle.kc_reasons.specs.declared.low_parts.LowPart.{LowPart}

@@ -10,20 +10,20 @@ use Rattle.kc_located_reasons.specs.LocatedNeeds.{LocatedPart, prompts_lack_at, 
 use Rattle.kc_located_reasons.specs.GivenPlaces.{given_place}
 
 -- a part as a run shows it
-abbrev pub told : ExplainedRun → LocatedPart → LowPart
-told run p = low_part run p.at p.part
+abbrev pub shown_part : ExplainedRun → LocatedPart → LowPart
+shown_part run p = low_part run p.at p.part
 
 -- law: what the prompts of a symbol need, in a run's reasons, is what they lack
 abbrev pub NeedsAreLocated : Type 0
 NeedsAreLocated = (run : ExplainedRun) (wanted : Tri) (symbol : Symbol) (lines : SymbolLines)
-    → needs_of run wanted symbol lines ≡ map (map (told run)) (prompts_lack_at (names_of run) wanted symbol lines)
+    → needs_of run wanted symbol lines ≡ map (map (shown_part run)) (prompts_lack_at (names_of run) wanted symbol lines)
 
 -- law: and what is unmet, what its definitions' dependencies lack
 abbrev pub UnmetAreLocated : Type 0
 UnmetAreLocated = (run : ExplainedRun) (symbol : Symbol) (lines : SymbolLines)
-    → unmet_parts run symbol lines ≡ map (map (told run)) (dependencies_lack_at run.tree run.values symbol lines)
+    → unmet_parts run symbol lines ≡ map (map (shown_part run)) (dependencies_lack_at run.tree run.values symbol lines)
 
 -- law: and so for the place of what gives the value
-abbrev pub GivenPlacesAreTold : Type 0
-GivenPlacesAreTold = (run : ExplainedRun) (symbol : Symbol) (lines : SymbolLines) (case : Case)
+abbrev pub GivenPlacesAreOfReasons : Type 0
+GivenPlacesAreOfReasons = (run : ExplainedRun) (symbol : Symbol) (lines : SymbolLines) (case : Case)
     → place_of_case run symbol lines case ≡ given_place run.tree run.values symbol lines case

@@ -1,5 +1,5 @@
 //! Laws of located reasons.
-ghost use Rattle.kc_located_reasons.specs.Laws.{NeedsAreLocated, UnmetAreLocated, GivenPlacesAreTold};
+ghost use Rattle.kc_located_reasons.specs.Laws.{NeedsAreLocated, UnmetAreLocated, GivenPlacesAreOfReasons};
 
 /// What a symbol's prompts need is what their lines lack.
 pub fn needs_are_located()
@@ -12,6 +12,6 @@ pub fn unmet_are_located()
 {}
 
 /// The place of what gives the value is that of a symbol's reasons.
-pub fn given_places_are_told()
-    ensures { GivenPlacesAreTold }
+pub fn given_places_are_of_reasons()
+    ensures { GivenPlacesAreOfReasons }
 {}

@@ -1,48 +1,37 @@
 //! Faults and notices of the expansion, and faults of files of answers.
+use kc_value::variant_name;
 use thiserror::Error;
 
 /// Why the macros of a Kconfig tree can't be expanded. A kind is displayed as its name.
 #[derive(Clone, Copy, Debug, PartialEq, Eq, Error)]
+#[error("{}", self.name())]
 pub enum MacroKind {
     /// A macro reference `$(` has no closing `)` in the same text.
-    #[error("Unterminated")]
     Unterminated,
     /// A macro reference calls a function that isn't defined, or has a name that no environment variable can have.
-    #[error("Undefined")]
     Undefined,
     /// A variable that is used without arguments needs its own value to be expanded.
-    #[error("Recursion")]
     Recursion,
     /// A built-in function is called with a wrong number of arguments, or a macro reference has more than 16 pieces.
-    #[error("Arguments")]
     Arguments,
     /// A call of `error-if` has a condition that is `y`.
-    #[error("Error")]
     Error,
     /// A question that the expansion asks, an environment variable or a shell command, has no answer.
-    #[error("Unanswered")]
     Unanswered,
     /// The line of a variable's assignment is continued by a backslash.
-    #[error("JoinedAssignment")]
     JoinedAssignment,
     /// The first file of the tree or a sourced file can't be found, the path pattern of a `source` matches no file, or a file
     /// that is there can't be read, or a folder that is there can't be listed.
-    #[error("MissingFile")]
     MissingFile,
     /// A file is sourced while it is still being read: by itself, or by a file that it sources, directly or through others.
-    #[error("SourceLoop")]
     SourceLoop,
     /// More than 32 files or lists of files, or more than 64 expansions, would be open within each other.
-    #[error("TooDeep")]
     TooDeep,
     /// The tree needs more files, bytes, listed folder names or expansion work than the limits allow.
-    #[error("TooMany")]
     TooMany,
     /// A variable's value, an expanded text or an expanded line has more than 65,536 bytes.
-    #[error("LineTooLong")]
     LineTooLong,
     /// Memory ran out.
-    #[error("OutOfMemory")]
     OutOfMemory,
 }
 
@@ -54,32 +43,21 @@ impl MacroKind {
     pub fn name(self) -> &'static str
         ensures { result.now ≡ macro_kind_name self }
     {
-        match self {
-            MacroKind::Unterminated => "Unterminated",
-            MacroKind::Undefined => "Undefined",
-            MacroKind::Recursion => "Recursion",
-            MacroKind::Arguments => "Arguments",
-            MacroKind::Error => "Error",
-            MacroKind::Unanswered => "Unanswered",
-            MacroKind::JoinedAssignment => "JoinedAssignment",
-            MacroKind::MissingFile => "MissingFile",
-            MacroKind::SourceLoop => "SourceLoop",
-            MacroKind::TooDeep => "TooDeep",
-            MacroKind::TooMany => "TooMany",
-            MacroKind::LineTooLong => "LineTooLong",
-            MacroKind::OutOfMemory => "OutOfMemory",
-        }
+        variant_name!(
+            self, MacroKind:
+            Unterminated, Undefined, Recursion, Arguments, Error, Unanswered, JoinedAssignment,
+            MissingFile, SourceLoop, TooDeep, TooMany, LineTooLong, OutOfMemory
+        )
     }
 }
 
 /// The messages of a tree's macros that don't make the expansion fail. A kind is displayed as its name.
 #[derive(Clone, Copy, Debug, PartialEq, Eq, Error)]
+#[error("{}", self.name())]
 pub enum MacroNoticeKind {
     /// A message of the built-in function `info`.
-    #[error("Info")]
     Info,
     /// A message of the built-in function `warning-if`, whose condition is `y`.
-    #[error("Warning")]
     Warning,
 }
 
@@ -91,39 +69,29 @@ impl MacroNoticeKind {
     pub fn name(self) -> &'static str
         ensures { result.now ≡ macro_notice_name self }
     {
-        match self {
-            MacroNoticeKind::Info => "Info",
-            MacroNoticeKind::Warning => "Warning",
-        }
+        variant_name!(self, MacroNoticeKind: Info, Warning)
     }
 }
 
 /// Why a file of answers to macro questions is refused. A kind is displayed as its name.
 #[derive(Clone, Copy, Debug, PartialEq, Eq, Error)]
+#[error("{}", self.name())]
 pub enum AnswersKind {
     /// A line is no comment, `NAME=TEXT`, `!NAME` or `$ COMMAND`, or a command has no answer `> TEXT` on the next line.
-    #[error("Malformed")]
     Malformed,
     /// A line answers a question that has a different answer already, from an earlier line or file.
-    #[error("TwoAnswers")]
     TwoAnswers,
     /// A line of the file isn't UTF-8.
-    #[error("NotUtf8")]
     NotUtf8,
     /// A line has more than 65,536 bytes without its newline.
-    #[error("LineTooLong")]
     LineTooLong,
     /// The file has more than 1,048,576 lines.
-    #[error("TooManyLines")]
     TooManyLines,
     /// The file has more than 67,108,864 bytes.
-    #[error("TooLarge")]
     TooLarge,
     /// A read of the file failed.
-    #[error("Read")]
     Read,
     /// Memory ran out.
-    #[error("OutOfMemory")]
     OutOfMemory,
 }
 
@@ -135,16 +103,10 @@ impl AnswersKind {
     pub fn name(self) -> &'static str
         ensures { result.now ≡ answers_kind_name self }
     {
-        match self {
-            AnswersKind::Malformed => "Malformed",
-            AnswersKind::TwoAnswers => "TwoAnswers",
-            AnswersKind::NotUtf8 => "NotUtf8",
-            AnswersKind::LineTooLong => "LineTooLong",
-            AnswersKind::TooManyLines => "TooManyLines",
-            AnswersKind::TooLarge => "TooLarge",
-            AnswersKind::Read => "Read",
-            AnswersKind::OutOfMemory => "OutOfMemory",
-        }
+        variant_name!(
+            self, AnswersKind:
+            Malformed, TwoAnswers, NotUtf8, LineTooLong, TooManyLines, TooLarge, Read, OutOfMemory
+        )
     }
 }
 

@@ -14,7 +14,7 @@ use Rattle.kc_rules_model.specs.RuleLaws.{is_tri_value, moves_user_values}
 use Rattle.kc_rules_model.specs.SettledTrees.{IsSettledTree}
 use Rattle.kc_dotconfig_model.specs.Formats.{FileFormat}
 use Rattle.kc_dotconfig_model.specs.PrefixGrammar.{is_name_prefix}
-use Rattle.kc_dotconfig_model.specs.ConfigLines.{LineMeaning, assigns, assigns_escaped, unchosen, notice, silent}
+use Rattle.kc_dotconfig_model.specs.ConfigLines.{LineMeaning, assigns, assigns_escaped}
 use Rattle.kc_dotconfig_model.specs.ConfigFiles.{file_lines, file_assignment}
 use Rattle.kc_value.specs.declared.limits.TheConstants.{MAX_CONFIG_BYTES}
 use Rattle.kc_dotconfig_model.specs.LoadFaults.{IsAccepted}
@@ -34,26 +34,20 @@ with_lines keeps bytes = flat_map (λ (line : List ℕ). line ++ 10 ∷ []) (at_
 abbrev pub HasUnitsOfLines : Profile → Tree → List UnitValue → (ℕ → Bool) → Type 0
 HasUnitsOfLines profile tree values keeps = (s : ℕ) → has_line profile tree values s ≡ true → keeps (unit_of tree s) ≡ true
 
--- a unit's user value is the one that represents this value; where user values of the unit may be moved (`moves_user_values`),
--- it has some user value
-abbrev pub IsAssigned : Tree → ℕ → UnitValue → Option UserValue → Type 0
-IsAssigned tree u value user = (moves_user_values tree (slice_get tree.units u) ≡ false → user ≡ as_user tree.language value)
-    × (user ≢ None)
-
--- the assignment has the user values of those lines of the minimal file that assign a member, a string or a number
+-- the assignment has the user values of those lines of the minimal file that assign a member, a string or a number: each the one
+-- that represents its value, or where user values of the unit may be moved (`moves_user_values`), some user value
 abbrev pub HasValuesOfLines : Profile → Tree → List UnitValue → List (Option UserValue) → Type 0
 HasValuesOfLines profile tree values users = (s : ℕ) (value : UnitValue) → has_line profile tree values s ≡ true
     → slice_get values (unit_of tree s) ≡ Some value → is_tri_value value ≡ false
-    → IsAssigned tree (unit_of tree s) value (user_of users (unit_of tree s))
+    → (moves_user_values tree (slice_get tree.units (unit_of tree s)) ≡ false → user_of users (unit_of tree s) ≡ as_user tree.language value)
+    × (user_of users (unit_of tree s) ≢ None)
 
 -- the units to which the lines of a configuration file assign, one for each line that assigns
 abbrev pub assigned_units : List LineMeaning → List ℕ
 assigned_units [] = []
 assigned_units (assigns u x ∷ meanings) = u ∷ assigned_units meanings
 assigned_units (assigns_escaped u text ∷ meanings) = u ∷ assigned_units meanings
-assigned_units (unchosen u s ∷ meanings) = assigned_units meanings
-assigned_units (notice kind ∷ meanings) = assigned_units meanings
-assigned_units (silent ∷ meanings) = assigned_units meanings
+assigned_units (_ ∷ meanings) = assigned_units meanings
 
 -- the lines of a configuration file assign no less than the minimal file of the values, which has this many lines: to the unit
 -- of each of its lines, with the same members, strings and numbers, by at least as many lines

@@ -44,106 +44,100 @@ pub(crate) fn push_group(
     Ok(())
 }
 
-/// Appends the end of the innermost block or sourced file, and takes it off the stack.
-pub(crate) fn push_end(
-    read: &mut ReaderState,
-    at: Position,
-    head: GroupHead,
-) -> Result<(), TreeKind>
-    ensures appends { (r : FileSource) (before : List Placed) (m : Meant) → Describes r read.old before → IsMeant read.old.listing before head m
-        → side_of m ≡ closing → OnOk result (Describes r read.new (with_group (at_line at.file at.line) m before)) }
-    ensures memory { IfErr result (λ k. k ≡ OutOfMemory) }
-{
-    let choice = enclosing_choice(&read.stack);
-    let _ = read.stack.pop();
-    push_group(&mut read.listing, at, head, choice)
-}
+impl ReaderState {
+    /// Appends the end of the innermost block or sourced file, and takes it off the stack.
+    pub(crate) fn push_end(&mut self, at: Position, head: GroupHead) -> Result<(), TreeKind>
+        ensures appends { (r : FileSource) (before : List Placed) (m : Meant) → Describes r self.old before → IsMeant self.old.listing before head m
+            → side_of m ≡ closing → OnOk result (Describes r self.new (with_group (at_line at.file at.line) m before)) }
+        ensures memory { IfErr result (λ k. k ≡ OutOfMemory) }
+    {
+        let choice = enclosing_choice(&self.stack);
+        let _ = self.stack.pop();
+        push_group(&mut self.listing, at, head, choice)
+    }
 
-/// Appends a statement that defines no symbol, and opens and ends no block or file.
-pub(crate) fn push_plain(
-    read: &mut ReaderState,
-    at: Position,
-    head: GroupHead,
-) -> Result<(), TreeKind>
-    ensures appends { (r : FileSource) (before : List Placed) (m : Meant) → Describes r read.old before → IsMeant read.old.listing before head m
-        → side_of m ≡ inside → from_head name_of_head m ≡ None → OnOk result (Describes r read.new (with_group (at_line at.file at.line) m before)) }
-    ensures memory { IfErr result (λ k. k ≡ OutOfMemory) }
-{
-    let choice = enclosing_choice(&read.stack);
-    push_group(&mut read.listing, at, head, choice)
-}
+    /// Appends a statement that defines no symbol, and opens and ends no block or file.
+    pub(crate) fn push_plain(&mut self, at: Position, head: GroupHead) -> Result<(), TreeKind>
+        ensures appends { (r : FileSource) (before : List Placed) (m : Meant) → Describes r self.old before → IsMeant self.old.listing before head m
+            → side_of m ≡ inside → from_head name_of_head m ≡ None → OnOk result (Describes r self.new (with_group (at_line at.file at.line) m before)) }
+        ensures memory { IfErr result (λ k. k ≡ OutOfMemory) }
+    {
+        let choice = enclosing_choice(&self.stack);
+        push_group(&mut self.listing, at, head, choice)
+    }
 
-/// Appends the statement that opens a menu or an `if`.
-pub(crate) fn push_block(
-    read: &mut ReaderState,
-    at: Position,
-    head: GroupHead,
-    block: Block,
-) -> Result<(), TreeKind>
-    ensures appends { (r : FileSource) (before : List Placed) (m : Meant) → Describes r read.old before → IsMeant read.old.listing before head m
-        → from_head block_of_head m ≡ Some block → same_block Block.Choice block ≡ false
-        → OnOk result (Describes r read.new (with_group (at_line at.file at.line) m before)) }
-    ensures memory { IfErr result (λ k. k ≡ OutOfMemory) }
-{
-    let choice = enclosing_choice(&read.stack);
-    let Ok(()) = read.stack.push(OpenBlock::Block(block, at.line, choice)) else {
-        return Err(TreeKind::OutOfMemory);
-    };
-    push_group(&mut read.listing, at, head, choice)
-}
+    /// Appends the statement that opens a menu or an `if`.
+    pub(crate) fn push_block(
+        &mut self,
+        at: Position,
+        head: GroupHead,
+        block: Block,
+    ) -> Result<(), TreeKind>
+        ensures appends { (r : FileSource) (before : List Placed) (m : Meant) → Describes r self.old before → IsMeant self.old.listing before head m
+            → from_head block_of_head m ≡ Some block → same_block Block.Choice block ≡ false
+            → OnOk result (Describes r self.new (with_group (at_line at.file at.line) m before)) }
+        ensures memory { IfErr result (λ k. k ≡ OutOfMemory) }
+    {
+        let choice = enclosing_choice(&self.stack);
+        let Ok(()) = self.stack.push(OpenBlock::Block(block, at.line, choice)) else {
+            return Err(TreeKind::OutOfMemory);
+        };
+        push_group(&mut self.listing, at, head, choice)
+    }
 
-/// Appends the statement that opens a choice.
-pub(crate) fn push_choice_group(read: &mut ReaderState, at: Position) -> Result<(), TreeKind>
-    requires few { read.old.choices < MAX_CHOICES }
-    ensures appends { (r : FileSource) (before : List Placed) → Describes r read.old before
-        → OnOk result (Describes r read.new (with_group (at_line at.file at.line) (of_head choice) before)) }
-    ensures memory { IfErr result (λ k. k ≡ OutOfMemory) }
-{
-    let choice = enclosing_choice(&read.stack);
-    let number = Some(read.choices as u32);
-    let Ok(()) = read
-        .stack
-        .push(OpenBlock::Block(Block::Choice, at.line, number))
-    else {
-        return Err(TreeKind::OutOfMemory);
-    };
-    read.choices += 1;
-    push_group(&mut read.listing, at, GroupHead::Choice, choice)
-}
+    /// Appends the statement that opens a choice.
+    pub(crate) fn push_choice_group(&mut self, at: Position) -> Result<(), TreeKind>
+        requires few { self.old.choices < MAX_CHOICES }
+        ensures appends { (r : FileSource) (before : List Placed) → Describes r self.old before
+            → OnOk result (Describes r self.new (with_group (at_line at.file at.line) (of_head choice) before)) }
+        ensures memory { IfErr result (λ k. k ≡ OutOfMemory) }
+    {
+        let choice = enclosing_choice(&self.stack);
+        let number = Some(self.choices as u32);
+        let Ok(()) = self
+            .stack
+            .push(OpenBlock::Block(Block::Choice, at.line, number))
+        else {
+            return Err(TreeKind::OutOfMemory);
+        };
+        self.choices += 1;
+        push_group(&mut self.listing, at, GroupHead::Choice, choice)
+    }
 
-/// Appends a text, which is a title or a path, and returns its index among the texts.
-pub(crate) fn push_text(read: &mut ReaderState, text: Text) -> Result<usize, TreeKind>
-    ensures kept { IfOk result (λ t. slice_get read.new.listing.texts.items t ≡ Some text) }
-    ensures describes { (r : FileSource) (before : List Placed) → Describes r read.old before → OnOk result (Describes r read.new before) }
-    ensures files { read.new.files ≡ read.old.files }
-    ensures bytes { read.new.bytes ≡ read.old.bytes }
-    ensures memory { IfErr result (λ k. k ≡ OutOfMemory) }
-{
-    let place = read.listing.texts.len();
-    let Ok(()) = read.listing.texts.push(text) else {
-        return Err(TreeKind::OutOfMemory);
-    };
-    Ok(place)
-}
+    /// Appends a text, which is a title or a path, and returns its index among the texts.
+    pub(crate) fn push_text(&mut self, text: Text) -> Result<usize, TreeKind>
+        ensures kept { IfOk result (λ t. slice_get self.new.listing.texts.items t ≡ Some text) }
+        ensures describes { (r : FileSource) (before : List Placed) → Describes r self.old before → OnOk result (Describes r self.new before) }
+        ensures files { self.new.files ≡ self.old.files }
+        ensures bytes { self.new.bytes ≡ self.old.bytes }
+        ensures memory { IfErr result (λ k. k ≡ OutOfMemory) }
+    {
+        let place = self.listing.texts.len();
+        let Ok(()) = self.listing.texts.push(text) else {
+            return Err(TreeKind::OutOfMemory);
+        };
+        Ok(place)
+    }
 
-/// Appends a `source` whose path is the text at the index `place`, and counts its file and the file's bytes.
-pub(crate) fn push_source(
-    read: &mut ReaderState,
-    at: Position,
-    place: usize,
-    size: usize,
-) -> Result<(), TreeKind>
-    requires files { read.old.files < MAX_FILES }
-    requires bytes { read.old.bytes + size ≤ MAX_TREE_BYTES }
-    ensures appends { (r : FileSource) (before : List Placed) (path : List ℕ) → Describes r read.old before → slice_get read.old.listing.texts.items place ≡ Some path → size ≡ size_in r path
-        → OnOk result (Describes r read.new (with_group (at_line at.file at.line) (of_head (source path)) before)) }
-    ensures memory { IfErr result (λ k. k ≡ OutOfMemory) }
-{
-    let choice = enclosing_choice(&read.stack);
-    let Ok(()) = read.stack.push(OpenBlock::Source(place, choice)) else {
-        return Err(TreeKind::OutOfMemory);
-    };
-    read.files += 1;
-    read.bytes += size;
-    push_group(&mut read.listing, at, GroupHead::Source(place), choice)
+    /// Appends a `source` whose path is the text at the index `place`, and counts its file and the file's bytes.
+    pub(crate) fn push_source(
+        &mut self,
+        at: Position,
+        place: usize,
+        size: usize,
+    ) -> Result<(), TreeKind>
+        requires files { self.old.files < MAX_FILES }
+        requires bytes { self.old.bytes + size ≤ MAX_TREE_BYTES }
+        ensures appends { (r : FileSource) (before : List Placed) (path : List ℕ) → Describes r self.old before → slice_get self.old.listing.texts.items place ≡ Some path → size ≡ size_in r path
+            → OnOk result (Describes r self.new (with_group (at_line at.file at.line) (of_head (source path)) before)) }
+        ensures memory { IfErr result (λ k. k ≡ OutOfMemory) }
+    {
+        let choice = enclosing_choice(&self.stack);
+        let Ok(()) = self.stack.push(OpenBlock::Source(place, choice)) else {
+            return Err(TreeKind::OutOfMemory);
+        };
+        self.files += 1;
+        self.bytes += size;
+        push_group(&mut self.listing, at, GroupHead::Source(place), choice)
+    }
 }

@@ -25,25 +25,27 @@ fn has_long_name(arena: &Arena, attribute: &ReadAttribute) -> bool
     }
 }
 
-/// Appends an attribute to the newest group; `TooMany` if it selects or implies a name that is too long.
-pub(crate) fn push_attribute(
-    read: &mut ReaderState,
-    line: u32,
-    attribute: &ReadAttribute,
-) -> Result<(), TreeKind>
-    requires held { AttributeNodesExist read.old.listing.names.arena attribute.now }
-    ensures appends { (r : FileSource) (before : List Placed) → Describes r read.old before
-        → AppendsAttribute r line before (attribute_in read.old.listing.names.arena attribute.now) read.new result }
-{
-    if has_long_name(&read.listing.names.arena, attribute) {
-        return Err(TreeKind::TooMany);
+impl ReaderState {
+    /// Appends an attribute to the newest group; `TooMany` if it selects or implies a name that is too long.
+    pub(crate) fn push_attribute(
+        &mut self,
+        line: u32,
+        attribute: &ReadAttribute,
+    ) -> Result<(), TreeKind>
+        requires held { AttributeNodesExist self.old.listing.names.arena attribute.now }
+        ensures appends { (r : FileSource) (before : List Placed) → Describes r self.old before
+            → AppendsAttribute r line before (attribute_in self.old.listing.names.arena attribute.now) self.new result }
+    {
+        if has_long_name(&self.listing.names.arena, attribute) {
+            return Err(TreeKind::TooMany);
+        }
+        let Ok(()) = self.listing.lines.push(Line {
+            number: line,
+            attribute: *attribute,
+        })
+        else {
+            return Err(TreeKind::OutOfMemory);
+        };
+        Ok(())
     }
-    let Ok(()) = read.listing.lines.push(Line {
-        number: line,
-        attribute: *attribute,
-    })
-    else {
-        return Err(TreeKind::OutOfMemory);
-    };
-    Ok(())
 }

@@ -14,7 +14,6 @@ ghost use Rattle.kc_parser.specs.checker.Steps.{ReturnsLineRead};
 
 use super::placement::fault_before_form;
 use super::state::{Position, ReaderState, SourceFile, SourceFiles, Step};
-use super::statements::push_statement;
 use super::text::{checked_line, text_between};
 use kc_statements::{keyword_of, statement_of, tree_kind_of};
 use kc_tokens::{Language, Token, push_tokens};
@@ -47,7 +46,7 @@ fn read_form(
         Ok(statement) => statement,
         Err(kind) => return Err(kind),
     };
-    match push_statement(read, at, statement) {
+    match read.push_statement(at, statement) {
         Ok(Some(path)) => Ok(Step::Source(path)),
         Ok(None) if is_help_keyword(keyword) => Ok(Step::Help),
         Ok(None) => Ok(Step::Next),

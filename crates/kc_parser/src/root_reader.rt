@@ -69,10 +69,21 @@ fn read_first(
     (read.listing, fault)
 }
 
-/// Reads the first file, which may be absent or too large, and all that it sources.
-fn read_all(alloc: Global, from: SourceFiles<'_>) -> (Listing, Option<TreeFault>)
-    ensures { ReturnsOutcome (read_root (file_source_of from.entry) ((file_source_of from.entry).bytes (file_source_of from.entry).root)) result }
+/// Reads the first file, which may be absent or too large, and all that it sources. An absent file may be read as an empty one.
+fn read_all(
+    alloc: Global,
+    texts: &Texts,
+    root: &str,
+    absent_is_empty: bool,
+) -> (Listing, Option<TreeFault>)
+    ensures { let from = file_source_of (record { texts = texts.entry; root = root.entry; absent_is_empty = absent_is_empty }) in
+        ReturnsOutcome (read_root from (from.bytes from.root)) result }
 {
+    let from = SourceFiles {
+        texts,
+        root,
+        absent_is_empty,
+    };
     let file = match file_of(from, from.root) {
         Ok(file) => file,
         Err(kind) => {
@@ -99,14 +110,7 @@ pub fn read_files(alloc: Global, texts: &Texts, root: &str) -> (Listing, Option<
     ensures fault { (result.1 ≡ Some no_memory) ⊎ (result.1 ≡ (reading texts.now root.now).fault) }
     ensures read { (result.1 ≡ Some no_memory) ⊎ RepresentsListing result.0 (reading texts.now root.now).read }
 {
-    read_all(
-        alloc,
-        SourceFiles {
-            texts,
-            root,
-            absent_is_empty: false,
-        },
-    )
+    read_all(alloc, texts, root, false)
 }
 
 /// The statements of a tree's files and the first fault, as `read_files` gives them, but an absent path is read as an empty file.
@@ -118,12 +122,5 @@ pub fn read_files_leniently(
     ensures fault { (result.1 ≡ Some no_memory) ⊎ (result.1 ≡ (lenient_reading texts.now root.now).fault) }
     ensures read { (result.1 ≡ Some no_memory) ⊎ RepresentsListing result.0 (lenient_reading texts.now root.now).read }
 {
-    read_all(
-        alloc,
-        SourceFiles {
-            texts,
-            root,
-            absent_is_empty: true,
-        },
-    )
+    read_all(alloc, texts, root, true)
 }

@@ -6,7 +6,7 @@ ghost use Rattle.kc_parser.specs.checker.StateViews.{Describes, file_source_of};
 ghost use Rattle.kc_parser.specs.checker.OpenBlockViews.{is_file_of};
 ghost use Rattle.kc_parser.specs.checker.Steps.{AppendsSource, IsAfter, found_size, kinds_for, ReturnsEndRead, ReturnsSourceFile, ReturnsFile};
 
-use super::append::{push_end, push_group, push_source, push_text};
+use super::append::push_group;
 use super::fault::fault_or_out_of_memory;
 use super::listing::GroupHead;
 use super::open_blocks::{enclosing_choice, innermost, is_path_open, open_file_count};
@@ -106,12 +106,12 @@ pub(crate) fn open_source<'a>(
         → AppendsSource (file_source_of from.entry) at.file at.line path before read.new result }
 {
     let found = sourced(read, from, path.as_str());
-    let Ok(place) = push_text(read, path) else {
+    let Ok(place) = read.push_text(path) else {
         return Err(TreeFault::out_of_memory());
     };
     let choice = enclosing_choice(&read.stack);
     match found {
-        Ok(opened) => match push_source(read, at, place, opened.bytes.len()) {
+        Ok(opened) => match read.push_source(at, place, opened.bytes.len()) {
             Ok(()) => Ok(opened),
             Err(_) => Err(TreeFault::out_of_memory()),
         },
@@ -130,7 +130,7 @@ pub(crate) fn close_source(
 ) -> Result<(), TreeFault>
     ensures { (before : List Group) → Describes (file_source_of from.entry) read.old before → IsAfter (file_source_of from.entry) at.file at.line before read.new result }
 {
-    match push_end(read, at, GroupHead::FileEnd) {
+    match read.push_end(at, GroupHead::FileEnd) {
         Ok(()) => Ok(()),
         Err(_) => Err(TreeFault::out_of_memory()),
     }

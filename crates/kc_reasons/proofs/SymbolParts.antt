@@ -16,11 +16,11 @@ use Rattle.kc_reasons_model.specs.PlainReasons.{PlainReasons, chosen_in, wanted_
 -- the parts of a symbol's reasons, each computed by itself, are its reasons
 pub reasons_are : (profile : Profile) (tree : Tree) (s unit : ℕ) (symbol : Symbol) (user : Option UserValue) (values : List UnitValue) (case : Case)
     (chosen : Option ℕ) (hindrance : Option Hindrance) (needs unmet : List (List Part)) (selected_by implied_by : List ℕ) (wanted : Tri)
-    (told implied : Bool) (value : Option UnitValue) → slice_get tree.symbols s ≡ Some symbol → unit ≡ unit_of tree s → value ≡ slice_get values unit
+    (listed implied : Bool) (value : Option UnitValue) → slice_get tree.symbols s ≡ Some symbol → unit ≡ unit_of tree s → value ≡ slice_get values unit
     → case ≡ case_of profile tree unit user values → chosen ≡ chosen_in symbol.choice s value → hindrance ≡ hindrance_to profile tree unit s user values
     → wanted ≡ wanted_by tree symbol user values → needs ≡ prompts_lack (environment tree values) wanted symbol → unmet ≡ dependencies_lack tree values symbol
-    → told ≡ (is_by_select case hindrance || is_unmet_symbol tree values symbol) → implied ≡ is_by_imply case
-    → selected_by ≡ (if told then decisive_numbers tree values symbol.selectors else [])
+    → listed ≡ (is_by_select case hindrance || is_unmet_symbol tree values symbol) → implied ≡ is_by_imply case
+    → selected_by ≡ (if listed then decisive_numbers tree values symbol.selectors else [])
     → implied_by ≡ (if implied then decisive_numbers tree values symbol.impliers else [])
     → plain_reasons_at profile tree s user values ≡ Some (record {
       case = case;
@@ -31,10 +31,10 @@ pub reasons_are : (profile : Profile) (tree : Tree) (s unit : ℕ) (symbol : Sym
       selected_by = selected_by;
       implied_by = implied_by;
     })
-reasons_are profile tree s unit symbol user values case chosen hindrance needs unmet selected_by implied_by wanted told implied value
-    there unit_is value_is case_is chosen_is hindrance_is wanted_is needs_are unmet_are told_is implied_is selected_are implied_are =
+reasons_are profile tree s unit symbol user values case chosen hindrance needs unmet selected_by implied_by wanted listed implied value
+    there unit_is value_is case_is chosen_is hindrance_is wanted_is needs_are unmet_are listed_is implied_is selected_are implied_are =
     ap (option_map (λ (symbol : Symbol). plain_reasons profile tree s symbol user values)) there
-    ∙ (rw (selected_are, implied_are, needs_are, unmet_are, told_is, implied_is, wanted_is, chosen_is, case_is, hindrance_is, value_is, unit_is) refl)
+    ∙ (rw (selected_are, implied_are, needs_are, unmet_are, listed_is, implied_is, wanted_is, chosen_is, case_is, hindrance_is, value_is, unit_is) refl)
 
 -- what looking up a place in a list gives is what the list has there
 pub found_at : {X : Type 0} (xs : List X) (i : ℕ) (found : Option (Bor X)) → IsItemAt xs i found → option_copied found ≡ slice_get xs i

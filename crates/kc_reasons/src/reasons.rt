@@ -82,7 +82,7 @@ fn is_by_imply(case: Case) -> bool
 }
 
 /// Whether the selects are listed: where they are given, and where the symbol is selected above its direct dependency.
-fn are_selects_told(
+fn are_selects_listed(
     under: &Valuation<'_>,
     symbol: &Symbol<'_>,
     case: Case,
@@ -98,13 +98,13 @@ fn are_selects_told(
 fn decisive_if(
     alloc: Global,
     under: &Valuation<'_>,
-    told: bool,
+    are_listed: bool,
     all: &[ReverseDependency],
 ) -> Result<Vec<usize>, AllocError>
     requires fits { AreReverseDependencies (valuation_exprs under.now) (valuation_tree under.now) all.now }
-    ensures ok { IfOk result (λ found. found.items ≡ (if told then decisive_numbers (valuation_tree under.now) (valuation_values under.now) (map (reverse_dependency_view (valuation_exprs under.now)) all.now) else [])) }
+    ensures ok { IfOk result (λ found. found.items ≡ (if are_listed then decisive_numbers (valuation_tree under.now) (valuation_values under.now) (map (reverse_dependency_view (valuation_exprs under.now)) all.now) else [])) }
 {
-    if told {
+    if are_listed {
         decisive(alloc, under, all)
     } else {
         Ok(Vec::new(alloc))
@@ -151,8 +151,8 @@ pub fn reasons_of(
     let chosen = chosen_in(symbol.choice, s, values.get(symbol.unit as usize));
     let needs = prompts_lack(alloc, under, symbol, wanted_by(under, symbol, user))?;
     let unmet = dependencies_lack(alloc, under, symbol)?;
-    let are_selects_told = are_selects_told(under, symbol, case, hindrance);
-    let selected_by = decisive_if(alloc, under, are_selects_told, symbol.selectors)?;
+    let are_selects_listed = are_selects_listed(under, symbol, case, hindrance);
+    let selected_by = decisive_if(alloc, under, are_selects_listed, symbol.selectors)?;
     let implied_by = decisive_if(alloc, under, is_by_imply(case), symbol.impliers)?;
     Ok(SymbolReasons {
         case,

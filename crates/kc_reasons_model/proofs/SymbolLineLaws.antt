@@ -3,7 +3,8 @@ use Rattle.kc_reasons_model.proofs.Common.{◌≡◌, ℕ, Bool, true, false, co
 use Rattle.kc_reasons_model.proofs.Common.{is_linux_6_12, is_n, ReverseDependency, Attribute, prompt_of, Group, Line, Position, Context, context, prompt_condition, attribute_values, attribute_condition, lacking, LocatedContext, located_context, located_prompt, located_dependencies, lacking_located}
 use Rattle.std.specs.Prelude.{◌+◌}
 use Rattle.kc_expr.specs.Lookup.{index_of_name}
-use Rattle.kc_tree_model.specs.Statements.{TargetAttribute, default_of, range_of, select_of, imply_of}
+use Rattle.kc_tree_model.specs.Statements.{default_of, range_of, select_of, imply_of}
+use Rattle.kc_tree_model.specs.between.Attributes.{TargetAttribute}
 use Rattle.kc_tree_model.specs.Blocks.{defined_name}
 use Rattle.kc_tree_model.specs.Conditions.{context_of, prompts_of, dependency_of, GroupInContext}
 use Rattle.kc_tree_model.specs.Contents.{Contents, contents_of, definitions_of, defaults_at, ranges_at, reverse_dependencies_of, reverse_dependencies_by, own_dependencies, choice_of_symbol}

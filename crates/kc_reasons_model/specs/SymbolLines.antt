@@ -2,7 +2,9 @@
 use Rattle.std.specs.Prelude.{ℕ, List, [], map, filter_map, flat_map, Option, Some, None, option_map, bytes_eq, if◌then◌else◌}
 use Rattle.kc_tokens.specs.declared.language.Language.{Language}
 use Rattle.kc_expr.specs.Lookup.{index_of_name}
-use Rattle.kc_tree_model.specs.Statements.{Attribute, TargetAttribute, default_of, range_of, select_of, imply_of}
+use Rattle.kc_expr.specs.Expr.{Expr}
+use Rattle.kc_tree_model.specs.Statements.{Attribute, default_of, range_of, select_of, imply_of}
+use Rattle.kc_tree_model.specs.declared.statement.TargetAttribute.{TargetAttribute}
 use Rattle.kc_tree_model.specs.Blocks.{Group, Line, Position, defined_name}
 use Rattle.kc_tree_model.specs.Conditions.{GroupInContext}
 use Rattle.kc_tree_model.specs.Contents.{Contents, definitions_of, choice_of_symbol, own_dependencies}
@@ -27,12 +29,12 @@ abbrev pub attribute_positions : {A : Type 0} → (Attribute → Option A) → G
 attribute_positions f g = filter_map (λ (l : Line). option_map (λ a. position_of g l) (f l.attribute)) g.attributes
 
 -- the target of a `select` or `imply`, if it is the symbol with this name
-abbrev pub target_named : List ℕ → Option TargetAttribute → Option TargetAttribute
+abbrev pub target_named : List ℕ → Option (TargetAttribute Expr (List ℕ)) → Option (TargetAttribute Expr (List ℕ))
 target_named name None = None
 target_named name (Some a) = if bytes_eq a.name name then Some a else None
 
 -- the places of a group's `select`s or `imply`s of this name; of a group that defines no symbol of the tree there are none
-abbrev pub target_positions : (Attribute → Option TargetAttribute) → Contents → List ℕ → GroupInContext → List Position
+abbrev pub target_positions : (Attribute → Option (TargetAttribute Expr (List ℕ))) → Contents → List ℕ → GroupInContext → List Position
 target_positions f c name p = elim (defined_name p.group) [
   | None ↦ []
   | Some by ↦ elim (index_of_name by c.names) [ None ↦ [] | Some s ↦ attribute_positions (λ a. target_named name (f a)) p.group ]

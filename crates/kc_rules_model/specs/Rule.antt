@@ -1,6 +1,6 @@
 -- The value of a unit, from its user value or none and the values of all units. What is quoted in comments is a topic of
 -- kconfig-language.rst, "Menu attributes" and "Menu entries".
-use Rattle.std.specs.Prelude.{ℕ, Bool, true, false, not, ◌&&◌, ◌||◌, List, [], ◌∷◌, Option, Some, None, is_some, is_none, ℤ, pos, int_lt, slice_get, unwrap_or, find, if◌then◌else◌}
+use Rattle.std.specs.Prelude.{ℕ, Bool, true, false, not, ◌&&◌, ◌||◌, List, [], ◌∷◌, Option, Some, None, is_some, is_none, ℤ, pos, int_lt, map, slice_get, unwrap_or, find, if◌then◌else◌}
 use Rattle.std.specs.Option.{option_map, option_and_then, option_or}
 use Rattle.std.specs.List.{list_any}
 use Rattle.kc_value.specs.declared.tri.Tri.{Tri}
@@ -69,8 +69,7 @@ reverse_dependency_value tree values f = tri_and (symbol_tri (value_of_symbol tr
 
 -- the lower limit from each of some selects or implies, in their order
 abbrev pub reverse_dependency_limit : Tree → List UnitValue → List ReverseDependency → List Tri
-reverse_dependency_limit tree values [] = []
-reverse_dependency_limit tree values (f ∷ fs) = reverse_dependency_value tree values f ∷ reverse_dependency_limit tree values fs
+reverse_dependency_limit tree values = map (reverse_dependency_value tree values)
 
 -- the lower limit for a symbol's value from the `select`s that name it, without regard to dependencies ("reverse dependencies")
 abbrev pub selected : Tree → List UnitValue → Symbol → Tri

@@ -35,8 +35,7 @@ RulesRestore = (profile : Profile) (tree : Tree)
 -- whether the value of a unit is a tristate
 abbrev pub is_tri_value : UnitValue → Bool
 is_tri_value (TriValue t) = true
-is_tri_value (TextValue text) = false
-is_tri_value (MemberValue member) = false
+is_tri_value _ = false
 
 -- whether a unit may have another value than its user value where it has one because of that: under the rules of Linux 6.12 a
 -- choice, which may get a member because others are assigned `n`, and an int or hex, which may get a bound of its range

@@ -1,13 +1,14 @@
 //! The revision of a valuation, unit by unit.
 ghost use Rattle.std.specs.Prelude.{◌≡◌, ◌↔◌, ℕ, ◌+◌, ◌-◌, ◌^◌, ◌<◌, true, false, List, [], ◌∷◌, Some, length, min, slice_get, IfOk, OnOk};
 ghost use Rattle.std.specs.Io.KnownBytes.{Appends};
-ghost use Rattle.kc_solver.specs.Changes.{IsCountOf, RecordsEach};
+ghost use Rattle.kc_solver.specs.Changes.{IsChanged, IsCountOf, IsListOf, RecordsEach};
 ghost use Rattle.kc_solver.specs.checker.Plans.{IsPlan};
-ghost use Rattle.kc_solver.specs.checker.Logs.{Undoes, logged_units};
+ghost use Rattle.kc_solver.specs.checker.Logs.{Undoes};
 ghost use Rattle.kc_solver.specs.checker.PendingPlaces.{IsDone, IsDue, is_pending};
-ghost use Rattle.kc_solver.specs.checker.Revision.{RevisesUnit, LogsChanged};
+ghost use Rattle.kc_solver.specs.checker.Revision.{RevisesUnit};
 ghost use Rattle.kc_solver.specs.Solutions.{Solves, FitsUsers, FitsValues, user_of};
 
+use crate::changed_units::{ChangedUnits, ascending_units};
 use crate::place_sets::PlaceSet;
 use crate::places::mark;
 use crate::plans::Plan;
@@ -55,8 +56,7 @@ fn revise_unit<S: System>(
 }
 
 /// Evaluates the units at the pending places of the order, and every unit with a dependency whose value changes, each once and
-/// after its dependencies. Returns how many units that are. Logs the old values of those that change, so that they can be
-/// restored.
+/// after its dependencies, and reports what changed. Logs the old values of those that change, so that they can be restored.
 pub(crate) fn revise<S: System>(
     plan: &Plan<'_, S>,
     users: &[Option<S::User>],
@@ -64,7 +64,7 @@ pub(crate) fn revise<S: System>(
     pending: &mut PlaceSet,
     log: &mut Vec<(u32, S::Value)>,
     meter: &mut S::Meter,
-) -> Result<u64, AllocError>
+) -> Result<ChangedUnits, AllocError>
     requires plan { IsPlan (S.size plan.now.system.now) (S.dependencies plan.now.system.now) plan.now.order.now plan.now.dependents.starts.items plan.now.dependents.units.items plan.now.places.items }
     requires users { FitsUsers (S.size plan.now.system.now) (S.fits_user plan.now.system.now) users.now }
     requires fits { FitsValues (S.size plan.now.system.now) (S.fits_value plan.now.system.now) values.old }
@@ -77,9 +77,9 @@ pub(crate) fn revise<S: System>(
     ensures solves { OnOk result (Solves (S.size plan.now.system.now) (S.rule plan.now.system.now) users.now values.new) }
     ensures fits { OnOk result (FitsValues (S.size plan.now.system.now) (S.fits_value plan.now.system.now) values.new) }
     ensures undo { Undoes log.new.items values.old values.new }
-    ensures logged { OnOk result (LogsChanged values.old values.new (logged_units log.new.items)) }
-    ensures evaluated { IfOk result (IsCountOf (S.size plan.now.system.now) (IsDue (S.dependencies plan.now.system.now) plan.now.order.now (is_pending pending.old) values.old values.new)) }
-    ensures steps { IfOk result (λ evaluated. S.count meter.new ≡ min (S.count meter.old + evaluated) (2 ^ 64 - 1)) }
+    ensures changed { IfOk result (λ report. IsListOf (S.size plan.now.system.now) (IsChanged values.old values.new) report.changed.items) }
+    ensures evaluated { IfOk result (λ report. IsCountOf (S.size plan.now.system.now) (IsDue (S.dependencies plan.now.system.now) plan.now.order.now (is_pending pending.old) values.old values.new) report.evaluated) }
+    ensures steps { IfOk result (λ report. S.count meter.new ≡ min (S.count meter.old + report.evaluated) (2 ^ 64 - 1)) }
     ensures recorded { OnOk result (RecordsEach (S.size plan.now.system.now) (IsDue (S.dependencies plan.now.system.now) plan.now.order.now (is_pending pending.old) values.old values.new) (S.recorded meter.old) (S.recorded meter.new)) }
 {
     let order = plan.order;
@@ -89,5 +89,6 @@ pub(crate) fn revise<S: System>(
         revise_unit(plan, u, users, values, pending, log, meter)?;
         evaluated += 1;
     }
-    Ok(evaluated)
+    let changed = ascending_units(plan.alloc, log.as_slice())?;
+    Ok(ChangedUnits { changed, evaluated })
 }

@@ -1,12 +1,12 @@
 //! Changes of an assignment, with its values brought up to date.
-ghost use Rattle.std.specs.Prelude.{◌≡◌, ℕ, ◌+◌, ◌-◌, ◌^◌, ◌<◌, true, false, [], Some, length, min, slice_get, IfOk, OnOk, OnErr};
+ghost use Rattle.std.specs.Prelude.{◌≡◌, ℕ, ◌+◌, ◌-◌, ◌^◌, ◌<◌, [], Some, length, min, slice_get, IfOk, OnOk, OnErr};
 ghost use Rattle.kc_solver.specs.Changes.{changed_users, FitsChanges, IsTouched, IsChanged, IsCountOf, IsListOf, RecordsEach};
 ghost use Rattle.kc_solver.specs.checker.Plans.{IsPlan};
 ghost use Rattle.kc_solver.specs.checker.Logs.{Undoes};
-ghost use Rattle.kc_solver.specs.checker.PendingPlaces.{FitsPlaces, IsDone, IsDue, ListsChanged, is_pending};
-ghost use Rattle.kc_solver.specs.Solutions.{Solves, FitsUsers, FitsValues, user_of};
+ghost use Rattle.kc_solver.specs.checker.PendingPlaces.{FitsPlaces, IsDone, ListsChanged, is_pending};
+ghost use Rattle.kc_solver.specs.Solutions.{Solves, FitsUsers, FitsValues};
 
-use crate::changed_units::{ChangedUnits, ascending_units};
+use crate::changed_units::ChangedUnits;
 use crate::place_sets::PlaceSet;
 use crate::plans::Plan;
 use crate::revision::revise;
@@ -14,49 +14,6 @@ use crate::system::{Graph, System};
 use crate::undo_log::restore_logged;
 use crate::user_values::{mark_changed, write_users};
 use std::alloc::{AllocError, Global};
-
-/// Brings the values up to date, from the units at pending places on, and reports what changed. After running out of memory the
-/// values are as before.
-fn revalue<S: System>(
-    plan: &Plan<'_, S>,
-    users: &[Option<S::User>],
-    values: &mut [S::Value],
-    pending: &mut PlaceSet,
-    meter: &mut S::Meter,
-) -> Result<ChangedUnits, AllocError>
-    requires plan { IsPlan (S.size plan.now.system.now) (S.dependencies plan.now.system.now) plan.now.order.now plan.now.dependents.starts.items plan.now.dependents.units.items plan.now.places.items }
-    requires users { FitsUsers (S.size plan.now.system.now) (S.fits_user plan.now.system.now) users.now }
-    requires fits { FitsValues (S.size plan.now.system.now) (S.fits_value plan.now.system.now) values.old }
-    requires places { (k : ℕ) → is_pending pending.old k ≡ true → k < length plan.now.order.now }
-    requires holds { (k u : ℕ) → slice_get plan.now.order.now k ≡ Some u → is_pending pending.old k ≡ false → slice_get values.old u ≡ Some (S.rule plan.now.system.now u (user_of users.now u) values.old) }
-    requires size { pending.old.size ≡ S.size plan.now.system.now }
-    ensures size { pending.new.size ≡ pending.old.size }
-    ensures done { OnOk result (IsDone pending.new) }
-    ensures solves { OnOk result (Solves (S.size plan.now.system.now) (S.rule plan.now.system.now) users.now values.new) }
-    ensures fits { OnOk result (FitsValues (S.size plan.now.system.now) (S.fits_value plan.now.system.now) values.new) }
-    ensures changed { IfOk result (λ report. IsListOf (S.size plan.now.system.now) (IsChanged values.old values.new) report.changed.items) }
-    ensures evaluated { IfOk result (λ report. IsCountOf (S.size plan.now.system.now) (IsDue (S.dependencies plan.now.system.now) plan.now.order.now (is_pending pending.old) values.old values.new) report.evaluated) }
-    ensures steps { IfOk result (λ report. S.count meter.new ≡ min (S.count meter.old + report.evaluated) (2 ^ 64 - 1)) }
-    ensures recorded { OnOk result (RecordsEach (S.size plan.now.system.now) (IsDue (S.dependencies plan.now.system.now) plan.now.order.now (is_pending pending.old) values.old values.new) (S.recorded meter.old) (S.recorded meter.new)) }
-    ensures err { OnErr result (values.new ≡ values.old) }
-{
-    let mut log = Vec::new(plan.alloc);
-    let evaluated = match revise(plan, users, values, pending, &mut log, meter) {
-        Ok(evaluated) => evaluated,
-        Err(fault) => {
-            restore_logged(values, &mut log);
-            return Err(fault);
-        }
-    };
-    let changed = match ascending_units(plan.alloc, log.as_slice()) {
-        Ok(changed) => changed,
-        Err(fault) => {
-            restore_logged(values, &mut log);
-            return Err(fault);
-        }
-    };
-    Ok(ChangedUnits { changed, evaluated })
-}
 
 /// Writes some changes of user values, and makes the places of the units pending whose user values differ in the end.
 fn write_changes<S: System>(
@@ -113,19 +70,21 @@ pub(crate) fn change<S: System>(
     ensures err_users { OnErr result (users.new ≡ users.old) }
     ensures err_values { OnErr result (values.new ≡ values.old) }
 {
-    let mut log = Vec::new(plan.alloc);
-    match write_changes(plan, changes, users, pending, &mut log) {
+    let mut users_log = Vec::new(plan.alloc);
+    let mut values_log = Vec::new(plan.alloc);
+    match write_changes(plan, changes, users, pending, &mut users_log) {
         Ok(()) => {}
         Err(fault) => {
-            restore_logged(users, &mut log);
+            restore_logged(users, &mut users_log);
             return Err(fault);
         }
     }
-    match revalue(plan, users, values, pending, meter) {
+    match revise(plan, users, values, pending, &mut values_log, meter) {
         Ok(report) => Ok(report),
         Err(fault) => {
             pending.clear();
-            restore_logged(users, &mut log);
+            restore_logged(values, &mut values_log);
+            restore_logged(users, &mut users_log);
             Err(fault)
         }
     }

@@ -21,7 +21,8 @@ pub use Rattle.kc_tokens.specs.declared.token.TokenKind.TheVariants.{And, Close,
 pub use Rattle.kc_tree_model.specs.Forms.{ParsedExpr, condition_line, default_line, kind_of_fault, last_condition, no_more, optional_if, prompt_line, type_line, ◌>>=◌}
 pub use Rattle.kc_tree_model.specs.Keywords.{is_the_word}
 pub use Rattle.kc_tree_model.specs.Placement.{is_glob_path}
-pub use Rattle.kc_tree_model.specs.Statements.{Attribute, DefaultAttribute, Statement, TargetAttribute}
+pub use Rattle.kc_tree_model.specs.Statements.{Attribute, Statement}
+pub use Rattle.kc_tree_model.specs.between.Attributes.{DefaultAttribute, TargetAttribute}
 pub use Rattle.kc_tree_model.specs.declared.statement.Attribute.TheVariants.{Modules as modules, Range as range, TypedPrompt as typed_prompt}
 pub use Rattle.kc_tree_model.specs.declared.statement.Statement.TheVariants.{Attribute as attribute, Head as head}
 pub use Rattle.kc_tree_model.specs.declared.fault.TreeKind.{TreeKind}

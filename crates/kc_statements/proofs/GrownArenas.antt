@@ -4,7 +4,7 @@ use Rattle.std.proofs.lemmas.List.{take-append-drop, length-take, get_or_append_
 use Rattle.kc_value.specs.declared.tri.Tri.TheVariants.{N}
 use Rattle.kc_expr.specs.between.Arena.{Exprs, node_expr, Grows}
 use Rattle.kc_expr.specs.Expr.{Expr, alone, constant}
-use Rattle.kc_tree_model.specs.Statements.{DefaultAttribute, TargetAttribute}
+use Rattle.kc_tree_model.specs.between.Attributes.{DefaultAttribute, TargetAttribute}
 use Rattle.kc_tree_model.specs.declared.statement.Head.TheVariants as heads
 use Rattle.kc_tree_model.specs.declared.statement.Attribute.TheVariants as attributes
 use Rattle.kc_statements.specs.between.StatementViews.{ReadHead, ReadDefault, ReadTarget, ReadRange, ReadAttribute}

@@ -1,5 +1,5 @@
 -- What an attribute of the code is, by the definitions.
-use Rattle.kc_symbol_lines.proofs.Common.{◌≡◌, ◌<◌, cond, length, Option, Some, None, refl, option_map, IfSome, Exprs, attribute_in, if_in, AttributeNodesExist, Attribute, TargetAttribute, ReverseKind, prompt_of, is_given, ReadAttribute}
+use Rattle.kc_symbol_lines.proofs.Common.{◌≡◌, ◌<◌, cond, length, Option, Some, None, refl, option_map, IfSome, Exprs, attribute_in, AttributeNodesExist, Attribute, TargetAttribute, ReverseKind, prompt_of, is_given, ReadAttribute}
 use Rattle.kc_conditions.proofs.Growth.{if_there}
 use Rattle.kc_tree_model.specs.declared.statement.Attribute.TheVariants as attributes
 use Rattle.kc_tree_model.specs.Statements as model

@@ -18,8 +18,8 @@ pub use Rattle.kc_parser.specs.declared.listing.Line.{Line as CodeLine}
 pub use Rattle.kc_reasons_model.specs.Places.{LocatedContext, located_at, located_context, located_dependencies, located_prompts}
 pub use Rattle.kc_reasons_model.specs.SymbolLines.{attribute_positions, position_of}
 pub use Rattle.kc_statements.specs.between.StatementViews.{AttributeNodesExist, attribute_in, if_in, ReadAttribute}
-pub use Rattle.kc_tree_model.specs.between.Attributes.{conjunct_given}
-pub use Rattle.kc_tree_model.specs.Statements.{prompt_of, Attribute, TargetAttribute}
+pub use Rattle.kc_tree_model.specs.between.Attributes.{conjunct_given, TargetAttribute}
+pub use Rattle.kc_tree_model.specs.Statements.{prompt_of, Attribute}
 pub use Rattle.kc_tree_model.specs.declared.statement.Conjuncts.{Conjuncts}
 pub use Rattle.kc_tree_model.specs.declared.statement.Conjuncts.TheVariants.{Dependencies, Visibles}
 pub use Rattle.kc_tree_model.specs.declared.statement.ReverseKind.{ReverseKind}

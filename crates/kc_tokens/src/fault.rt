@@ -1,28 +1,24 @@
 //! Faults of a line's tokens and of expressions.
+use kc_value::variant_name;
 use std::alloc::{AllocError, AllocFailed};
 use thiserror::Error;
 
 /// The kind of a fault of a line's tokens or of an expression; it is displayed by its name.
 #[derive(Clone, Copy, Debug, PartialEq, Eq, Error)]
+#[error("{}", self.name())]
 pub enum ExprKind {
     /// A byte that begins no token.
-    #[error("BadToken")]
     BadToken,
     /// A quote that isn't closed in its line.
-    #[error("UnclosedQuote")]
     UnclosedQuote,
     /// Tokens that aren't an expression.
-    #[error("Malformed")]
     Malformed,
     /// A symbol under more than `MAX_EXPR_DEPTH` `!` and parentheses.
-    #[error("TooDeep")]
     TooDeep,
     /// A `$` outside comments that the language leaves out: in the strict language any, in that of Linux any but the `$` of a
     /// pair `\$` in quotes.
-    #[error("LeftOut")]
     LeftOut,
     /// Out of memory.
-    #[error("OutOfMemory")]
     OutOfMemory,
 }
 
@@ -34,14 +30,10 @@ impl ExprKind {
     pub fn name(self) -> &'static str
         ensures { result.now ≡ expr_kind_name self }
     {
-        match self {
-            ExprKind::BadToken => "BadToken",
-            ExprKind::UnclosedQuote => "UnclosedQuote",
-            ExprKind::Malformed => "Malformed",
-            ExprKind::TooDeep => "TooDeep",
-            ExprKind::LeftOut => "LeftOut",
-            ExprKind::OutOfMemory => "OutOfMemory",
-        }
+        variant_name!(
+            self, ExprKind:
+            BadToken, UnclosedQuote, Malformed, TooDeep, LeftOut, OutOfMemory
+        )
     }
 }
 

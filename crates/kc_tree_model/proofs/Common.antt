@@ -46,7 +46,8 @@ pub use Rattle.kc_tree_model.specs.Placement.{is_allowed, is_left_out, is_stray_
 pub use Rattle.kc_tree_model.specs.ReadingFaults.{HasForm, HasTokens, HoldsNever, IsFirstOf, cut_line, help_line}
 pub use Rattle.kc_tree_model.specs.ReadingRelation.{Appends, ComesTo, FaultAt, HasFirstFile, IsCutReading, IsRead, IsWholeReading, SourcesLines, SourcesPath, at_end, comes_to_fault, here, into_file, large_file, line, no_file, nothing, of_end, of_line, of_source, past_file, past_line}
 pub use Rattle.kc_tree_model.specs.ReadingRelation.{place, sourced, statement}
-pub use Rattle.kc_tree_model.specs.Statements.{Attribute, DefaultAttribute, Head, Statement, TargetAttribute, block_of_head, default_of, environment_default, name_of_head, path_of_head}
+pub use Rattle.kc_tree_model.specs.Statements.{Attribute, Head, Statement, block_of_head, default_of, environment_default, name_of_head, path_of_head}
+pub use Rattle.kc_tree_model.specs.between.Attributes.{DefaultAttribute, TargetAttribute}
 pub use Rattle.kc_tree_model.specs.declared.statement.Head.TheVariants.{Choice as choice, Comment as comment, Condition as condition, Config as config, Ends as ends, Mainmenu as mainmenu, Menu as menu, Source as source}
 pub use Rattle.kc_tree_model.specs.declared.statement.Attribute.TheVariants.{Default as default, Depends as depends, Help as help, Imply as imply, Modules as modules, Optional as optional}
 pub use Rattle.kc_tree_model.specs.declared.statement.Statement.TheVariants.{Attribute as attribute, Head as head}

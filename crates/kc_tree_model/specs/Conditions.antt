@@ -78,14 +78,10 @@ abbrev pub inner_context_of_group_head : (through : Bool) → GroupHead → Cont
 inner_context_of_group_head through (of_head h) enclosing g = inner_context_of_head through h enclosing g
 inner_context_of_group_head through file_end enclosing g = enclosing
 
--- the conditions inside the block that a group opens, from those that enclose the group
-abbrev pub inner_context : (through : Bool) → Context → Group → Context
-inner_context through enclosing g = inner_context_of_group_head through g.head enclosing g
-
 -- the conditions that enclose what is inside these open blocks (innermost first), by whether they go through choices
 abbrev pub context : (through : Bool) → List Group → Context
 context through [] = record { dependencies = []; visibles = [] }
-context through (g ∷ outer) = inner_context through (context through outer) g
+context through (g ∷ outer) = inner_context_of_group_head through g.head (context through outer) g
 
 -- the innermost choice among these open blocks (innermost first), by its group's number, if there is one
 abbrev pub choice_among : List Group → Option ℕ

@@ -5,13 +5,16 @@ use Rattle.kc_value.specs.declared.value.Kind.{Kind}
 use Rattle.kc_value.specs.declared.value.Kind.TheVariants.{Bool as Boolean}
 use Rattle.kc_tokens.specs.declared.language.Language.{Language}
 use Rattle.kc_tokens.specs.Languages.{is_linux_6_12}
-use Rattle.kc_expr.specs.Expr.{Expr, named, alone}
+use Rattle.kc_expr.specs.Expr.{Expr, Operand, named, alone}
 use Rattle.kc_expr.specs.Lookup.{index_of_name}
 use Rattle.kc_tree_model.specs.Trees.{Default, Range, ReverseDependency, Symbol, MemberDefault, Choice, Tree}
 use Rattle.kc_tree_model.specs.declared.ids.Unit.{Unit as TreeUnit}
 use Rattle.kc_tree_model.specs.declared.ids.Unit.TheVariants.{Symbol as of_symbol, Choice as of_choice}
 use Rattle.kc_tree_model.specs.Trees as tree
-use Rattle.kc_tree_model.specs.Statements.{Head, Attribute, DefaultAttribute, RangeAttribute, TargetAttribute, title_of_head, type_of, default_of, visible_of, range_of, select_of, imply_of, is_optional}
+use Rattle.kc_tree_model.specs.declared.statement.DefaultAttribute.{DefaultAttribute}
+use Rattle.kc_tree_model.specs.declared.statement.RangeAttribute.{RangeAttribute}
+use Rattle.kc_tree_model.specs.declared.statement.TargetAttribute.{TargetAttribute}
+use Rattle.kc_tree_model.specs.Statements.{Head, Attribute, title_of_head, type_of, default_of, visible_of, range_of, select_of, imply_of, is_optional}
 use Rattle.kc_tree_model.specs.declared.statement.Head.TheVariants.{Config as config, Choice as choice, Menu as menu, Comment as comment, Ends as ends}
 use Rattle.kc_tree_model.specs.declared.keyword.Block.TheVariants as blocks
 use Rattle.kc_tree_model.specs.Blocks.{Group, Line, from_head, defined_name, opens_choice}
@@ -77,19 +80,19 @@ kind_in_tree None given = unwrap_or given Boolean
 
 -- the defaults of a definition, in order, with their whole conditions ("Menu attributes", default value)
 abbrev pub defaults_at : Language → GroupInContext → List Default
-defaults_at language p = map (λ (d : DefaultAttribute). record { value = d.value; condition = attribute_condition (context_of language p) p.group d.condition; from_environment = d.from_environment }) (attribute_values default_of p.group)
+defaults_at language p = map (λ (d : DefaultAttribute Expr). record { value = d.value; condition = attribute_condition (context_of language p) p.group d.condition; from_environment = d.from_environment }) (attribute_values default_of p.group)
 
 -- the ranges of a definition, in order, with their whole conditions ("Menu attributes", numerical ranges)
 abbrev pub ranges_at : Language → GroupInContext → List Range
-ranges_at language p = map (λ (r : RangeAttribute). record { low = r.low; high = r.high; condition = attribute_condition (context_of language p) p.group r.condition }) (attribute_values range_of p.group)
+ranges_at language p = map (λ (r : RangeAttribute Expr Operand). record { low = r.low; high = r.high; condition = attribute_condition (context_of language p) p.group r.condition }) (attribute_values range_of p.group)
 
 -- the reverse dependencies that the symbol with this name exerts by these `select`s or `imply`s of one of its definitions
-abbrev pub reverse_dependencies_by : Language → Contents → GroupInContext → List TargetAttribute → List ℕ → List ReverseDependency
-reverse_dependencies_by language c p aims by = elim (index_of_name by c.names) [ None ↦ [] | Some s ↦ map (λ (a : TargetAttribute). record { by = s; condition = attribute_condition (context_of language p) p.group a.condition }) aims ]
+abbrev pub reverse_dependencies_by : Language → Contents → GroupInContext → List (TargetAttribute Expr (List ℕ)) → List ℕ → List ReverseDependency
+reverse_dependencies_by language c p aims by = elim (index_of_name by c.names) [ None ↦ [] | Some s ↦ map (λ (a : TargetAttribute Expr (List ℕ)). record { by = s; condition = attribute_condition (context_of language p) p.group a.condition }) aims ]
 
 -- the reverse dependencies that a group's `select`s or `imply`s put on this name ("Menu attributes", reverse dependencies)
-abbrev pub reverse_dependencies_of : Language → (Attribute → Option TargetAttribute) → Contents → List ℕ → GroupInContext → List ReverseDependency
-reverse_dependencies_of language f c name p = elim (defined_name p.group) [ None ↦ [] | Some by ↦ reverse_dependencies_by language c p (filter (λ (a : TargetAttribute). bytes_eq a.name name) (attribute_values f p.group)) by ]
+abbrev pub reverse_dependencies_of : Language → (Attribute → Option (TargetAttribute Expr (List ℕ))) → Contents → List ℕ → GroupInContext → List ReverseDependency
+reverse_dependencies_of language f c name p = elim (defined_name p.group) [ None ↦ [] | Some by ↦ reverse_dependencies_by language c p (filter (λ (a : TargetAttribute Expr (List ℕ)). bytes_eq a.name name) (attribute_values f p.group)) by ]
 
 -- the dependencies of a symbol that count, out of those of all its definitions: only the first for a member of a choice, else all
 abbrev pub own_dependencies : {A : Type 0} → (choice : Option ℕ) → List A → List A
@@ -133,11 +136,11 @@ abbrev pub name_among : List (List ℕ) → List ℕ → Option (List ℕ)
 name_among names x = option_map (λ _. x) (index_of_name x names)
 
 -- the name of the member that a choice's default chooses, if its value is the bare name of one of these members
-abbrev pub member_named : List (List ℕ) → DefaultAttribute → Option (List ℕ)
+abbrev pub member_named : List (List ℕ) → DefaultAttribute Expr → Option (List ℕ)
 member_named members d = if d.single then option_and_then (name_among members) (bare_name d.value) else None
 
 -- the default of a choice by the member that it names, if it names one ("Kconfig syntax", choices)
-abbrev pub member_default : Language → Contents → GroupInContext → DefaultAttribute → Option MemberDefault
+abbrev pub member_default : Language → Contents → GroupInContext → DefaultAttribute Expr → Option MemberDefault
 member_default language c p d =
     option_map (λ s. record { member = s; condition = attribute_condition (context_of language p) p.group d.condition })
     (option_and_then (λ x. index_of_name x c.names) (member_named (member_names c p.group.number) d))

@@ -8,7 +8,8 @@ use Rattle.kc_tokens.specs.declared.fault.ExprKind.TheVariants.{TooDeep}
 use Rattle.kc_expr.specs.ExprFaults.{IsFirstExprFault}
 use Rattle.kc_tokens.specs.QuotedTexts.{quoted_text}
 use Rattle.kc_expr.specs.Grammar.{IsExpr, ors, extent, operand_of_lexeme}
-use Rattle.kc_tree_model.specs.Statements.{DefaultAttribute, environment_default, Statement}
+use Rattle.kc_tree_model.specs.declared.statement.DefaultAttribute.{DefaultAttribute}
+use Rattle.kc_tree_model.specs.Statements.{environment_default, Statement}
 use Rattle.kc_tree_model.specs.declared.statement.Head.TheVariants.{Config as config, Choice as choice, Menu as menu, Condition as condition, Comment as comment, Source as source, Mainmenu as mainmenu, Ends as ends}
 use Rattle.kc_tree_model.specs.declared.statement.Attribute.TheVariants.{Typed as typed, TypedPrompt as typed_prompt, TypedDefault as typed_default, Prompt as prompt, Default as default, Depends as depends, Select as select, Imply as imply, Range as range, Visible as visible, Help as help, Modules as modules, Optional as optional}
 use Rattle.kc_tree_model.specs.declared.statement.Statement.TheVariants.{Head as head, Attribute as attribute}
@@ -28,7 +29,7 @@ pub data IsOptionalIf : List Lexeme → Option Expr → Type 0 where
   with_if : {t : Lexeme} {ts : List Lexeme} {c : Expr} → is_the_word (codes "if") t ≡ true → IsCondition ts c → IsOptionalIf (t ∷ ts) (Some c)
 
 -- these tokens are `E [if E]`: the value of the default `d`, in which `m` stays `m`, and its condition; it is no `option env`
-pub record IsDefault (ts : List Lexeme) (d : DefaultAttribute) : Type 0 where
+pub record IsDefault (ts : List Lexeme) (d : DefaultAttribute Expr) : Type 0 where
   pub front : List Lexeme
   pub rest : List Lexeme
   pub parts : ts ≡ front ++ rest
@@ -49,9 +50,9 @@ pub data IsForm : Keyword → List Lexeme → Statement → Type 0 where
   end_form : {b : Block} → IsForm (words.End b) [] (head (ends b))
   type_form : {k : Kind} → IsForm (words.Type k) [] (attribute (typed k))
   type_prompt_form : {k : Kind} {t : Lexeme} {ts : List Lexeme} {c : Option Expr} → is_quoted_kind t.kind ≡ true → IsOptionalIf ts c → IsForm (words.Type k) (t ∷ ts) (attribute (typed_prompt k c))
-  type_default_form : {k : Kind} {ts : List Lexeme} {d : DefaultAttribute} → IsDefault ts d → IsForm (words.DefaultType k) ts (attribute (typed_default k d))
+  type_default_form : {k : Kind} {ts : List Lexeme} {d : DefaultAttribute Expr} → IsDefault ts d → IsForm (words.DefaultType k) ts (attribute (typed_default k d))
   prompt_form : {t : Lexeme} {ts : List Lexeme} {c : Option Expr} → is_quoted_kind t.kind ≡ true → IsOptionalIf ts c → IsForm words.Prompt (t ∷ ts) (attribute (prompt c))
-  default_form : {ts : List Lexeme} {d : DefaultAttribute} → IsDefault ts d → IsForm words.Default ts (attribute (default d))
+  default_form : {ts : List Lexeme} {d : DefaultAttribute Expr} → IsDefault ts d → IsForm words.Default ts (attribute (default d))
   depends_form : {t : Lexeme} {ts : List Lexeme} {c : Expr} → is_the_word (codes "on") t ≡ true → IsCondition ts c → IsForm words.Depends (t ∷ ts) (attribute (depends c))
   select_form : {t : Lexeme} {ts : List Lexeme} {c : Option Expr} → is_name t ≡ true → IsOptionalIf ts c → IsForm words.Select (t ∷ ts) (attribute (select (record { name = t.text; condition = c })))
   imply_form : {t : Lexeme} {ts : List Lexeme} {c : Option Expr} → is_name t ≡ true → IsOptionalIf ts c → IsForm words.Imply (t ∷ ts) (attribute (imply (record { name = t.text; condition = c })))

@@ -11,7 +11,9 @@ use Rattle.kc_tokens.specs.QuotedTexts.{quoted_text}
 use Rattle.kc_expr.specs.Grammar.{read_expr, extent, operand_of_lexeme}
 use Rattle.kc_tree_model.specs.declared.fault.TreeKind.{TreeKind}
 use Rattle.kc_tree_model.specs.declared.fault.TreeKind.TheVariants.{BadToken, UnclosedQuote, Malformed, TooDeep, LeftOut, OutOfMemory}
-use Rattle.kc_tree_model.specs.Statements.{Head, DefaultAttribute, environment_default, TargetAttribute, Attribute, Statement}
+use Rattle.kc_tree_model.specs.declared.statement.DefaultAttribute.{DefaultAttribute}
+use Rattle.kc_tree_model.specs.declared.statement.TargetAttribute.{TargetAttribute}
+use Rattle.kc_tree_model.specs.Statements.{Head, environment_default, Attribute, Statement}
 use Rattle.kc_tree_model.specs.declared.statement.Head.TheVariants.{Config as config, Choice as choice, Menu as menu, Condition as condition, Comment as comment, Source as source, Mainmenu as mainmenu, Ends as ends}
 use Rattle.kc_tree_model.specs.declared.statement.Attribute.TheVariants.{Typed as typed, TypedPrompt as typed_prompt, TypedDefault as typed_default, Prompt as prompt, Default as default, Depends as depends, Select as select, Imply as imply, Range as range, Visible as visible, Help as help, Modules as modules, Optional as optional}
 use Rattle.kc_tree_model.specs.declared.statement.Statement.TheVariants.{Head as head, Attribute as attribute}
@@ -96,14 +98,14 @@ type_line k [] = Ok (attribute (typed k))
 type_line k (t ∷ ts) = prompt_line (typed_prompt k) (t ∷ ts)
 
 -- the attribute of a line with a default by the tokens after its first word, `E [if E]`, or a fault; `m` in the value stays `m`
-abbrev pub default_line : (DefaultAttribute → Attribute) → List Lexeme → Result Statement TreeKind
+abbrev pub default_line : (DefaultAttribute Expr → Attribute) → List Lexeme → Result Statement TreeKind
 default_line f ts = do
   e ← leading_expr ts
   c ← optional_if e.rest
   Ok (attribute (f (record { value = e.expr; single = e.single; condition = c; from_environment = false })))
 
 -- the attribute of a `select` or `imply` line by the tokens after that word, which are `NAME [if E]`, or a fault
-abbrev pub target_line : (TargetAttribute → Attribute) → List Lexeme → Result Statement TreeKind
+abbrev pub target_line : (TargetAttribute Expr (List ℕ) → Attribute) → List Lexeme → Result Statement TreeKind
 target_line f [] = Err Malformed
 target_line f (t ∷ ts) = if is_name t then (optional_if ts >>= λ c. Ok (attribute (f (record { name = t.text; condition = c })))) else Err Malformed
 

@@ -6,9 +6,9 @@ use Rattle.kc_tree_model.specs.declared.keyword.Block.{Block}
 use Rattle.kc_tree_model.specs.declared.keyword.Block.TheVariants as blocks
 use Rattle.kc_tree_model.specs.declared.statement.Head.{Head as HeadOf}
 use Rattle.kc_tree_model.specs.declared.statement.Head.TheVariants.{Config as config, Choice as choice, Menu as menu, Condition as condition, Source as source}
-use Rattle.kc_tree_model.specs.declared.statement.DefaultAttribute.{DefaultAttribute as DefaultOf}
-use Rattle.kc_tree_model.specs.declared.statement.TargetAttribute.{TargetAttribute as TargetOf}
-use Rattle.kc_tree_model.specs.declared.statement.RangeAttribute.{RangeAttribute as RangeOf}
+use Rattle.kc_tree_model.specs.declared.statement.DefaultAttribute.{DefaultAttribute}
+use Rattle.kc_tree_model.specs.declared.statement.TargetAttribute.{TargetAttribute}
+use Rattle.kc_tree_model.specs.declared.statement.RangeAttribute.{RangeAttribute}
 use Rattle.kc_tree_model.specs.declared.statement.Attribute.{Attribute as AttributeOf}
 use Rattle.kc_tree_model.specs.declared.statement.Attribute.TheVariants as attributes
 use Rattle.kc_tree_model.specs.declared.statement.Statement.{Statement as StatementOf}
@@ -16,18 +16,6 @@ use Rattle.kc_tree_model.specs.declared.statement.Statement.{Statement as Statem
 -- a statement that is no attribute
 abbrev pub Head : Type 0
 Head = HeadOf Expr (List ℕ) (List ℕ)
-
--- a `default`, or an `option env`
-abbrev pub DefaultAttribute : Type 0
-DefaultAttribute = DefaultOf Expr
-
--- a `select` or an `imply`
-abbrev pub TargetAttribute : Type 0
-TargetAttribute = TargetOf Expr (List ℕ)
-
--- a `range`
-abbrev pub RangeAttribute : Type 0
-RangeAttribute = RangeOf Expr Operand
 
 -- an attribute
 abbrev pub Attribute : Type 0
@@ -38,7 +26,7 @@ abbrev pub Statement : Type 0
 Statement = StatementOf Head Attribute
 
 -- the default that an `option env` with this text is, without a condition
-abbrev pub environment_default : Operand → DefaultAttribute
+abbrev pub environment_default : Operand → DefaultAttribute Expr
 environment_default text = record { value = alone text; single = true; condition = None; from_environment = true }
 
 -- the name of the symbol that a `config` defines, or None of any other statement
@@ -84,7 +72,7 @@ prompt_of (attributes.TypedPrompt k c) = Some c
 prompt_of a = None
 
 -- the default that an attribute gives, if it gives one
-abbrev pub default_of : {E O N : Type 0} → AttributeOf E O N → Option (DefaultOf E)
+abbrev pub default_of : {E O N : Type 0} → AttributeOf E O N → Option (DefaultAttribute E)
 default_of (attributes.Default d) = Some d
 default_of (attributes.TypedDefault k d) = Some d
 default_of a = None
@@ -100,17 +88,17 @@ visible_of (attributes.Visible e) = Some e
 visible_of a = None
 
 -- the range that an attribute is, if it is one
-abbrev pub range_of : {E O N : Type 0} → AttributeOf E O N → Option (RangeOf E O)
+abbrev pub range_of : {E O N : Type 0} → AttributeOf E O N → Option (RangeAttribute E O)
 range_of (attributes.Range r) = Some r
 range_of a = None
 
 -- the `select` that an attribute is, if it is one
-abbrev pub select_of : {E O N : Type 0} → AttributeOf E O N → Option (TargetOf E N)
+abbrev pub select_of : {E O N : Type 0} → AttributeOf E O N → Option (TargetAttribute E N)
 select_of (attributes.Select s) = Some s
 select_of a = None
 
 -- the `imply` that an attribute is, if it is one
-abbrev pub imply_of : {E O N : Type 0} → AttributeOf E O N → Option (TargetOf E N)
+abbrev pub imply_of : {E O N : Type 0} → AttributeOf E O N → Option (TargetAttribute E N)
 imply_of (attributes.Imply s) = Some s
 imply_of a = None
 

@@ -7,12 +7,13 @@ use Rattle.kc_value.specs.declared.value.Kind.TheVariants.{Bool as Boolean}
 use Rattle.kc_value.specs.Kinds.{is_tri_kind, is_number, same_kind}
 use Rattle.kc_tokens.specs.declared.language.Language.{Language}
 use Rattle.kc_tokens.specs.declared.language.Language.TheVariants.{Strict, Linux}
-use Rattle.kc_expr.specs.Expr.{modules as modules_name}
+use Rattle.kc_expr.specs.Expr.{Expr, modules as modules_name}
 use Rattle.kc_tree_model.specs.declared.fault.TreeKind.{TreeKind}
 use Rattle.kc_tree_model.specs.declared.fault.TreeKind.TheVariants.{NoType, TypeConflict, SecondPrompt, DefaultShape, RangeType, SelectType, ChoiceMember, ChoiceDefault, ModulesType}
 use Rattle.kc_tree_model.specs.declared.fault.TreeFault.{TreeFault}
 use Rattle.kc_tree_model.specs.TreeFiles.{Files}
-use Rattle.kc_tree_model.specs.Statements.{Head, Attribute, DefaultAttribute, type_of, prompt_of, default_of, range_of, is_modules}
+use Rattle.kc_tree_model.specs.declared.statement.DefaultAttribute.{DefaultAttribute}
+use Rattle.kc_tree_model.specs.Statements.{Head, Attribute, type_of, prompt_of, default_of, range_of, is_modules}
 use Rattle.kc_tree_model.specs.declared.statement.Head.TheVariants.{Config as config, Choice as choice}
 use Rattle.kc_tree_model.specs.declared.statement.Attribute.TheVariants.{Typed as typed, Depends as depends, Select as select, Imply as imply, Help as help}
 use Rattle.kc_tree_model.specs.Blocks.{Group, Line, of_head, file_end}
@@ -89,7 +90,7 @@ definition_faults language c p name =
     ++ when (first && bytes_eq name modules_name && other) ModulesType
 
 -- whether a default is that of a string, int or hex symbol and isn't one operand
-abbrev pub is_shapeless : Kind → Option DefaultAttribute → Bool
+abbrev pub is_shapeless : Kind → Option (DefaultAttribute Expr) → Bool
 is_shapeless k None = false
 is_shapeless k (Some d) = not (is_tri_kind k) && not d.single
 
@@ -116,7 +117,7 @@ attribute_faults c name (Some k) prompted a =
     ++ when (is_modules a && not (bytes_eq name modules_name)) ModulesType
 
 -- whether a default of a choice isn't the bare name of one of these members; false if there is no default
-abbrev pub is_no_member : List (List ℕ) → Option DefaultAttribute → Bool
+abbrev pub is_no_member : List (List ℕ) → Option (DefaultAttribute Expr) → Bool
 is_no_member members None = false
 is_no_member members (Some d) = is_none (member_named members d)
 

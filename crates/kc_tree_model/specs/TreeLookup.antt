@@ -15,8 +15,7 @@ use Rattle.kc_value.specs.Lines.{has_newline}
 abbrev pub is_same_unit : TreeUnit → TreeUnit → Bool
 is_same_unit (of_symbol a) (of_symbol b) = a == b
 is_same_unit (of_choice a) (of_choice b) = a == b
-is_same_unit (of_symbol a) (of_choice b) = false
-is_same_unit (of_choice a) (of_symbol b) = false
+is_same_unit _ _ = false
 
 -- the number of a unit in a tree, from 0, or the count of the tree's units if it isn't among them
 abbrev pub index_of_unit : Tree → TreeUnit → ℕ

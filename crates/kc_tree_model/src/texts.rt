@@ -7,13 +7,14 @@ use kc_tokens::Language;
 use kc_value::Seed;
 use std::alloc::{AllocError, Global};
 use std::marker::Model;
+use std::rc::Rc;
 
 /// The Kconfig files of a tree: paths and their bytes, in order of insertion, and the language in which the files are written.
 #[derive(Drop)]
 pub struct Texts {
     alloc: Global,
     language: Language,
-    files: IndexMap<String, Vec<u8>, Seed>,
+    files: IndexMap<String, Rc<Vec<u8>>, Seed>,
 }
 
 impl Model for Texts {
@@ -74,8 +75,31 @@ impl Texts {
         ensures ok { OnOk result (self.new ≡ with_file self.old path.now bytes.now) }
         ensures err { OnErr result (self.new ≡ self.old) }
     {
+        self.insert_whole(path, Vec::from_slice(self.alloc, bytes)?)
+    }
+
+    /// Appends a file with a new path, or replaces the bytes of the file that has this path; the bytes are taken.
+    ///
+    /// # Errors
+    ///
+    /// `AllocError` if memory runs out; then the files are unchanged.
+    pub fn insert_whole(&mut self, path: &str, bytes: Vec<u8>) -> Result<(), AllocError>
+        ensures ok { OnOk result (self.new ≡ with_file self.old path.now bytes.items) }
+        ensures err { OnErr result (self.new ≡ self.old) }
+    {
+        self.insert_shared(path, Rc::new(self.alloc, bytes)?)
+    }
+
+    /// Appends a file with a new path, or replaces the bytes of the file that has this path; the bytes are shared.
+    ///
+    /// # Errors
+    ///
+    /// `AllocError` if memory runs out; then the files are unchanged.
+    pub fn insert_shared(&mut self, path: &str, bytes: Rc<Vec<u8>>) -> Result<(), AllocError>
+        ensures ok { OnOk result (self.new ≡ with_file self.old path.now bytes.value.items) }
+        ensures err { OnErr result (self.new ≡ self.old) }
+    {
         let path = String::from_str(self.alloc, path)?;
-        let bytes = Vec::from_slice(self.alloc, bytes)?;
         self.files.insert(path, bytes)?;
         Ok(())
     }

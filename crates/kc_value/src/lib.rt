@@ -11,6 +11,7 @@ mod seed;
 mod streams;
 mod tri;
 mod value;
+mod variant_names;
 
 pub use byte_search::{ByteTest, first_marked};
 pub use limits::{

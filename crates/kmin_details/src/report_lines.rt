@@ -4,8 +4,7 @@ ghost use Rattle.std.specs.Global.{Vec};
 ghost use Rattle.kmin_messages.specs.ShownTexts.{shown};
 ghost use Rattle.kmin_messages.specs.between.MessageViews.{bytes_of};
 ghost use Rattle.kmin_details.specs.between.Details.{detail_names, detail_text};
-ghost use Rattle.kmin_messages.specs.Messages.{form_line};
-ghost use Rattle.kmin_details.specs.ReportMessages.{file_of, kind_of, line_in, message_of, number_of, severity_of};
+ghost use Rattle.kmin_details.specs.ReportMessages.{file_of, kind_of, line_in, number_of, severity_of};
 ghost use Rattle.kmin_report.specs.between.ReportLines.{report_line};
 
 use crate::details::Detail;
@@ -25,22 +24,9 @@ pub fn line_in(
 ) -> Result<Vec<u8>, AllocError>
     ensures { IfOk result (λ line. line.items ≡ line_in form root.now (report_line report.now) (shown (detail_text detail.entry)) (detail_names detail.entry)) }
 {
-    match report {
-        Message::RefusedWords(message) => Vec::from_slice(alloc, message.as_bytes()),
-        _ => message_in(alloc, form, root, report, detail),
+    if let Message::RefusedWords(message) = report {
+        return Vec::from_slice(alloc, message.as_bytes());
     }
-}
-
-/// The line of the message of a report in a form, with this detail.
-fn message_in(
-    alloc: Global,
-    form: Form,
-    root: &[u8],
-    report: &Message<'_>,
-    detail: Detail<'_>,
-) -> Result<Vec<u8>, AllocError>
-    ensures { IfOk result (λ line. line.items ≡ form_line form (message_of root.now (report_line report.now) (shown (detail_text detail.entry)) (detail_names detail.entry))) }
-{
     let file = file_of(alloc, root, report)?;
     let parts = MessageParts {
         kind: kind_of(report),

@@ -35,25 +35,9 @@ pub fn replace<D: WriteDisk>(
     ensures refused { content_at (D.disk disk.old).state path.now ≡ Some special → IsErrOf result ReplaceFault.NotRegular }
     ensures names_taken { IsErrOf result ReplaceFault.NamesTaken → HasTakenName (D.disk disk.old).state path.now }
 {
-    match disk.kind(path) {
-        FileKind::NotRegular => Err(ReplaceFault::NotRegular),
-        FileKind::Missing | FileKind::Regular => replace_regular(alloc, disk, path, bytes),
+    if disk.kind(path) == FileKind::NotRegular {
+        return Err(ReplaceFault::NotRegular);
     }
-}
-
-/// Replaces a regular or missing file.
-fn replace_regular<D: WriteDisk>(
-    alloc: Global,
-    disk: &mut D,
-    path: &str,
-    bytes: &[u8],
-) -> Result<(), ReplaceFault>
-    ensures ok { OnOk result (Replaces (D.disk disk.old).state (D.disk disk.new).state path.now bytes.now) }
-    ensures err { IfErr result (FaultLeaves (D.disk disk.old).state (D.disk disk.new).state path.now bytes.now) }
-    ensures failures { (D.disk disk.new).failures ≡ failures_after_replace (D.disk disk.old).failures result }
-    ensures tried { result ≢ Err ReplaceFault.NotRegular }
-    ensures names_taken { IsErrOf result ReplaceFault.NamesTaken → HasTakenName (D.disk disk.old).state path.now }
-{
     let (new, new_path) = create_beside(alloc, disk, path)?;
     match fill_and_rename(disk, new, bytes) {
         Ok(renamed) => match disk.sync_folder(renamed) {

@@ -7,7 +7,7 @@ use Rattle.kc_macros_model.specs.Programs.{Fault, Notice}
 use Rattle.kc_macros_model.specs.ReadingStates.{ExpandedFile}
 use Rattle.kc_macros_model.specs.Worlds.{World}
 use Rattle.kc_expansion.specs.Expansions.{IsCountedExpansion, AreCountedWanted, AreCountedUnused}
-use Rattle.kc_files.specs.TreeContents.{TreeContents, IsWorldOf, IsWholeWorldOf}
+use Rattle.kc_files.specs.TreeContents.{IsWorldOf, IsWholeWorldOf}
 use Rattle.kc_files.specs.TreeContents as tree
 use Rattle.kmin_inputs.specs.FileContents.{Surroundings}
 use Rattle.kmin_expansions.specs.TreeFolders.{contents_through, contents_below}

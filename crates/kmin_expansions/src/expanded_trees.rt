@@ -25,6 +25,7 @@ use kmin_inputs::Files;
 use kmin_options::Settings;
 use kmin_report::{Message, Messages, RunError};
 use std::alloc::{AllocError, Global};
+use std::rc::Rc;
 
 /// A tree whose macros are expanded, and its expanded files as the texts to read as a Kconfig tree.
 #[derive(Drop)]
@@ -203,11 +204,11 @@ fn insert_at(tree: &ExpandedTree, at: usize, texts: &mut Texts) -> Result<(), Al
 }
 
 /// Inserts a text under its key, if that is UTF-8.
-fn insert(key: &[u8], text: &[u8], texts: &mut Texts) -> Result<(), AllocError>
-    ensures { OnOk result (texts.new ≡ (if is_utf8 key.now then with_file texts.old key.now text.now else texts.old)) }
+fn insert(key: &[u8], text: &Rc<Vec<u8>>, texts: &mut Texts) -> Result<(), AllocError>
+    ensures { OnOk result (texts.new ≡ (if is_utf8 key.now then with_file texts.old key.now text.now.value.items else texts.old)) }
 {
     match utf8_or_none(key) {
-        Some(key) => texts.insert(key, text),
+        Some(key) => texts.insert_shared(key, text.clone()?),
         None => Ok(()),
     }
 }

@@ -8,7 +8,7 @@ pub use Rattle.std.specs.Global.{Vec}
 pub use Rattle.std.specs.List.{cons_option, filter_map, list_any, range_with_len}
 pub use Rattle.std.specs.Prelude.{IsAscii, find, flat_map, is_some, option_map, slice_get, unwrap_or}
 pub use Rattle.kc_config.specs.ConfigStates.{tree_in}
-pub use Rattle.kc_config_reasons.specs.between.Places.{place_view}
+pub use Rattle.kc_config_reasons.specs.between.Places.{overridden_view, place_view}
 pub use Rattle.kc_config_reasons.specs.declared.places.Overridden.{Overridden}
 pub use Rattle.kc_dotconfig_model.specs.ConfigLines.{LineMeaning}
 pub use Rattle.kc_dotconfig_model.specs.between.Prefixes.{prefix_bytes}
@@ -34,9 +34,8 @@ pub use Rattle.kc_tree_model.specs.TreeLookup.{symbol_named, unit_of}
 pub use Rattle.kc_tree_model.specs.Trees.{Symbol, Tree}
 pub use Rattle.kc_value.specs.declared.tri.Tri.{Tri}
 pub use Rattle.kmin_explain.specs.Deep.{blamed_in, blamed_of, next_of}
-pub use Rattle.kmin_explain.specs.Explanations.{SourcesModel, asked_line, asked_lines, explained_at, explained_by, explained_in, is_hindered_at, listed_reasons, reason_places, reasons_of}
+pub use Rattle.kmin_explain.specs.Explanations.{SourcesModel, asked_line, asked_lines, explained_at, explained_by, explained_in, is_hindered_at, listed_reasons, overridden_line, reason_places, reasons_of}
 pub use Rattle.kmin_explain.specs.Names.{each_once, each_once_after, is_unknown, symbol_meant}
 pub use Rattle.kmin_explain.specs.between.Sources.{AreSourcesOf, config_of, sources_model}
 pub use Rattle.kmin_explain.specs.checker.BlamedWalk.{blamed_in_reverse}
-pub use Rattle.kmin_explain.specs.checker.FileLineTexts.{line_in, overridden_text}
 pub use Rattle.kmin_explain.specs.checker.Marks.{AreMarked, with_meant}

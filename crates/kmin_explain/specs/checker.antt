@@ -1,4 +1,3 @@
 pub mod Marks
-pub mod FileLineTexts
 pub mod Bounds
 pub mod BlamedWalk

@@ -11,7 +11,7 @@ mod nearest_names;
 mod sources;
 mod symbol_reasons;
 
-pub use asked_lines::{AskedSymbol, line_in, path_at};
+pub use asked_lines::{AskedSymbol, path_at};
 pub use deep::deep_symbols;
 pub use each_once::SymbolsOnce;
 pub use explanations::{every_symbol, explanation_of, is_one_hindered};

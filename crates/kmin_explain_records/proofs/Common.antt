@@ -6,8 +6,7 @@ pub use Rattle.std.specs.Global.{Vec}
 pub use Rattle.std.specs.List.{filter, range_with_len}
 pub use Rattle.std.specs.Prelude.{codes, flat_map, option_map, slice_get}
 pub use Rattle.kc_config.specs.ConfigStates.{tree_in}
-pub use Rattle.kc_config_reasons.specs.between.FileLines.{line_view}
-pub use Rattle.kc_config_reasons.specs.between.Places.{file_numbers}
+pub use Rattle.kc_config_reasons.specs.between.Places.{overridden_view, place_view}
 pub use Rattle.kc_config_reasons.specs.declared.places.Overridden.{Overridden}
 pub use Rattle.kc_dotconfig_model.specs.ConfigLines.{LineMeaning}
 pub use Rattle.kc_evaluation.specs.checker.ValuationView.{valuation_exprs, valuation_tree, valuation_values}
@@ -37,11 +36,9 @@ pub use Rattle.kc_tree_model.specs.Trees.{ReverseDependency, Symbol, Tree}
 pub use Rattle.kc_value.specs.declared.value.Kind.{Kind}
 pub use Rattle.kmin_explain.specs.Explanations.{SourcesModel, reason_places}
 pub use Rattle.kmin_explain.specs.between.Sources.{AreSourcesOf, config_of, sources_model}
-pub use Rattle.kmin_explain.specs.checker.FileLineTexts.{line_in}
 pub use Rattle.kmin_explain_records.specs.ListedMissed.{is_listed, is_overridden}
 pub use Rattle.kmin_explain_records.specs.SymbolRecords.{alternatives_json, asked_json, asked_list, asked_members, deciding_json, explained_as_json_at, forcing_json, forcing_list, forcing_members, given_members, lacking_members, needs_json, overridden_json, part_json, parts_json, place_if}
 pub use Rattle.kmin_explain_records.specs.SymbolRecords.{position_members, record_members, records_in}
-pub use Rattle.kmin_explain_records.specs.checker.LineTokens.{overridden_place, overridden_tokens}
 pub use Rattle.kmin_messages.proofs.WriterSteps.{and_last, and_then, wrote}
 pub use Rattle.kmin_messages.specs.between.MessageViews.{AppendsTokens}
 pub use Rattle.kmin_records.proofs.JsonLists.{all_written, as_end, as_last, as_tokens, last_write, nothing_more, object_is, one_more_written, viewed_array}

@@ -2,4 +2,3 @@ pub mod ReasonWords
 pub mod SymbolRecords
 pub mod ListedMissed
 pub mod RecordLaws
-pub mod checker

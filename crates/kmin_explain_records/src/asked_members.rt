@@ -5,23 +5,22 @@ ghost use Rattle.kc_tree_model.specs.TreeLookup.{unit_of};
 ghost use Rattle.kc_tree_model.specs.Blocks.{Group};
 ghost use Rattle.kc_dotconfig_model.specs.ConfigLines.{LineMeaning};
 ghost use Rattle.kc_config.specs.ConfigStates.{tree_in};
-ghost use Rattle.kc_config_reasons.specs.between.FileLines.{line_view};
-ghost use Rattle.kc_config_reasons.specs.between.Places.{place_view};
+ghost use Rattle.kc_config_reasons.specs.between.Places.{place_view, overridden_view};
 ghost use Rattle.kc_explanation.specs.Asked.{asked_value, line_place};
 ghost use Rattle.kmin_messages.specs.between.MessageViews.{AppendsTokens};
 ghost use Rattle.kmin_explain.specs.Explanations.{path_of_file};
 ghost use Rattle.kmin_records.specs.JsonValues.{text_json, array_of, place_members};
 ghost use Rattle.kmin_explain_records.specs.SymbolRecords.{asked_json, overridden_json, deciding_json, asked_list};
 ghost use Rattle.kmin_explain.specs.between.Sources.{config_of, AreSourcesOf, sources_model};
-ghost use Rattle.kmin_explain.specs.checker.FileLineTexts.{line_in};
 ghost use Rattle.kmin_records.specs.between.RecordTokens.{list_tokens};
-ghost use Rattle.kmin_explain_records.specs.checker.LineTokens.{overridden_place, overridden_tokens};
 
 use json::Writer;
-use kc_config_reasons::{AskingLine, Overridden, deciding_line, overridden_files, valuation};
+use kc_config_reasons::{
+    AskingLine, AskingPlace, Overridden, deciding_line, overridden_lines, valuation,
+};
 use kc_explanation::{push_asked_value, push_line_place, push_outcome};
 use kc_reasons::{Case, Hindrance};
-use kmin_explain::{AskedSymbol, Sources, line_in, path_at};
+use kmin_explain::{AskedSymbol, Sources, path_at};
 use kmin_records::{write_bytes, write_place};
 use std::alloc::{AllocError, Global};
 
@@ -48,54 +47,44 @@ fn write_asked_value(
     write_bytes(alloc, writer, "value", &text)
 }
 
-/// Writes a line of the configuration file with a number, and what became of it, as an object.
+/// Writes a line of a configuration file, and what became of it, as an object.
 fn write_asked(
     alloc: Global,
     writer: &mut Writer,
     by: &Sources<'_>,
     symbol: &AskedSymbol,
-    file: usize,
-    line: &AskingLine,
+    place: AskingPlace<'_>,
     outcome: &[u8],
 ) -> Result<(), AllocError>
-    ensures { (read : List Group) (meanings : List (List LineMeaning)) → OnOk result (AppendsTokens writer.old writer.new (json_tokens (asked_json (sources_model by.now read meanings) symbol.now.s symbol.now.kind (record { file = file; line = line_view line.now }) outcome.now))) }
+    ensures { (read : List Group) (meanings : List (List LineMeaning)) → OnOk result (AppendsTokens writer.old writer.new (json_tokens (asked_json (sources_model by.now read meanings) symbol.now.s symbol.now.kind (place_view place.entry) outcome.now))) }
 {
     writer.begin_object()?;
-    write_place(writer, path_at(by.file_paths, file), line.number as u64)?;
-    write_asked_value(alloc, writer, by, symbol, line)?;
+    write_place(
+        writer,
+        path_at(by.file_paths, place.file),
+        place.line.number as u64,
+    )?;
+    write_asked_value(alloc, writer, by, symbol, place.line)?;
     write_bytes(alloc, writer, "outcome", outcome)?;
     writer.end_object()
 }
 
-/// What becomes of a line that the line of a later file overrides.
+/// What becomes of a line that this line of a later file overrides.
 fn overridden_by(
     alloc: Global,
     by: &Sources<'_>,
-    file: usize,
-    other: &AskingLine,
+    other: AskingPlace<'_>,
 ) -> Result<Vec<u8>, AllocError>
-    ensures { (read : List Group) (meanings : List (List LineMeaning)) → IfOk result (λ text. text.items ≡ codes "overridden by " ++ line_place (path_of_file (sources_model by.now read meanings) file) other.now.number) }
+    ensures { (read : List Group) (meanings : List (List LineMeaning)) → IfOk result (λ text. text.items ≡ codes "overridden by " ++ line_place (path_of_file (sources_model by.now read meanings) (place_view other.entry).file) (place_view other.entry).line.number) }
 {
     let mut text = Vec::new(alloc);
     text.extend_from_slice(b"overridden by ")?;
-    push_line_place(&mut text, path_at(by.file_paths, file), other.number)?;
+    push_line_place(
+        &mut text,
+        path_at(by.file_paths, other.file),
+        other.line.number,
+    )?;
     Ok(text)
-}
-
-/// Writes a line and that of a later file that overrides it.
-fn write_both(
-    alloc: Global,
-    writer: &mut Writer,
-    by: &Sources<'_>,
-    symbol: &AskedSymbol,
-    found: Overridden,
-    line: &AskingLine,
-    other: &AskingLine,
-) -> Result<(), AllocError>
-    ensures { (read : List Group) (meanings : List (List LineMeaning)) → OnOk result (AppendsTokens writer.old writer.new (json_tokens (overridden_json (sources_model by.now read meanings) symbol.now.s symbol.now.kind (record { place = record { file = found.file; line = line_view line.now }; by = record { file = found.by; line = line_view other.now } })))) }
-{
-    let outcome = overridden_by(alloc, by, found.by, other)?;
-    write_asked(alloc, writer, by, symbol, found.file, line, &outcome)
 }
 
 /// Writes a line that a later file overrides.
@@ -104,17 +93,12 @@ fn write_overridden(
     writer: &mut Writer,
     by: &Sources<'_>,
     symbol: &AskedSymbol,
-    found: Overridden,
+    found: &Overridden<'_>,
 ) -> Result<(), AllocError>
-    ensures { (read : List Group) (meanings : List (List LineMeaning)) → OnOk result (AppendsTokens writer.old writer.new (overridden_tokens (sources_model by.now read meanings) symbol.now.s symbol.now.kind (overridden_place found (line_in by.now.files.now symbol.now.unit symbol.now.s found.file) (line_in by.now.files.now symbol.now.unit symbol.now.s found.by)))) }
+    ensures { (read : List Group) (meanings : List (List LineMeaning)) → OnOk result (AppendsTokens writer.old writer.new (json_tokens (overridden_json (sources_model by.now read meanings) symbol.now.s symbol.now.kind (overridden_view found.now)))) }
 {
-    let line = line_in(by.files, symbol, found.file);
-    let other = line_in(by.files, symbol, found.by);
-    match (line, other) {
-        (Some(line), Some(other)) => write_both(alloc, writer, by, symbol, found, line, other),
-        (Some(_), None) => Ok(()),
-        (None, _) => Ok(()),
-    }
+    let outcome = overridden_by(alloc, by, found.by)?;
+    write_asked(alloc, writer, by, symbol, found.place, &outcome)
 }
 
 /// Writes each line that a later file overrides.
@@ -123,17 +107,17 @@ fn write_each_overridden(
     writer: &mut Writer,
     by: &Sources<'_>,
     symbol: &AskedSymbol,
-    found: &[Overridden],
+    found: &[Overridden<'_>],
 ) -> Result<(), AllocError>
-    ensures { (read : List Group) (meanings : List (List LineMeaning)) → OnOk result (AppendsTokens writer.old writer.new (flat_map (λ n. overridden_tokens (sources_model by.now read meanings) symbol.now.s symbol.now.kind (overridden_place n (line_in by.now.files.now symbol.now.unit symbol.now.s n.file) (line_in by.now.files.now symbol.now.unit symbol.now.s n.by))) found.now)) }
+    ensures { (read : List Group) (meanings : List (List LineMeaning)) → OnOk result (AppendsTokens writer.old writer.new (flat_map (λ o. json_tokens (overridden_json (sources_model by.now read meanings) symbol.now.s symbol.now.kind (overridden_view o))) found.now)) }
 {
     for one in found {
-        write_overridden(alloc, writer, by, symbol, *one)?;
+        write_overridden(alloc, writer, by, symbol, one)?;
     }
     Ok(())
 }
 
-/// Writes the line of the file with a number that counts, as an object.
+/// Writes the line that counts, as an object.
 fn write_counting(
     alloc: Global,
     writer: &mut Writer,
@@ -141,14 +125,13 @@ fn write_counting(
     symbol: &AskedSymbol,
     case: Case,
     hindrance: Option<Hindrance>,
-    file: usize,
-    line: &AskingLine,
+    place: AskingPlace<'_>,
 ) -> Result<(), AllocError>
-    ensures { (read : List Group) (meanings : List (List LineMeaning)) → OnOk result (AppendsTokens writer.old writer.new (flat_map json_tokens (deciding_json (sources_model by.now read meanings) symbol.now.s symbol.now.kind case hindrance (Some (record { file = file; line = line_view line.now }))))) }
+    ensures { (read : List Group) (meanings : List (List LineMeaning)) → OnOk result (AppendsTokens writer.old writer.new (flat_map json_tokens (deciding_json (sources_model by.now read meanings) symbol.now.s symbol.now.kind case hindrance (Some (place_view place.entry))))) }
 {
     let mut outcome = Vec::new(alloc);
     push_outcome(&mut outcome, case, hindrance)?;
-    write_asked(alloc, writer, by, symbol, file, line, &outcome)
+    write_asked(alloc, writer, by, symbol, place, &outcome)
 }
 
 /// Writes the line that counts, if there is one.
@@ -159,15 +142,13 @@ fn write_deciding(
     symbol: &AskedSymbol,
     case: Case,
     hindrance: Option<Hindrance>,
-    place: Option<(usize, &AskingLine)>,
+    place: Option<AskingPlace<'_>>,
 ) -> Result<(), AllocError>
     ensures { (read : List Group) (meanings : List (List LineMeaning)) → OnOk result (AppendsTokens writer.old writer.new (flat_map json_tokens (deciding_json (sources_model by.now read meanings) symbol.now.s symbol.now.kind case hindrance (option_map place_view place.entry)))) }
 {
     match place {
         None => Ok(()),
-        Some((file, line)) => {
-            write_counting(alloc, writer, by, symbol, case, hindrance, file, line)
-        }
+        Some(place) => write_counting(alloc, writer, by, symbol, case, hindrance, place),
     }
 }
 
@@ -184,7 +165,7 @@ pub(crate) fn write_asked_list(
     requires unit { symbol.now.unit ≡ unit_of (tree_in (config_of by.now)) symbol.now.s }
     ensures { (read : List Group) (meanings : List (List LineMeaning)) → AreSourcesOf by.now read meanings → OnOk result (AppendsTokens writer.old writer.new (json_tokens (array_of (asked_list (sources_model by.now read meanings) symbol.now.s symbol.now.kind case hindrance)))) }
 {
-    let found = overridden_files(alloc, by.files, symbol.unit, symbol.s)?;
+    let found = overridden_lines(alloc, by.files, symbol.unit, symbol.s)?;
     writer.begin_array()?;
     write_each_overridden(alloc, writer, by, symbol, &found)?;
     let place = deciding_line(by.files, symbol.unit, symbol.s);

@@ -9,7 +9,7 @@ ghost use Rattle.kmin_explain_records.specs.ListedMissed.{is_overridden, listed_
 ghost use Rattle.kmin_explain_records.specs.SymbolRecords.{records_in};
 
 use crate::records::records_of;
-use kc_config_reasons::overridden_files;
+use kc_config_reasons::overridden_lines;
 use kc_tree::Sym;
 use kmin_explain::Sources;
 use kmin_missed::{is_marked, marked};
@@ -21,7 +21,7 @@ fn is_overridden(alloc: Global, by: &Sources<'_>, s: Sym) -> Result<bool, AllocE
     ensures { (read : List Group) (meanings : List (List LineMeaning)) → AreSourcesOf by.now read meanings → IfOk result (λ found. found ≡ is_overridden (sources_model by.now read meanings) s) }
 {
     let unit = by.config.settled().tree().unit_of(s);
-    let found = overridden_files(alloc, by.files, unit, s)?;
+    let found = overridden_lines(alloc, by.files, unit, s)?;
     let count = found.len();
     Ok(count > 0)
 }

@@ -1,5 +1,5 @@
 -- Tests of the names in an expression, in either order.
-use Rattle.kmin_faults.proofs.Common.{◌≡◌, ℕ, Bool, ◌||◌, List, [], ◌∷◌, ◌++◌, map, refl, sym, ap, ◌∙◌, slice_index_or, list_any, any_map}
+use Rattle.kmin_faults.proofs.Common.{◌≡◌, ℕ, Bool, ◌||◌, List, [], ◌++◌, map, refl, sym, ap, ◌∙◌, slice_index_or, list_any, any_map}
 use Rattle.std.proofs.Math.Bool.{or_comm}
 use Rattle.std.proofs.lemmas.List.Folds.{list_any-append}
 use Rattle.kc_expr.specs.Expr.{Expr, alone, related, negated, both, either, shown}

@@ -1,5 +1,5 @@
 -- Causes by the stored parts of a symbol or a choice.
-use Rattle.kmin_faults.proofs.Common.{◌≡◌, ℕ, Bool, false, ◌||◌, List, map, Option, Some, None, refl, ap, sym, ◌∙◌, find, slice_get, list_any, Exprs, node_expr, any_map, symbol_view, Tree, choice_depends, names_unit, prompts_name_unit, symbol_depends}
+use Rattle.kmin_faults.proofs.Common.{◌≡◌, ℕ, Bool, false, Option, Some, None, ap, ◌∙◌, find, slice_get, list_any, Exprs, node_expr, any_map, symbol_view, Tree, choice_depends, names_unit, prompts_name_unit, symbol_depends}
 use Rattle.kc_tree.specs.declared.symbol.Symbol.{Symbol as KeptSymbol}
 use Rattle.kc_tree_model.specs.Trees.{Symbol, Choice}
 use Rattle.kc_tree_model.specs.declared.ids.Unit.TheVariants.{Symbol as of_symbol, Choice as of_choice}

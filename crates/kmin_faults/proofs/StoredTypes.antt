@@ -1,5 +1,5 @@
 -- Attributes that a list has.
-use Rattle.kmin_faults.proofs.Common.{◌≡◌, ℕ, ◌≤◌, Bool, ◌&&◌, List, length, ap, ◌∙◌, nat_le, slice_range, list_any, gives_type, has_type}
+use Rattle.kmin_faults.proofs.Common.{◌≡◌, ℕ, ◌≤◌, ◌&&◌, List, length, ap, ◌∙◌, nat_le, slice_range, list_any, gives_type, has_type}
 use Rattle.std.proofs.lemmas.Bool.{le-leb}
 use Rattle.kc_parser.specs.declared.listing.Line.{Line}
 

@@ -5,7 +5,7 @@ use Rattle.std.specs.Prelude.{nat_lt, IfSome}
 use Rattle.std.specs.Str.{is_utf8}
 use Rattle.kc_value.specs.declared.limits.TheConstants.{MAX_ANSWER_BYTES, MAX_ANSWER_LINES, MAX_ANSWER_LINE_BYTES}
 use Rattle.kc_tree_model.specs.LogicalLines.{PhysicalLine, split_at_newlines, without_white_end}
-use Rattle.kc_macros_model.specs.AnswerFiles.{AnswerLine, comment, answer, command, malformed, meaning_of_line, is_same_answer, LinesSoFar, fault_at, one_line_more, with_answer, malformed_line, with_meaning, fault_of_size, fault_of_line, with_line, FileEnd, unless_waiting, recorded_at_end, cut_line}
+use Rattle.kc_macros_model.specs.AnswerFiles.{AnswerLine, comment, answer, command, malformed, meaning_of_line, is_same_answer, LinesSoFar, fault_at, one_line_more, with_answer, malformed_line, with_meaning, fault_of_size, fault_of_line, with_line, FileEnd, unless_waiting, cut_line}
 use Rattle.kc_macros_model.specs.AnswerFiles.{and_then, recorded_from, first_line, answers_read}
 
 -- a kind, if there is one, that isn't that of a failed read

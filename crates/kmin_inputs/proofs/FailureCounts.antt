@@ -1,5 +1,5 @@
 -- Counts of failed calls that rise.
-use Rattle.std.proofs.Common.{◌≡◌, ℕ, ◌+◌, ◌-◌, ◌^◌, ◌<◌, ◌≤◌, arith}
+use Rattle.std.proofs.Common.{◌≡◌, ℕ, ◌-◌, ◌^◌, ◌<◌, ◌≤◌, arith}
 use Rattle.kc_files.specs.TreeContents.{HasRisen}
 
 not_below : (a b c : ℕ) → a ≤ b → b ≤ c → HasRisen b c → a < 2 ^ 64 - 1 → c ≤ a → ⊥

@@ -8,6 +8,7 @@ pub use Rattle.std.specs.Global.{Vec}
 pub use Rattle.std.specs.List.{list_any, range_with_len}
 pub use Rattle.std.specs.Prelude.{Option, codes, flat_map, option_map, slice_get, slice_index, unwrap_or}
 pub use Rattle.kc_config.specs.ConfigStates.{tree_in}
+pub use Rattle.kc_config_reasons.specs.between.Places.{overridden_view}
 pub use Rattle.kc_config_reasons.specs.declared.places.Overridden.{Overridden}
 pub use Rattle.kc_dotconfig_model.specs.ConfigLines.{LineMeaning}
 pub use Rattle.kc_dotconfig_model.specs.MissedAssignments.{missed}
@@ -37,10 +38,8 @@ pub use Rattle.kmin_explain.proofs.ReasonTexts.{same_at}
 pub use Rattle.kmin_explain.proofs.SymbolTexts.{no_more_text, one_more_text, symbol_there}
 pub use Rattle.kmin_explain.specs.Explanations.{SourcesModel, reasons_of}
 pub use Rattle.kmin_explain.specs.between.Sources.{AreSourcesOf, config_of, sources_model}
-pub use Rattle.kmin_explain.specs.checker.FileLineTexts.{line_in}
 pub use Rattle.kmin_missed.specs.MissedCauses.{causes_of, name_row, symbols_with}
 pub use Rattle.kmin_missed.specs.MissedLines.{cause_at, cause_by, in_one_line, missed_row, missed_rows, missed_rows_at}
 pub use Rattle.kmin_missed.specs.UnmetLines.{first_place, unmet_row_at, unmet_row_by}
 pub use Rattle.kmin_missed.specs.checker.CauseGroups.{AreCauses, AreWithin, IsAdded, rows_of_number, sizes_in, texts_in}
-pub use Rattle.kmin_missed.specs.checker.RowTexts.{overridden_row_text}
 pub use Rattle.kmin_missed.specs.declared.missed_causes.Causes.{Causes}

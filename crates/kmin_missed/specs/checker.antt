@@ -1,2 +1,1 @@
-pub mod RowTexts
 pub mod CauseGroups

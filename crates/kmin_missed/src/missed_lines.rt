@@ -8,55 +8,40 @@ ghost use Rattle.kc_tree_model.specs.Trees.{Symbol as ModelSymbol};
 ghost use Rattle.kc_dotconfig_model.specs.MissedAssignments.{missed};
 ghost use Rattle.kc_config.specs.ConfigStates.{tree_in};
 ghost use Rattle.kc_reasons_model.specs.OverriddenLines.{places_of, overridden};
-ghost use Rattle.kc_config_reasons.specs.between.FileLines.{line_view};
-ghost use Rattle.kc_config_reasons.specs.between.Places.{place_view};
+ghost use Rattle.kc_config_reasons.specs.between.Places.{place_view, overridden_view};
 ghost use Rattle.kmin_missed.specs.MissedLines.{asking_front, overridden_row, missed_row, missed_rows, missed_rows_at, missed_lines};
 ghost use Rattle.kmin_explain.specs.between.Sources.{config_of, AreReadSources, AreSourcesOf, sources_model};
-ghost use Rattle.kmin_explain.specs.checker.FileLineTexts.{line_in};
-ghost use Rattle.kmin_missed.specs.checker.RowTexts.{overridden_row_text};
 
 use crate::causes::push_cause;
-use kc_config_reasons::{AskingLine, Overridden, deciding_line, overridden_files, valuation};
+use kc_config_reasons::{AskingPlace, Overridden, deciding_line, overridden_lines, valuation};
 use kc_explanation::{push_asked_value, push_line_place, push_name};
 use kc_tree::Sym;
-use kmin_explain::{AskedSymbol, Sources, SymbolsOnce, line_in, path_at};
+use kmin_explain::{AskedSymbol, Sources, SymbolsOnce, path_at};
 use std::alloc::{AllocError, Global};
 
-/// Appends `PATH:LINE: NAME: ASKED -> `, of a line of the configuration file with a number.
+/// Appends `PATH:LINE: NAME: ASKED -> `, of a line of a configuration file.
 fn push_asking_front(
     out: &mut Vec<u8>,
     by: &Sources<'_>,
     symbol: &AskedSymbol,
-    file: usize,
-    line: &AskingLine,
+    place: AskingPlace<'_>,
 ) -> Result<(), AllocError>
-    ensures { (read : List Group) (meanings : List (List LineMeaning)) → OnOk result (out.new.items ≡ out.old.items ++ asking_front (sources_model by.now read meanings) symbol.now.s symbol.now.kind (record { file = file; line = line_view line.now })) }
+    ensures { (read : List Group) (meanings : List (List LineMeaning)) → OnOk result (out.new.items ≡ out.old.items ++ asking_front (sources_model by.now read meanings) symbol.now.s symbol.now.kind (place_view place.entry)) }
 {
     let under = &valuation(by.config);
-    push_line_place(out, path_at(by.file_paths, file), line.number)?;
+    push_line_place(out, path_at(by.file_paths, place.file), place.line.number)?;
     out.extend_from_slice(b": ")?;
     push_name(out, under, symbol.s)?;
     out.extend_from_slice(b": ")?;
-    push_asked_value(out, under, by.strings, symbol.s, symbol.kind, &line.user)?;
+    push_asked_value(
+        out,
+        under,
+        by.strings,
+        symbol.s,
+        symbol.kind,
+        &place.line.user,
+    )?;
     out.extend_from_slice(b" -> ")?;
-    Ok(())
-}
-
-/// Appends the row of a line, and of one of a later file that overrides it.
-fn push_both_rows(
-    out: &mut Vec<u8>,
-    by: &Sources<'_>,
-    symbol: &AskedSymbol,
-    found: Overridden,
-    line: &AskingLine,
-    other: &AskingLine,
-) -> Result<(), AllocError>
-    ensures { (read : List Group) (meanings : List (List LineMeaning)) → OnOk result (out.new.items ≡ out.old.items ++ overridden_row_text (sources_model by.now read meanings) symbol.now.s symbol.now.kind found (Some line.now) (Some other.now)) }
-{
-    push_asking_front(out, by, symbol, found.file, line)?;
-    out.extend_from_slice(b"overridden by ")?;
-    push_line_place(out, path_at(by.file_paths, found.by), other.number)?;
-    out.extend_from_slice(b"\n")?;
     Ok(())
 }
 
@@ -65,17 +50,16 @@ fn push_overridden_row(
     out: &mut Vec<u8>,
     by: &Sources<'_>,
     symbol: &AskedSymbol,
-    found: Overridden,
+    found: &Overridden<'_>,
 ) -> Result<(), AllocError>
-    ensures { (read : List Group) (meanings : List (List LineMeaning)) → OnOk result (out.new.items ≡ out.old.items ++ overridden_row_text (sources_model by.now read meanings) symbol.now.s symbol.now.kind found (line_in by.now.files.now symbol.now.unit symbol.now.s found.file) (line_in by.now.files.now symbol.now.unit symbol.now.s found.by)) }
+    ensures { (read : List Group) (meanings : List (List LineMeaning)) → OnOk result (out.new.items ≡ out.old.items ++ overridden_row (sources_model by.now read meanings) symbol.now.s symbol.now.kind (overridden_view found.now)) }
 {
-    let line = line_in(by.files, symbol, found.file);
-    let other = line_in(by.files, symbol, found.by);
-    match (line, other) {
-        (Some(line), Some(other)) => push_both_rows(out, by, symbol, found, line, other),
-        (Some(_), None) => out.extend_from_slice(b""),
-        (None, _) => out.extend_from_slice(b""),
-    }
+    push_asking_front(out, by, symbol, found.place)?;
+    out.extend_from_slice(b"overridden by ")?;
+    let other = found.by;
+    push_line_place(out, path_at(by.file_paths, other.file), other.line.number)?;
+    out.extend_from_slice(b"\n")?;
+    Ok(())
 }
 
 /// Appends the row of each line that a later file overrides.
@@ -83,12 +67,12 @@ fn push_overridden_rows(
     out: &mut Vec<u8>,
     by: &Sources<'_>,
     symbol: &AskedSymbol,
-    found: &[Overridden],
+    found: &[Overridden<'_>],
 ) -> Result<(), AllocError>
-    ensures { (read : List Group) (meanings : List (List LineMeaning)) → OnOk result (out.new.items ≡ out.old.items ++ flat_map (λ n. overridden_row_text (sources_model by.now read meanings) symbol.now.s symbol.now.kind n (line_in by.now.files.now symbol.now.unit symbol.now.s n.file) (line_in by.now.files.now symbol.now.unit symbol.now.s n.by)) found.now) }
+    ensures { (read : List Group) (meanings : List (List LineMeaning)) → OnOk result (out.new.items ≡ out.old.items ++ flat_map (λ o. overridden_row (sources_model by.now read meanings) symbol.now.s symbol.now.kind (overridden_view o)) found.now) }
 {
     for one in found {
-        push_overridden_row(out, by, symbol, *one)?;
+        push_overridden_row(out, by, symbol, one)?;
     }
     Ok(())
 }
@@ -103,24 +87,23 @@ fn push_all_overridden(
     requires unit { symbol.now.unit ≡ unit_of (tree_in (config_of by.now)) symbol.now.s }
     ensures { (read : List Group) (meanings : List (List LineMeaning)) → AreSourcesOf by.now read meanings → OnOk result (out.new.items ≡ out.old.items ++ flat_map (overridden_row (sources_model by.now read meanings) symbol.now.s symbol.now.kind) (overridden (places_of (unit_of (tree_in (config_of by.now)) symbol.now.s) symbol.now.s 0 meanings))) }
 {
-    let found = overridden_files(alloc, by.files, symbol.unit, symbol.s)?;
+    let found = overridden_lines(alloc, by.files, symbol.unit, symbol.s)?;
     push_overridden_rows(out, by, symbol, &found)
 }
 
-/// Appends the row of the line that counts, which is of the file with this number.
+/// Appends the row of the line that counts.
 fn push_deciding_row(
     alloc: Global,
     out: &mut Vec<u8>,
     by: &Sources<'_>,
     symbol: &AskedSymbol,
-    file: usize,
-    line: &AskingLine,
+    place: AskingPlace<'_>,
 ) -> Result<(), AllocError>
     requires read { AreReadSources by.now }
     requires there { symbol.now.s < length (tree_in (config_of by.now)).symbols }
-    ensures { (read : List Group) (meanings : List (List LineMeaning)) → AreSourcesOf by.now read meanings → OnOk result (out.new.items ≡ out.old.items ++ missed_row (sources_model by.now read meanings) symbol.now.s symbol.now.kind (Some (record { file = file; line = line_view line.now }))) }
+    ensures { (read : List Group) (meanings : List (List LineMeaning)) → AreSourcesOf by.now read meanings → OnOk result (out.new.items ≡ out.old.items ++ missed_row (sources_model by.now read meanings) symbol.now.s symbol.now.kind (Some (place_view place.entry))) }
 {
-    push_asking_front(out, by, symbol, file, line)?;
+    push_asking_front(out, by, symbol, place)?;
     push_cause(alloc, out, by, symbol.s)?;
     out.extend_from_slice(b"\n")?;
     Ok(())
@@ -132,7 +115,7 @@ fn push_missed_row(
     out: &mut Vec<u8>,
     by: &Sources<'_>,
     symbol: &AskedSymbol,
-    place: Option<(usize, &AskingLine)>,
+    place: Option<AskingPlace<'_>>,
 ) -> Result<(), AllocError>
     requires read { AreReadSources by.now }
     requires there { symbol.now.s < length (tree_in (config_of by.now)).symbols }
@@ -140,7 +123,7 @@ fn push_missed_row(
 {
     match place {
         None => out.extend_from_slice(b""),
-        Some((file, line)) => push_deciding_row(alloc, out, by, symbol, file, line),
+        Some(place) => push_deciding_row(alloc, out, by, symbol, place),
     }
 }
 

@@ -2,8 +2,8 @@
 use Rattle.std.proofs.Common.{Vec}
 use Rattle.std.specs.declared.alloc.AllocError.{AllocError}
 use Rattle.std.specs.declared.alloc.Global.{Global}
-use Rattle.kmin_outputs.proofs.Common.{◌≡◌, ◌≢◌, ℕ, Bool, true, false, suc, ◌≤◌, ◌⊎◌, inl, inr, append-nil, List, [], ◌∷◌, ◌++◌, Option, Result, Ok, Err, IfOk, IfErr, refl, sym, ap, ◌∙◌, subst, map, arith, flat_map, Tree, tree_of_settled, FileFormat, empty_assignment, UnitValue, IsSolved, tree_in}
-use Rattle.kmin_outputs.proofs.Common.{differences, FileContent, UserValue, RunError, ErrorLine, notice_lines, choice_notice_lines, ChoiceLine, choice_lines_from, AllowsNotices, SpelledBytes, TakesLines, FilesMean, difference_line, StopsAmongFiles, AreLoaded, AreRead, lists_of, StopsNoticing}
+use Rattle.kmin_outputs.proofs.Common.{◌≡◌, ℕ, Bool, true, false, suc, ◌≤◌, inl, inr, append-nil, List, [], ◌∷◌, ◌++◌, Option, Result, Ok, Err, IfOk, IfErr, refl, sym, ap, ◌∙◌, subst, map, arith, flat_map, Tree, tree_of_settled, FileFormat, empty_assignment, UnitValue, IsSolved, tree_in}
+use Rattle.kmin_outputs.proofs.Common.{differences, FileContent, UserValue, RunError, ErrorLine, notice_lines, choice_notice_lines, ChoiceLine, choice_lines_from, AllowsNotices, SpelledBytes, TakesLines, FilesMean, difference_line, AreLoaded, AreRead, lists_of, StopsNoticing}
 use Rattle.kmin_outputs.proofs.Common.{StopsProducingOutput, at_the_choices, producing_output, StopsComparing, at_left, at_right, comparing_output, ReadFiles, if_ok_map, status_of, lines_append}
 use Rattle.kc_tree_model.specs.TreeFiles.{Files}
 use Rattle.kc_rules_model.specs.Reports.{unmet}
@@ -20,14 +20,13 @@ use Rattle.kc_minimal_model.specs.CanonicalText.{IsCanonicalText}
 use Rattle.kmin_outputs.specs.declared.verb_texts.JobOutput.{JobOutput}
 use Rattle.kmin_inputs.specs.FileContents.{Surroundings}
 use Rattle.kmin_expansions.specs.JobTexts.{TreeTexts, AreTextsOfJob}
-use Rattle.kmin_report.specs.Reports.{last_lines, output_line}
 use Rattle.kc_dotconfig_model.specs.OtherChoices.{placed_from, other_choices_of, other_choices}
 use Rattle.kmin_outputs.specs.Strictness.{RefusesNotices}
 use Rattle.kmin_trees.specs.AcceptedTrees.{AreAccepted}
 use Rattle.kmin_outputs.proofs.Sequences.{mean_append, notices_append}
 use Rattle.kmin_outputs.specs.Outputs.{Resolve, HasOutput, of_files, of_comparison, IsTextOfVerb}
 use Rattle.kmin_outputs.specs.Statuses.{status_of_list, status_of_verb}
-use Rattle.kmin_outputs.specs.Stops.{Stops, StopsAtChoices, StopsBefore, among_files, at_choices, NoticesOnChoices}
+use Rattle.kmin_outputs.specs.Stops.{StopsBefore, among_files, at_choices, NoticesOnChoices}
 use Rattle.kmin_outputs.specs.Stops as stops
 use Rattle.kmin_outputs.specs.between.LoadStops.{StopsOverTree}
 use Rattle.kmin_outputs.specs.between.Comparisons.{AreBothRead, AreNoticed, AreBothNoticed}

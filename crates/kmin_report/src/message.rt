@@ -2,9 +2,8 @@
 ghost use Rattle.std.specs.Prelude.{◌≡◌, ◌++◌, ℕ, List, codes, slice_get, length, ◌<◌, OnOk, OnErr};
 ghost use Rattle.std.specs.List.{flat_map};
 ghost use Rattle.std.specs.Borrow.{Bor};
-ghost use Rattle.kc_macros.specs.Runs.{fault_of, notice_of};
 ghost use Rattle.kmin_report.specs.PlainLines.{message_line, place_line, plain_line};
-ghost use Rattle.kmin_report.specs.Reports.{first_member_name, macro_fault_line, macro_notice_line, unit_text, units_text};
+ghost use Rattle.kmin_report.specs.Reports.{first_member_name, unit_text, units_text};
 ghost use Rattle.kmin_report.specs.StandardError.{TakesWhole, TakesPart};
 ghost use Rattle.kmin_report.specs.between.ReportLines.{report_line};
 
@@ -110,8 +109,14 @@ pub fn write_plain_line<W: Sink>(report: &Message<'_>, sink: &mut W) -> Result<(
         Message::AnswersFault { path, line, kind } => {
             write_place(path.as_bytes(), *line, kind.name(), sink)
         }
-        Message::MacroNotice(notice) => write_macro_notice(notice, sink),
-        Message::MacroFault { fault, .. } => write_macro_fault(fault, sink),
+        Message::MacroNotice(notice) => {
+            let (file, text) = (notice.file.as_slice(), notice.text.as_slice());
+            write_message(file, notice.line, notice.kind.name(), text, sink)
+        }
+        Message::MacroFault { fault, .. } => {
+            let (file, text) = (fault.file.as_slice(), fault.text.as_slice());
+            write_message(file, fault.line, fault.kind.name(), text, sink)
+        }
         Message::OutputFault => write_pieces(&[b"output: Write\n"], sink),
         Message::NotRegular(path) => write_place(path.as_bytes(), 0, "NotRegular", sink),
         Message::Unwritten(path) => write_pieces(&[path.as_bytes(), b": Write\n"], sink),
@@ -163,26 +168,6 @@ fn write_message<'a, W: Sink>(
         ],
         sink,
     )
-}
-
-/// Writes the line of a notice of macros.
-fn write_macro_notice<W: Sink>(notice: &MacroNotice, sink: &mut W) -> Result<(), WriteFault>
-    ensures whole { OnOk result (TakesWhole (W.taken sink.old) (W.failures sink.old) (plain_line (macro_notice_line (notice_of notice.now))) (W.taken sink.new) (W.failures sink.new)) }
-    ensures part { OnErr result (TakesPart (W.taken sink.old) (W.failures sink.old) (plain_line (macro_notice_line (notice_of notice.now))) (W.taken sink.new) (W.failures sink.new)) }
-{
-    let path = notice.file.as_slice();
-    let kind = notice.kind.name();
-    write_message(path, notice.line, kind, notice.text.as_slice(), sink)
-}
-
-/// Writes the line of a fault of macros.
-fn write_macro_fault<W: Sink>(fault: &MacroFault, sink: &mut W) -> Result<(), WriteFault>
-    ensures whole { OnOk result (TakesWhole (W.taken sink.old) (W.failures sink.old) (plain_line (macro_fault_line (fault_of fault.now))) (W.taken sink.new) (W.failures sink.new)) }
-    ensures part { OnErr result (TakesPart (W.taken sink.old) (W.failures sink.old) (plain_line (macro_fault_line (fault_of fault.now))) (W.taken sink.new) (W.failures sink.new)) }
-{
-    let path = fault.file.as_slice();
-    let kind = fault.kind.name();
-    write_message(path, fault.line, kind, fault.text.as_slice(), sink)
 }
 
 /// Writes `FILE:LINE: Cycle A B`.

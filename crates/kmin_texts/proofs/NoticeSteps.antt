@@ -1,7 +1,6 @@
 -- The details of notices, by their lines.
-use Rattle.std.proofs.Common.{◌⊎◌}
 use Rattle.std.specs.Prelude.{IfSome, IfNone, option_map}
-use Rattle.kmin_texts.proofs.Common.{◌≡◌, inl, inr, ℕ, Bool, true, false, ◌&&◌, List, [], ◌∷◌, Option, Some, None, refl, sym, ap, subst, ◌∙◌, Bor, Detail, IsLineOf, KnownFile, is_one_of, never, no_detail, of_line, utf8_line, MayBe, nearest_detail}
+use Rattle.kmin_texts.proofs.Common.{◌≡◌, inl, inr, ℕ, Bool, true, false, ◌&&◌, List, [], ◌∷◌, Option, Some, None, refl, sym, ap, subst, ◌∙◌, Bor, Detail, IsLineOf, KnownFile, is_one_of, never, of_line, utf8_line, MayBe, nearest_detail}
 use Rattle.std.proofs.lemmas.Bool.{false≢true}
 use Rattle.kc_tree_model.specs.LogicalLines.{without_white_end}
 use Rattle.kc_dotconfig_model.specs.between.LineMeanings.{value_parts}

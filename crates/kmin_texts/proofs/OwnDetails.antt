@@ -1,6 +1,5 @@
 -- Details that are those of lines.
 use Rattle.kmin_texts.proofs.Common.{◌≡◌, inl, inr, ℕ, Bool, true, false, ◌||◌, ◌&&◌, cond, List, [], ◌∷◌, Option, Some, None, Ok, Err, refl, sym, ap, subst, ◌∙◌, Detail, IsLineOf, KnownFile, is_given, is_one_of, no_detail, line_at, Unreadable, FailedRead, MayBe, IsDetailOf}
-use Rattle.std.specs.Prelude.{bytes_eq}
 use Rattle.std.proofs.Math.Bool.{or-true}
 use Rattle.std.proofs.lemmas.Slice.Eq.{bytes_eq-Decides}
 use Rattle.kmin_messages.specs.ShownTexts.{shown}

@@ -1,7 +1,7 @@
 -- The names of a tree's files, one after the other.
 use Rattle.std.proofs.Common.{zero}
 use Rattle.std.specs.Prelude.{slice_get}
-use Rattle.kmin_trees.proofs.Common.{◌≡◌, ℕ, suc, ◌+◌, ◌<◌, List, [], ◌∷◌, ◌++◌, length, map, take, Option, Some, None, refl, sym, ap, ◌∙◌, arith, option_map, unwrap_or, Files, name_text, names_by_number}
+use Rattle.kmin_trees.proofs.Common.{◌≡◌, ℕ, suc, ◌+◌, ◌<◌, List, [], ◌∷◌, ◌++◌, length, map, take, Option, Some, None, refl, sym, ap, ◌∙◌, arith, option_map, unwrap_or, Files, name_text}
 use Rattle.kmin_trees.specs.between.FileNames.{text_at}
 
 -- the name of a file

@@ -249,7 +249,7 @@ fn insert_one<F: Files>(
         return Ok(false);
     };
     budget.take(bytes.len());
-    texts.insert(path, &bytes)?;
+    texts.insert_whole(path, bytes)?;
     Ok(true)
 }
 

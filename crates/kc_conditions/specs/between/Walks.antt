@@ -7,7 +7,7 @@ use Rattle.kc_expr.specs.between.Arena.{Exprs, Represents, node_expr, Grows}
 use Rattle.kc_expr.specs.Expr.{Expr, alone, constant}
 use Rattle.kc_tree_model.specs.Trees as tree
 use Rattle.kc_tree_model.specs.Statements.{Attribute, prompt_of, visible_of}
-use Rattle.kc_tree_model.specs.declared.statement.Attribute.TheVariants.{TypedPrompt as typed_prompt, TypedDefault as typed_default, Prompt as prompt, Default as default, Select as select, Imply as imply, Range as range}
+use Rattle.kc_tree_model.specs.between.Attributes.{if_given}
 use Rattle.kc_tree_model.specs.Blocks.{Group, Line, closing, side_of, open_blocks}
 use Rattle.kc_tree_model.specs.Conditions.{conjunction_of, visible_conjunct, attribute_values, dependencies_of, dependency_of, context, context_of, GroupInContext, group_in_context}
 use Rattle.kc_tree_model.specs.Contents.{menu_end_of}
@@ -16,22 +16,11 @@ use Rattle.kc_conditions.specs.declared.conditions.EnclosingConditions.{Enclosin
 use Rattle.kc_conditions.specs.declared.group_walk.GroupConditions.{GroupConditions}
 use Rattle.kc_conditions.specs.declared.group_walk.GroupWalk.{GroupWalk}
 
--- the expression after an attribute's `if`; `None` for an attribute without an `if`
-abbrev pub if_of_attribute : Attribute → Option Expr
-if_of_attribute (typed_prompt k c) = c
-if_of_attribute (typed_default k d) = d.condition
-if_of_attribute (prompt c) = c
-if_of_attribute (default d) = d.condition
-if_of_attribute (select s) = s.condition
-if_of_attribute (imply s) = s.condition
-if_of_attribute (range r) = r.condition
-if_of_attribute a = None
-
 -- an attribute's joined condition: its entry's dependencies, for a prompt the enclosing `visible if`s, and its own `if`
 abbrev pub condition_among : List Expr → List Expr → Attribute → Expr
 condition_among dependencies visibles a =
-    if is_some (prompt_of a) then conjunction_of (dependencies ++ (visible_conjunct visibles ++ option_to_list (if_of_attribute a)))
-    else conjunction_of (dependencies ++ option_to_list (if_of_attribute a))
+    if is_some (prompt_of a) then conjunction_of (dependencies ++ (visible_conjunct visibles ++ option_to_list (if_given a)))
+    else conjunction_of (dependencies ++ option_to_list (if_given a))
 
 -- the joined condition of an attribute line of a group in its context
 abbrev pub condition_at : Language → GroupInContext → Line → Expr

@@ -1,9 +1,12 @@
 -- Places of lines are gone over one after another.
 use Rattle.std.specs.Prelude.{ℕ, ◌+◌, List, [], ◌∷◌, ◌++◌, Option, None, option_map, option_to_list, find}
+use Rattle.std.specs.Borrow.{Bor}
 use Rattle.std.specs.Option.{option_or}
 use Rattle.kc_reasons_model.specs.AssigningLines.{AssigningPlace, place_giving}
 use Rattle.kc_reasons_model.specs.OverriddenLines.{asks_otherwise}
 use Rattle.kc_config_reasons.specs.declared.file_lines.FileLines.{FileLines}
+use Rattle.kc_config_reasons.specs.declared.file_lines.AskingLine.{AskingLine}
+use Rattle.kc_config_reasons.specs.declared.places.AskingPlace.{AskingPlace}
 use Rattle.kc_config_reasons.specs.declared.places.Overridden.{Overridden}
 use Rattle.kc_config_reasons.specs.between.FileLines.{line_view, line_kept}
 
@@ -21,11 +24,15 @@ abbrev pub places_kept : (u s first : ℕ) → List FileLines → List Assigning
 places_kept u s f [] = []
 places_kept u s f (file ∷ files) = option_to_list (place_in u s f file) ++ places_kept u s (f + 1) files
 
--- of places the first after the first one whose line asks for another value than the first one's: the number of its file
-abbrev pub file_asking_otherwise : List AssigningPlace → Option ℕ
-file_asking_otherwise [] = None
-file_asking_otherwise (p ∷ later) = option_map (λ (q : AssigningPlace). q.file) (find (asks_otherwise p.line.user) later)
+-- of places the first after the first one whose line asks for another value than the first one's
+abbrev pub place_asking_otherwise : List AssigningPlace → Option AssigningPlace
+place_asking_otherwise [] = None
+place_asking_otherwise (p ∷ later) = find (asks_otherwise p.line.user) later
 
--- a file and the one that overrides it, if one does
-abbrev pub overridden_by : ℕ → Option ℕ → Option Overridden
-overridden_by file by = option_map (λ b. record { file = file; by = b }) by
+-- a line of a file
+abbrev pub place_at : ℕ → Bor AskingLine → AskingPlace
+place_at file line = record { file = file; line = line }
+
+-- a line and the one that overrides it
+abbrev pub overridden_at : AskingPlace → AskingPlace → Overridden
+overridden_at place by = record { place = place; by = by }

@@ -1,11 +1,15 @@
 -- The expressions that nodes represent.
 use Rattle.std.specs.Prelude.{ℕ, ◌<◌, List, [], ◌∷◌, ◌++◌, length, slice_index_or}
+use Rattle.kc_value.specs.Tri.{tri_and, tri_or}
+use Rattle.kc_value.specs.declared.tri.Tri.{Tri}
 use Rattle.kc_value.specs.declared.tri.Tri.TheVariants.{N}
 use Rattle.kc_expr.specs.Expr.{Expr, Operand, alone, related, negated, both, either, shown, constant, named, quoted}
 use Rattle.kc_expr.specs.declared.node.Leaf.{Leaf}
 use Rattle.kc_expr.specs.declared.node.Leaf.TheVariants.{Constant, Name, Quoted}
 use Rattle.kc_expr.specs.declared.node.Node.{Node}
-use Rattle.kc_expr.specs.declared.node.Node.TheVariants.{Alone, Related, Negated, Both, Either, Shown}
+use Rattle.kc_expr.specs.declared.node.Node.TheVariants.{Alone, Related, Negated, Joined, Shown}
+use Rattle.kc_expr.specs.declared.node.Connective.{Connective}
+use Rattle.kc_expr.specs.declared.node.Connective.TheVariants.{And, Or}
 
 -- the operand that a node's leaf represents, by the names and then the quoted texts; one whose number is past them is empty
 abbrev pub operand_of : List (List ℕ) → List (List ℕ) → Leaf → Operand
@@ -17,13 +21,22 @@ operand_of names texts (Quoted i) = quoted (slice_index_or texts i [])
 abbrev pub at : List Expr → ℕ → Expr
 at es i = slice_index_or es i (alone (constant N))
 
+-- the expression that two others make, joined by `&&` or `||`
+abbrev pub joined : Connective → Expr → Expr → Expr
+joined And = both
+joined Or = either
+
+-- the value of `&&` or `||` of two values
+abbrev pub joined_value : Connective → Tri → Tri → Tri
+joined_value And = tri_and
+joined_value Or = tri_or
+
 -- the expression that a node represents, by the expressions of the nodes before it
 abbrev pub expr_of : List (List ℕ) → List (List ℕ) → List Expr → Node → Expr
 expr_of names texts es (Alone a) = alone (operand_of names texts a)
 expr_of names texts es (Related op a b) = related op (operand_of names texts a) (operand_of names texts b)
 expr_of names texts es (Negated i) = negated (at es i)
-expr_of names texts es (Both i j) = both (at es i) (at es j)
-expr_of names texts es (Either i j) = either (at es i) (at es j)
+expr_of names texts es (Joined c i j) = joined c (at es i) (at es j)
 expr_of names texts es (Shown i) = shown (at es i)
 
 -- the expressions of some nodes and then of the nodes after them
@@ -46,8 +59,7 @@ abbrev pub NodeFits : ℕ → ℕ → ℕ → Node → Type 0
 NodeFits names texts k (Alone a) = LeafFits names texts a
 NodeFits names texts k (Related op a b) = LeafFits names texts a × LeafFits names texts b
 NodeFits names texts k (Negated i) = i < k
-NodeFits names texts k (Both i j) = (i < k) × (j < k)
-NodeFits names texts k (Either i j) = (i < k) × (j < k)
+NodeFits names texts k (Joined c i j) = (i < k) × (j < k)
 NodeFits names texts k (Shown i) = i < k
 
 -- the node, a constant `n`, in place of one past the end of a list

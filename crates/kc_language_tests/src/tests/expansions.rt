@@ -181,7 +181,7 @@ fn is_file(tree: &ExpandedTree, at: usize, parts: &(&str, &str, &str)) -> bool {
         Some(file) => {
             file.key == parts.0.as_bytes()
                 && file.path == parts.1.as_bytes()
-                && file.text == parts.2.as_bytes()
+                && file.text.as_slice() == parts.2.as_bytes()
         }
         None => false,
     }

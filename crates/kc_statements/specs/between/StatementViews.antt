@@ -17,7 +17,8 @@ use Rattle.kc_tree_model.specs.declared.statement.Attribute.{Attribute as Attrib
 use Rattle.kc_tree_model.specs.declared.statement.Attribute.TheVariants as attributes
 use Rattle.kc_tree_model.specs.declared.statement.Statement.{Statement as StatementOf}
 use Rattle.kc_tree_model.specs.declared.statement.Statement.TheVariants as statements
-use Rattle.kc_tree_model.specs.Statements.{Head, DefaultAttribute, TargetAttribute, RangeAttribute, Attribute, Statement}
+use Rattle.kc_tree_model.specs.Statements.{Head, Attribute, Statement}
+use Rattle.kc_tree_model.specs.between.Attributes.{DefaultAttribute, TargetAttribute, RangeAttribute}
 
 -- a statement other than an attribute that the code has read: its condition is the number of a node of the arena
 abbrev pub ReadHead : Type 0

@@ -1,5 +1,9 @@
--- What an attribute gives to the crates that gather attributes.
-use Rattle.std.specs.Prelude.{Bool, Option, Some, None, is_some}
+-- What an attribute gives to the crates that gather attributes, and names for the types of a tree's own attributes.
+use Rattle.std.specs.Prelude.{ℕ, Bool, List, Option, Some, None, is_some}
+use Rattle.kc_expr.specs.Expr.{Expr, Operand}
+use Rattle.kc_tree_model.specs.declared.statement.DefaultAttribute.{DefaultAttribute as DefaultOf}
+use Rattle.kc_tree_model.specs.declared.statement.TargetAttribute.{TargetAttribute as TargetOf}
+use Rattle.kc_tree_model.specs.declared.statement.RangeAttribute.{RangeAttribute as RangeOf}
 use Rattle.kc_tree_model.specs.declared.statement.Attribute.{Attribute as AttributeOf}
 use Rattle.kc_tree_model.specs.declared.statement.Attribute.TheVariants.{TypedPrompt, TypedDefault, Prompt, Default, Depends, Select, Imply, Range, Visible}
 use Rattle.kc_tree_model.specs.Statements.{prompt_of, range_of}
@@ -7,6 +11,18 @@ use Rattle.kc_tree_model.specs.declared.statement.Conjuncts.{Conjuncts}
 use Rattle.kc_tree_model.specs.declared.statement.Conjuncts.TheVariants.{Dependencies, Visibles}
 use Rattle.kc_tree_model.specs.declared.statement.ReverseKind.{ReverseKind}
 use Rattle.kc_tree_model.specs.declared.statement.ReverseKind.TheVariants as kinds
+
+-- a `default`, or an `option env`
+abbrev pub DefaultAttribute : Type 0
+DefaultAttribute = DefaultOf Expr
+
+-- a `select` or an `imply`
+abbrev pub TargetAttribute : Type 0
+TargetAttribute = TargetOf Expr (List ℕ)
+
+-- a `range`
+abbrev pub RangeAttribute : Type 0
+RangeAttribute = RangeOf Expr Operand
 
 -- whether an attribute is a prompt, with or without a type
 abbrev pub is_prompt : {E O N : Type 0} → AttributeOf E O N → Bool

@@ -1,4 +1,5 @@
 use Rattle.kc_expr.proofs.Common.{◌≡◌, ap, sym, ◌∙◌, ℕ, node_expr, alone, related, negated, both, either, shown, exprs_in}
+use Rattle.kc_expr.specs.checker.Nodes.{joined}
 use Rattle.kc_expr.proofs.StoreLemmas.{node_of}
 use Rattle.kc_expr.proofs.expr_parts.parts_of.Goals as goal
 
@@ -20,15 +21,19 @@ returns-in-Negated-clause-expr c =
     node_of c.args.store.now c.args.index _ _ c.requires.sound c.requires.there c.node.ensures.value c.in-Negated.is
     ∙ ap (λ (i : ℕ). negated (node_expr (exprs_in c.args.store.now) i)) (sym c.at.ensures)
 
-pub returns-in-Both-clause-expr : goal.returns-in-Both-clause-expr
-returns-in-Both-clause-expr c =
-    node_of c.args.store.now c.args.index _ _ c.requires.sound c.requires.there c.node.ensures.value c.in-Both.is
-    ∙ same_sides (λ i j. both (node_expr (exprs_in c.args.store.now) i) (node_expr (exprs_in c.args.store.now) j)) _ _ _ _ c.at-in-Both.ensures c.at-in-Both-2.ensures
+pub returns-in-Joined-And-default-default-clause-expr : goal.returns-in-Joined-And-default-default-clause-expr
+returns-in-Joined-And-default-default-clause-expr c =
+    let expr = node_expr (exprs_in c.args.store.now) in
+    node_of c.args.store.now c.args.index _ _ c.requires.sound c.requires.there c.node.ensures.value c.in-Joined-And-default-default.is
+    ∙ ap (λ k. joined k (expr c.in-Joined-And-default-default.left) (expr c.in-Joined-And-default-default.right)) c.in-Joined-And-default-default.field-0-is
+    ∙ same_sides (λ i j. both (expr i) (expr j)) _ _ _ _ c.at-in-Joined-And-default-default.ensures c.at-in-Joined-And-default-default-2.ensures
 
-pub returns-in-Either-clause-expr : goal.returns-in-Either-clause-expr
-returns-in-Either-clause-expr c =
-    node_of c.args.store.now c.args.index _ _ c.requires.sound c.requires.there c.node.ensures.value c.in-Either.is
-    ∙ same_sides (λ i j. either (node_expr (exprs_in c.args.store.now) i) (node_expr (exprs_in c.args.store.now) j)) _ _ _ _ c.at-in-Either.ensures c.at-in-Either-2.ensures
+pub returns-in-Joined-Or-default-default-clause-expr : goal.returns-in-Joined-Or-default-default-clause-expr
+returns-in-Joined-Or-default-default-clause-expr c =
+    let expr = node_expr (exprs_in c.args.store.now) in
+    node_of c.args.store.now c.args.index _ _ c.requires.sound c.requires.there c.node.ensures.value c.in-Joined-Or-default-default.is
+    ∙ ap (λ k. joined k (expr c.in-Joined-Or-default-default.left) (expr c.in-Joined-Or-default-default.right)) c.in-Joined-Or-default-default.field-0-is
+    ∙ same_sides (λ i j. either (expr i) (expr j)) _ _ _ _ c.at-in-Joined-Or-default-default.ensures c.at-in-Joined-Or-default-default-2.ensures
 
 pub returns-in-Shown-clause-expr : goal.returns-in-Shown-clause-expr
 returns-in-Shown-clause-expr c =

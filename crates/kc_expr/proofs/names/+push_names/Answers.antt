@@ -1,5 +1,5 @@
-use Rattle.kc_expr.proofs.Common.{◌++◌, [], map, ap, sym, ◌∙◌, append_assoc, arith, common_steps, on_ok_weaker, slice_index_or, operand_names, operand_of, stored_names, names_in_reverse, kept_through}
-use Rattle.kc_expr.proofs.ExpressionNameLemmas.{names_of_both}
+use Rattle.kc_expr.proofs.Common.{exprs_in, node_expr, ◌++◌, [], map, ap, sym, ◌∙◌, append_assoc, arith, common_steps, on_ok_weaker, slice_index_or, operand_names, operand_of, stored_names, names_in_reverse, kept_through}
+use Rattle.kc_expr.proofs.ExpressionNameLemmas.{reverse_joined, names_of_both}
 use Rattle.kc_expr.proofs.StoreLemmas.{node_of, fits_at}
 use Rattle.kc_expr.proofs.names.+push_names.Goals as goal
 
@@ -49,29 +49,17 @@ down-preserved-in-Shown t c =
       kept = c.down.invariant.kept;
     }
 
-pub down-preserved-in-Both : goal.down-preserved-in-Both
-down-preserved-in-Both t c =
-    let e = ap names_in_reverse (node_of c.args.store.now c.down.at _ _ c.requires.sound (omega arith) c.node.ensures.value c.in-Both.is) in
-    let f = fits_at c.args.store.now c.down.at _ _ c.requires.sound (omega arith) c.node.ensures.value c.in-Both.is in
-    record {
-      below = omega (arith, f);
-      words = names_of_both (map (λ i. slice_index_or (stored_names c.args.store.now) i []) c.down.found.items) _ _ _ _ c.in_ok-push_names-in-Both.ensures.words
-          (ap (λ ws. map (λ i. slice_index_or (stored_names c.args.store.now) i []) c.down.found.items ++ ws) (sym e) ∙ c.down.invariant.words);
-      held = λ all. c.in_ok-push_names-in-Both.ensures.held (c.down.invariant.held all);
-      kept = kept_through c.args.found.now.items c.down.found.items _ c.down.invariant.kept c.in_ok-push_names-in-Both.ensures.kept;
-    }
-
 pub down-preserved : goal.down-preserved
 down-preserved t c =
-    let e = ap names_in_reverse (node_of c.args.store.now c.down.at _ _ c.requires.sound (omega arith) c.node.ensures.value c.in-Either.is) in
-    let f = fits_at c.args.store.now c.down.at _ _ c.requires.sound (omega arith) c.node.ensures.value c.in-Either.is in
+    let e = ap names_in_reverse (node_of c.args.store.now c.down.at _ _ c.requires.sound (omega arith) c.node.ensures.value c.in-Joined.is) ∙ reverse_joined c.in-Joined.field-0 (node_expr (exprs_in c.args.store.now) c.in-Joined.left) (node_expr (exprs_in c.args.store.now) c.in-Joined.right) in
+    let f = fits_at c.args.store.now c.down.at _ _ c.requires.sound (omega arith) c.node.ensures.value c.in-Joined.is in
     record {
       below = omega (arith, f);
       words = names_of_both (map (λ i. slice_index_or (stored_names c.args.store.now) i []) c.down.found.items) _ _ _ _
-          c.in_ok-push_names-in-Either.ensures.words
+          c.in_ok-push_names-in-Joined.ensures.words
           (ap (λ ws. map (λ i. slice_index_or (stored_names c.args.store.now) i []) c.down.found.items ++ ws) (sym e) ∙ c.down.invariant.words);
-      held = λ all. c.in_ok-push_names-in-Either.ensures.held (c.down.invariant.held all);
-      kept = kept_through c.args.found.now.items c.down.found.items _ c.down.invariant.kept c.in_ok-push_names-in-Either.ensures.kept;
+      held = λ all. c.in_ok-push_names-in-Joined.ensures.held (c.down.invariant.held all);
+      kept = kept_through c.args.found.now.items c.down.found.items _ c.down.invariant.kept c.in_ok-push_names-in-Joined.ensures.kept;
     }
 
 pub returns-in-Alone-clause-kept : goal.returns-in-Alone-clause-kept
@@ -88,11 +76,8 @@ returns-in_err-push_name-in-Related-clause-kept t c = grind (arith, common_steps
 pub push_names-requires : goal.push_names-requires
 push_names-requires t c = grind (arith, common_steps)
 
-pub returns-in_err-push_names-in-Either-clause-kept : goal.returns-in_err-push_names-in-Either-clause-kept
-returns-in_err-push_names-in-Either-clause-kept t c = grind (arith, common_steps)
-
-pub returns-in_err-push_names-in-Both-clause-kept : goal.returns-in_err-push_names-in-Both-clause-kept
-returns-in_err-push_names-in-Both-clause-kept t c = grind (arith, common_steps)
+pub returns-in_err-push_names-in-Joined-clause-kept : goal.returns-in_err-push_names-in-Joined-clause-kept
+returns-in_err-push_names-in-Joined-clause-kept t c = grind (arith, common_steps)
 
 pub push_name-requires-in-Related : goal.push_name-requires-in-Related
 push_name-requires-in-Related t c = grind (arith, common_steps)
@@ -105,9 +90,3 @@ down-init t c = grind (arith, common_steps)
 
 pub down-smaller : goal.down-smaller
 down-smaller t c = grind (arith, common_steps)
-
-pub push_names-requires-in-Either : goal.push_names-requires-in-Either
-push_names-requires-in-Either t c = grind (arith, common_steps)
-
-pub down-smaller-in-Both : goal.down-smaller-in-Both
-down-smaller-in-Both t c = grind (arith, common_steps)

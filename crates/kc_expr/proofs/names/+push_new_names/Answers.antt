@@ -1,6 +1,6 @@
-use Rattle.kc_expr.proofs.Common.{◌<◌, ◌||◌, length, ap, sym, ◌∙◌, arith, common_steps, on_ok_weaker, list_any-append, mentions, passes_some_name, exprs_in, kept_through}
+use Rattle.kc_expr.proofs.Common.{node_expr, ◌<◌, ◌||◌, length, ap, sym, ◌∙◌, arith, common_steps, on_ok_weaker, mentions, passes_some_name, exprs_in, kept_through}
 use Rattle.kc_expr.proofs.StoreLemmas.{node_of, fits_at}
-use Rattle.kc_expr.proofs.VisitLemmas.{some_pushed, both_pushed, walk_visited, walk_one, walk_two}
+use Rattle.kc_expr.proofs.VisitLemmas.{mentions_joined, some_pushed, both_pushed, walk_visited, walk_one, walk_two}
 use Rattle.kc_expr.proofs.names.+push_new_names.Goals as goal
 
 pub returns-in-Alone-clause-walked : goal.returns-in-Alone-clause-walked
@@ -55,30 +55,17 @@ down-preserved-in-Shown t c =
       kept = c.down.invariant.kept;
     }
 
-pub down-preserved-in-Both : goal.down-preserved-in-Both
-down-preserved-in-Both t c =
-    let there : c.args.index < length c.args.walk.now = omega (arith, c.requires.room, c.requires.there) in
-    let e = node_of c.args.store.now c.down.at _ _ c.requires.sound (omega arith) c.node.ensures.value c.in-Both.is in
-    let f = fits_at c.args.store.now c.down.at _ _ c.requires.sound (omega arith) c.node.ensures.value c.in-Both.is in
-    record {
-      walking = walk_two (exprs_in c.args.store.now) c.args.index c.args.walk.now c.args.found.now.items c.down.at c.down.walk c.down.found.items there
-          c.down.invariant.walking c.in-Both.left c.in-Both.right c.push_new_names.new.walk c.push_new_names.new.found.items f.0 f.1
-          (λ p. ap (mentions p) e ∙ list_any-append p _ _) (rw c.mark.ensures.marked at c.in_ok-push_new_names-in-Both.ensures.walked);
-      held = λ all. c.in_ok-push_new_names-in-Both.ensures.held (c.down.invariant.held all);
-      kept = kept_through c.args.found.now.items c.down.found.items _ c.down.invariant.kept c.in_ok-push_new_names-in-Both.ensures.kept;
-    }
-
 pub down-preserved : goal.down-preserved
 down-preserved t c =
     let there : c.args.index < length c.args.walk.now = omega (arith, c.requires.room, c.requires.there) in
-    let e = node_of c.args.store.now c.down.at _ _ c.requires.sound (omega arith) c.node.ensures.value c.in-Either.is in
-    let f = fits_at c.args.store.now c.down.at _ _ c.requires.sound (omega arith) c.node.ensures.value c.in-Either.is in
+    let e = node_of c.args.store.now c.down.at _ _ c.requires.sound (omega arith) c.node.ensures.value c.in-Joined.is in
+    let f = fits_at c.args.store.now c.down.at _ _ c.requires.sound (omega arith) c.node.ensures.value c.in-Joined.is in
     record {
       walking = walk_two (exprs_in c.args.store.now) c.args.index c.args.walk.now c.args.found.now.items c.down.at c.down.walk c.down.found.items there
-          c.down.invariant.walking c.in-Either.left c.in-Either.right c.push_new_names-in-Either.new.walk c.push_new_names-in-Either.new.found.items f.0 f.1
-          (λ p. ap (mentions p) e ∙ list_any-append p _ _) (rw c.mark.ensures.marked at c.in_ok-push_new_names-in-Either.ensures.walked);
-      held = λ all. c.in_ok-push_new_names-in-Either.ensures.held (c.down.invariant.held all);
-      kept = kept_through c.args.found.now.items c.down.found.items _ c.down.invariant.kept c.in_ok-push_new_names-in-Either.ensures.kept;
+          c.down.invariant.walking c.in-Joined.left c.in-Joined.right c.push_new_names.new.walk c.push_new_names.new.found.items f.0 f.1
+          (λ p. ap (mentions p) e ∙ mentions_joined p c.in-Joined.field-0 (node_expr (exprs_in c.args.store.now) c.in-Joined.left) (node_expr (exprs_in c.args.store.now) c.in-Joined.right)) (rw c.mark.ensures.marked at c.in_ok-push_new_names-in-Joined.ensures.walked);
+      held = λ all. c.in_ok-push_new_names-in-Joined.ensures.held (c.down.invariant.held all);
+      kept = kept_through c.args.found.now.items c.down.found.items _ c.down.invariant.kept c.in_ok-push_new_names-in-Joined.ensures.kept;
     }
 
 pub mark-requires : goal.mark-requires
@@ -105,23 +92,14 @@ returns-then-contains-clause-held t c = grind (arith, common_steps)
 pub push_name-requires : goal.push_name-requires
 push_name-requires t c = grind (arith, common_steps)
 
-pub overflow_cast-at-in-Both : goal.overflow_cast-at-in-Both
-overflow_cast-at-in-Both t c = omega arith
-
 pub returns-in-Related-clause-kept : goal.returns-in-Related-clause-kept
 returns-in-Related-clause-kept t c = grind (arith, common_steps)
 
-pub returns-in_err-push_new_names-in-Either-clause-kept : goal.returns-in_err-push_new_names-in-Either-clause-kept
-returns-in_err-push_new_names-in-Either-clause-kept t c = grind (arith, common_steps)
+pub returns-in_err-push_new_names-in-Joined-clause-kept : goal.returns-in_err-push_new_names-in-Joined-clause-kept
+returns-in_err-push_new_names-in-Joined-clause-kept t c = grind (arith, common_steps)
 
 pub down-smaller-in-Negated : goal.down-smaller-in-Negated
 down-smaller-in-Negated t c = grind (arith, common_steps)
-
-pub overflow_cast-at-in-Either : goal.overflow_cast-at-in-Either
-overflow_cast-at-in-Either t c = omega arith
-
-pub push_new_names-requires-in-Either : goal.push_new_names-requires-in-Either
-push_new_names-requires-in-Either t c = grind (arith, common_steps)
 
 pub returns-in_err-push_name-in-Related-clause-kept : goal.returns-in_err-push_name-in-Related-clause-kept
 returns-in_err-push_name-in-Related-clause-kept t c = grind (arith, common_steps)
@@ -134,9 +112,3 @@ push_name-requires-in-Related t c = grind (arith, common_steps)
 
 pub down-smaller : goal.down-smaller
 down-smaller t c = grind (arith, common_steps)
-
-pub down-smaller-in-Both : goal.down-smaller-in-Both
-down-smaller-in-Both t c = grind (arith, common_steps)
-
-pub returns-in_err-push_new_names-in-Both-clause-kept : goal.returns-in_err-push_new_names-in-Both-clause-kept
-returns-in_err-push_new_names-in-Both-clause-kept t c = grind (arith, common_steps)

@@ -1,4 +1,4 @@
-use Rattle.kc_located_reasons.proofs.Common.{◌≡◌, not, map, ap, ◌∙◌, slice_get, option_and_then, valuation_tree, valuation_exprs, valuation_values, is_n, condition, position_view}
+use Rattle.kc_located_reasons.proofs.Common.{not, map, ap, ◌∙◌, slice_get, option_and_then, valuation_tree, valuation_exprs, valuation_values, is_n, condition, position_view}
 use Rattle.kc_tree_model.specs.Trees.{Default}
 use Rattle.kc_tree.specs.between.Views.{default_view}
 use Rattle.kc_located_reasons.proofs.Searches.{position_mapped}

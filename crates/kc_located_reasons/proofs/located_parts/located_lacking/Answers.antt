@@ -1,4 +1,4 @@
-use Rattle.kc_located_reasons.proofs.Common.{◌≡◌, ap, ◌∙◌, valuation_tree, valuation_exprs, valuation_values, environment, located_view, lacking_at, located_parts_view, ◌++◌}
+use Rattle.kc_located_reasons.proofs.Common.{ap, ◌∙◌, valuation_tree, valuation_exprs, valuation_values, environment, located_view, lacking_at, located_parts_view, ◌++◌}
 use Rattle.kc_located_reasons.proofs.PartLemmas.{more_lines}
 use Rattle.kc_located_reasons.proofs.located_parts.located_lacking.Goals as goal
 

@@ -1,5 +1,5 @@
 use Rattle.std.proofs.Common.{subst}
-use Rattle.kc_located_reasons.proofs.Common.{◌≡◌, map, ap, sym, ◌∙◌, All, valuation_tree, valuation_exprs, valuation_values, environment, lacking, parts_view, IsPartThere, part_at}
+use Rattle.kc_located_reasons.proofs.Common.{map, ap, sym, ◌∙◌, All, valuation_tree, valuation_exprs, valuation_values, environment, lacking, parts_view, IsPartThere, part_at}
 use Rattle.std.proofs.lemmas.Result.{on_ok_weaker}
 use Rattle.std.proofs.lemmas.List.Elements.{All-append, All-map, All-same}
 use Rattle.kc_expr.specs.between.Arena.{node_expr}

@@ -28,7 +28,7 @@ unfolding Describes
 returns-in-Ok-Some c = λ r before d.
     source_given r c.args.at.file c.args.at.line c.args.language before c.args.keyword (lexemes_of c.args.tokens.now)
     (statement_in c.statement_of.new.arena c.in-Ok.statement)
-    c.push_statement.new.read
+    c.push_statement.new.self
     (sym (c.fault_before_form.ensures r before d) ∙ c.in_default.is) c.in-Ok.ensures.gives c.in-Ok-Some.path
     (rw c.in-Ok-Some.field-0-is at (c.in-Ok-Some.ensures.appends r before
     (record { shows = shows_grown c.args.read.now.listing c.statement_of.new.arena before c.in-Ok.ensures.grows d.shows; counted = d.counted; enclosed = d.enclosed })))
@@ -38,7 +38,7 @@ unfolding Describes
 returns-in-Ok-None c = λ r before d.
     help_given r c.args.at.file c.args.at.line c.args.language before c.args.keyword (lexemes_of c.args.tokens.now)
     (statement_in c.statement_of.new.arena c.in-Ok.statement)
-    c.push_statement.new.read
+    c.push_statement.new.self
     (sym (c.fault_before_form.ensures r before d) ∙ c.in_default.is) c.in-Ok.ensures.gives (sym c.is_help_keyword.ensures ∙ c.if-is_help_keyword.true)
     (rw c.in-Ok-None.field-0-is at (c.in-Ok-None.ensures.appends r before
     (record { shows = shows_grown c.args.read.now.listing c.statement_of.new.arena before c.in-Ok.ensures.grows d.shows; counted = d.counted; enclosed = d.enclosed })))
@@ -48,7 +48,7 @@ unfolding Describes
 returns-in-Ok-None-2 c = λ r before d.
     next_given r c.args.at.file c.args.at.line c.args.language before c.args.keyword (lexemes_of c.args.tokens.now)
     (statement_in c.statement_of.new.arena c.in-Ok.statement)
-    c.push_statement.new.read
+    c.push_statement.new.self
     (sym (c.fault_before_form.ensures r before d) ∙ c.in_default.is) c.in-Ok.ensures.gives (sym c.is_help_keyword.ensures ∙ c.if-is_help_keyword.false)
     (rw c.in-Ok-None.field-0-is at (c.in-Ok-None.ensures.appends r before
     (record { shows = shows_grown c.args.read.now.listing c.statement_of.new.arena before c.in-Ok.ensures.grows d.shows; counted = d.counted; enclosed = d.enclosed })))
@@ -58,7 +58,7 @@ unfolding Describes
 returns-in-Err-push_statement c = λ r before d.
     limit_given r c.args.at.file c.args.at.line c.args.language before c.args.keyword (lexemes_of c.args.tokens.now)
     (statement_in c.statement_of.new.arena c.in-Ok.statement)
-    c.push_statement.new.read
+    c.push_statement.new.self
     (sym (c.fault_before_form.ensures r before d) ∙ c.in_default.is) c.in-Ok.ensures.gives c.in-Err-push_statement.kind
     (c.in-Err-push_statement.ensures.appends r before (record {
       shows = shows_grown c.args.read.now.listing c.statement_of.new.arena before

@@ -9,7 +9,7 @@ unfolding Describes
 returns-in-Ok-push_group-clause-sourced c = λ before d.
     let kept = c.in-Ok.ensures.describes (file_source_of c.args.from) before d in
     let shows = c.in-Ok-push_group.ensures.appends before (of_head (source c.args.path)) kept.shows (c.args.path, c.in-Ok.ensures.kept, refl) refl
-    (c.enclosing_choice-choice.ensures ∙ ap choice_kept c.deref.ensures.value ∙ enclosing_is c.push_text.new.read.stack.items _ kept.enclosed) in
+    (c.enclosing_choice-choice.ensures ∙ ap choice_kept c.deref.ensures.value ∙ enclosing_is c.push_text.new.self.stack.items _ kept.enclosed) in
     elim (c.in-Err.ensures.sourced before d) [
       | inl m ↦ inl (c.fault_or_out_of_memory.ensures.memory m)
       | inr e ↦ elim c.fault_or_out_of_memory.ensures.placed [

@@ -53,10 +53,10 @@ returns c =
       ok = reasons_are r.profile r.tree.tree c.args.s c.symbol.result.unit (symbol_view r.tree.exprs c.symbol.result) (option_copied c.args.user)
           c.args.values.now c.in_ok-case.case c.chosen_in-chosen.result c.in_ok-hindrance.hindrance
           (alternatives_view r.tree.exprs c.in_ok-needs.needs.items) (alternatives_view r.tree.exprs c.in_ok-unmet.unmet.items)
-          c.in_ok-selected_by.selected_by.items c.in_ok-implied_by.implied_by.items c.wanted_by.result c.are_selects_told-are_selects_told.result c.is_by_imply.result
+          c.in_ok-selected_by.selected_by.items c.in_ok-implied_by.implied_by.items c.wanted_by.result c.are_selects_listed-are_selects_listed.result c.is_by_imply.result
           (option_copied c.get.result)
           c.symbol.ensures.symbol c.symbol.ensures.unit found c.in_ok-case.ensures.ok c.chosen_in-chosen.ensures c.in_ok-hindrance.ensures.ok
-          c.wanted_by.ensures.value c.in_ok-needs.ensures.ok c.in_ok-unmet.ensures.ok c.are_selects_told-are_selects_told.ensures.value c.is_by_imply.ensures
+          c.wanted_by.ensures.value c.in_ok-needs.ensures.ok c.in_ok-unmet.ensures.ok c.are_selects_listed-are_selects_listed.ensures.value c.is_by_imply.ensures
           c.in_ok-selected_by.ensures.ok c.in_ok-implied_by.ensures.ok;
       needs = c.in_ok-needs.ensures.there;
       unmet = c.in_ok-unmet.ensures.there;

@@ -1,4 +1,5 @@
-use Rattle.kc_solver.proofs.Common.{refl, ◌∙◌, ap, arith, elements, slice_get-get_or, logged_units, is_pending}
+use Rattle.kc_solver.proofs.Common.{◌↔◌, ℕ, refl, ◌∙◌, ap, arith, Contains, slice_get-get_or, logged_units, is_pending, IsEliminated}
+use Rattle.kc_solver.proofs.UserChanges.{changed_inside}
 use Rattle.kc_solver.proofs.ErrorExits.{no_success, no_value}
 use Rattle.kc_solver.proofs.Lists.{decided}
 use Rattle.kc_solver.proofs.Sets.{emptied}
@@ -86,8 +87,39 @@ returns g c =
       fits = c.loop-place.invariant.fits;
       undo = c.loop-place.invariant.undo;
       steps = c.loop-place.invariant.steps;
-      logged = grind (arith, elements);
+      changed =
+          (let logged = c.loop-place.invariant.revising.logs in
+          let units = c.in_ok-changed.changed.items in
+          let same : (u : ℕ) → Contains units u ↔ IsEliminated (logged_units c.loop-place.log.items) u = rw c.as_slice.ensures.value
+          at c.in_ok-changed.ensures.same in
+          record {
+            ascending = c.in_ok-changed.ensures.ascending;
+            each = λ u h ne. (same u).1 (logged.each u ne);
+            only = λ u has.
+                let there = (same u).0 has in
+                let ne = logged.only there.0 u there.1 in (
+                  changed_inside (g.S.Graph.size c.args.plan.now.system.now) c.args.values.now c.loop-place.values u c.requires.fits.0
+                      c.loop-place.invariant.fits.0 ne,
+                  ne,
+                );
+          });
     }
+
+pub ascending_units-requires : goal.ascending_units-requires
+ascending_units-requires g c = record { once = rw c.as_slice.ensures.value c.loop-place.invariant.revising.logs.once }
+
+pub returns-in_err-changed : goal.returns-in_err-changed
+returns-in_err-changed g c = record {
+  size = c.pop_first.ensures.size ∙ c.loop-place.invariant.size;
+  done = no_success c.from_residual-in_err-changed.result _ _ c.from_residual-in_err-changed.ensures.1;
+  solves = no_success c.from_residual-in_err-changed.result _ _ c.from_residual-in_err-changed.ensures.1;
+  fits = no_success c.from_residual-in_err-changed.result _ _ c.from_residual-in_err-changed.ensures.1;
+  undo = c.loop-place.invariant.undo;
+  changed = no_value c.from_residual-in_err-changed.result _ _ c.from_residual-in_err-changed.ensures.1;
+  evaluated = no_value c.from_residual-in_err-changed.result _ _ c.from_residual-in_err-changed.ensures.1;
+  steps = no_value c.from_residual-in_err-changed.result _ _ c.from_residual-in_err-changed.ensures.1;
+  recorded = no_success c.from_residual-in_err-changed.result _ _ c.from_residual-in_err-changed.ensures.1;
+}
 
 pub bounds-order-place : goal.bounds-order-place
 bounds-order-place g c = (c.loop-place.invariant.revising.ahead c.in-Some.place c.in-Some.ensures.takes.member).1
@@ -99,7 +131,7 @@ returns-in_err-revise_unit g c = record {
   solves = no_success c.from_residual.result _ _ c.from_residual.ensures.1;
   fits = no_success c.from_residual.result _ _ c.from_residual.ensures.1;
   undo = c.revise_unit.ensures.undo c.args.values.now c.loop-place.invariant.undo;
-  logged = no_success c.from_residual.result _ _ c.from_residual.ensures.1;
+  changed = no_value c.from_residual.result _ _ c.from_residual.ensures.1;
   evaluated = no_value c.from_residual.result _ _ c.from_residual.ensures.1;
   steps = no_value c.from_residual.result _ _ c.from_residual.ensures.1;
   recorded = no_success c.from_residual.result _ _ c.from_residual.ensures.1;

@@ -15,7 +15,7 @@ write_changes-requires-clause-within g c = λ w p e.
     omega (arith, place_inside _ _ _ _ c.requires.plan.ordered c.requires.plan.places_are w p e, c.requires.size)
 
 pub write_changes-requires-clause-nothing : goal.write_changes-requires-clause-nothing
-write_changes-requires-clause-nothing g c = c.new-log.ensures.items
+write_changes-requires-clause-nothing g c = c.new-users_log.ensures.items
 
 pub write_changes-requires-clause-places : goal.write_changes-requires-clause-places
 write_changes-requires-clause-places g c = c.requires.plan.places_are.one_each ∙ sym c.requires.users.0
@@ -23,39 +23,42 @@ write_changes-requires-clause-places g c = c.requires.plan.places_are.one_each �
 pub write_changes-requires-clause-none : goal.write_changes-requires-clause-none
 write_changes-requires-clause-none g c = c.requires.none
 
-pub revalue-requires-clause-users : goal.revalue-requires-clause-users
-revalue-requires-clause-users g c = rw c.in-Ok.ensures.users (changed_fits _ _ _ _ c.requires.changes c.requires.users)
+pub revise-requires-clause-users : goal.revise-requires-clause-users
+revise-requires-clause-users g c = rw c.in-Ok.ensures.users (changed_fits _ _ _ _ c.requires.changes c.requires.users)
 
-pub revalue-requires-clause-places : goal.revalue-requires-clause-places
-revalue-requires-clause-places g c = within _ _ _ _ c.requires.plan.ordered c.requires.plan.places_are _ _ _ c.in-Ok.ensures.lists
+pub revise-requires-clause-places : goal.revise-requires-clause-places
+revise-requires-clause-places g c = within _ _ _ _ c.requires.plan.ordered c.requires.plan.places_are _ _ _ c.in-Ok.ensures.lists
 
-pub revalue-requires-clause-holds : goal.revalue-requires-clause-holds
-revalue-requires-clause-holds g c = still_holds _ _ _ _ c.requires.plan.ordered c.requires.plan.places_are _ _ _ c.in-Ok.ensures.lists _
+pub revise-requires-clause-holds : goal.revise-requires-clause-holds
+revise-requires-clause-holds g c = still_holds _ _ _ _ c.requires.plan.ordered c.requires.plan.places_are _ _ _ c.in-Ok.ensures.lists _
     (decided _ g.met.S.System.equal_users) _ c.requires.solves
 
-pub revalue-requires-clause-plan : goal.revalue-requires-clause-plan
-revalue-requires-clause-plan g c = c.requires.plan
+pub revise-requires-clause-nothing : goal.revise-requires-clause-nothing
+revise-requires-clause-nothing g c = c.new-values_log.ensures.items
 
-pub revalue-requires-clause-fits : goal.revalue-requires-clause-fits
-revalue-requires-clause-fits g c = c.requires.fits
+pub revise-requires-clause-plan : goal.revise-requires-clause-plan
+revise-requires-clause-plan g c = c.requires.plan
 
-pub revalue-requires-clause-size : goal.revalue-requires-clause-size
-revalue-requires-clause-size g c = c.write_changes.ensures.size ∙ c.requires.size
+pub revise-requires-clause-fits : goal.revise-requires-clause-fits
+revise-requires-clause-fits g c = c.requires.fits
 
-pub returns-in-Ok-revalue : goal.returns-in-Ok-revalue
-returns-in-Ok-revalue g c =
-    let touched = due_touched _ _ _ _ c.requires.plan.ordered c.requires.plan.places_are _ _ _ c.in-Ok.ensures.lists c.args.values.now c.revalue.new.values in
+pub revise-requires-clause-size : goal.revise-requires-clause-size
+revise-requires-clause-size g c = c.write_changes.ensures.size ∙ c.requires.size
+
+pub returns-in-Ok-revise : goal.returns-in-Ok-revise
+returns-in-Ok-revise g c =
+    let touched = due_touched _ _ _ _ c.requires.plan.ordered c.requires.plan.places_are _ _ _ c.in-Ok.ensures.lists c.args.values.now c.revise.new.values in
     record {
-      evaluated = count_same _ _ _ _ touched c.in-Ok-revalue.ensures.evaluated;
-      recorded = recorded_same _ _ _ _ _ touched c.in-Ok-revalue.ensures.recorded;
+      evaluated = count_same _ _ _ _ touched c.in-Ok-revise.ensures.evaluated;
+      recorded = recorded_same _ _ _ _ _ touched c.in-Ok-revise.ensures.recorded;
       fits_users = rw c.in-Ok.ensures.users (changed_fits _ _ _ _ c.requires.changes c.requires.users);
-      none = c.in-Ok-revalue.ensures.done;
-      size = c.revalue.ensures.size ∙ c.write_changes.ensures.size;
+      none = c.in-Ok-revise.ensures.done;
+      size = c.revise.ensures.size ∙ c.write_changes.ensures.size;
       users = c.in-Ok.ensures.users;
-      fits_values = c.in-Ok-revalue.ensures.fits;
-      solves = c.in-Ok-revalue.ensures.solves;
-      changed = c.in-Ok-revalue.ensures.changed;
-      steps = c.in-Ok-revalue.ensures.steps;
+      fits_values = c.in-Ok-revise.ensures.fits;
+      solves = c.in-Ok-revise.ensures.solves;
+      changed = c.in-Ok-revise.ensures.changed;
+      steps = c.in-Ok-revise.ensures.steps;
       err_users = tt;
       err_values = tt;
     }
@@ -79,22 +82,29 @@ returns-in-Err g c = record {
   err_values = refl;
 }
 
-pub restore_logged-requires-in-Err-revalue : goal.restore_logged-requires-in-Err-revalue
-restore_logged-requires-in-Err-revalue g c =
+pub restore_logged-requires-in-Err-revise : goal.restore_logged-requires-in-Err-revise
+restore_logged-requires-in-Err-revise g c =
+    record { units = λ k u a e. omega (arith, c.revise.ensures.undo.units k u a e, c.revise.ensures.undo.one_each) }
+
+pub restore_logged-requires-in-Err-revise-2 : goal.restore_logged-requires-in-Err-revise-2
+restore_logged-requires-in-Err-revise-2 g c =
     record { units = λ k u a e. omega (arith, c.write_changes.ensures.undo.units k u a e, c.write_changes.ensures.undo.one_each) }
 
 pub returns : goal.returns
-returns g c = record {
-  none = c.clear.ensures.none;
-  size = c.clear.ensures.size ∙ c.revalue.ensures.size ∙ c.write_changes.ensures.size;
-  users = tt;
-  fits_users = rw (c.restore_logged-in-Err-revalue.ensures.restored, c.write_changes.ensures.undo.back) c.requires.users;
-  fits_values = rw c.in-Err-revalue.ensures.err c.requires.fits;
-  solves = rw (c.in-Err-revalue.ensures.err, c.restore_logged-in-Err-revalue.ensures.restored, c.write_changes.ensures.undo.back) c.requires.solves;
-  changed = tt;
-  evaluated = tt;
-  steps = tt;
-  recorded = tt;
-  err_users = c.restore_logged-in-Err-revalue.ensures.restored ∙ c.write_changes.ensures.undo.back;
-  err_values = c.in-Err-revalue.ensures.err;
-}
+returns g c =
+    let values = c.restore_logged-in-Err-revise.ensures.restored ∙ c.revise.ensures.undo.back in
+    let users = c.restore_logged-in-Err-revise-2.ensures.restored ∙ c.write_changes.ensures.undo.back in
+    record {
+      none = c.clear.ensures.none;
+      size = c.clear.ensures.size ∙ c.revise.ensures.size ∙ c.write_changes.ensures.size;
+      users = tt;
+      fits_users = rw users c.requires.users;
+      fits_values = rw values c.requires.fits;
+      solves = rw (values, users) c.requires.solves;
+      changed = tt;
+      evaluated = tt;
+      steps = tt;
+      recorded = tt;
+      err_users = users;
+      err_values = values;
+    }

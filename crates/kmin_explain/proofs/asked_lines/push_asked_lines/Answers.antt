@@ -1,4 +1,4 @@
-use Rattle.kmin_explain.proofs.Common.{◌∙◌, on_ok_weaker, sources_model}
+use Rattle.kmin_explain.proofs.Common.{map, ap, ◌∙◌, on_ok_weaker, overridden_view, sources_model}
 use Rattle.kmin_explain.proofs.AskedTexts.{all_asked}
 use Rattle.kmin_explain.proofs.asked_lines.push_asked_lines.Goals as goal
 
@@ -8,7 +8,7 @@ returns c = λ read meanings are.
     let k = c.args.symbol.now in
     let own = c.requires.unit in
     on_ok_weaker c.push_asked_line.result
-    (λ w. all_asked g k.s k.kind k.unit c.args.by.now.files.now are.kept c.args.case c.args.hindrance c.deref.result.now _ c.args.out.now.items _ _ own
-    (c.deref.ensures.value ∙ c.in_ok-found.ensures g.tree meanings own are.kept) (c.deciding_line-place.ensures g.tree meanings own are.kept)
+    (λ w. all_asked g k.s k.kind k.unit c.args.case c.args.hindrance c.deref.result.now _ c.args.out.now.items _ _ own
+    (ap (map overridden_view) c.deref.ensures.value ∙ c.in_ok-found.ensures g.tree meanings own are.kept) (c.deciding_line-place.ensures g.tree meanings own are.kept)
     (c.in_ok-push_overridden_lines.ensures read meanings) w)
     (c.push_asked_line.ensures read meanings)

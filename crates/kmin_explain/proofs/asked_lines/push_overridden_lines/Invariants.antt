@@ -1,7 +1,7 @@
-use Rattle.kmin_explain.proofs.Common.{◌≡◌, ◌++◌, List, drop, flat_map, Group, LineMeaning, Overridden, sources_model, line_in, overridden_text}
+use Rattle.kmin_explain.proofs.Common.{◌≡◌, ◌++◌, List, drop, flat_map, Group, LineMeaning, Overridden, overridden_view, overridden_line, sources_model}
 use Rattle.kmin_explain.proofs.asked_lines.push_overridden_lines.Given as goal
 
 abbrev pub invariant-loop-one : goal.invariant-loop-one
 invariant-loop-one l = (read : List Group) (meanings : List (List LineMeaning))
-    → l.out.items ++ flat_map (λ (n : Overridden). overridden_text (sources_model l.by read meanings) l.symbol.s l.symbol.kind n (line_in l.by.files.now l.symbol.unit l.symbol.s n.file) (line_in l.by.files.now l.symbol.unit l.symbol.s n.by)) (drop l.one-index l.found)
-    ≡ l.fn.out.items ++ flat_map (λ (n : Overridden). overridden_text (sources_model l.by read meanings) l.symbol.s l.symbol.kind n (line_in l.by.files.now l.symbol.unit l.symbol.s n.file) (line_in l.by.files.now l.symbol.unit l.symbol.s n.by)) l.found
+    → l.out.items ++ flat_map (λ (o : Overridden). overridden_line (sources_model l.by read meanings) l.symbol.s l.symbol.kind (overridden_view o)) (drop l.one-index l.found)
+    ≡ l.fn.out.items ++ flat_map (λ (o : Overridden). overridden_line (sources_model l.by read meanings) l.symbol.s l.symbol.kind (overridden_view o)) l.found

@@ -5,7 +5,7 @@ pub returns : goal.returns
 returns c = λ read meanings.
     let by = c.args.by.now in
     let k = c.args.symbol.now in
-    let line = c.args.line.now in
+    let line = c.args.place.line.now in
     as_last c.end_object.result _ _ _ _
     (ap (λ (path : List ℕ). json_tokens (object_of (place_members path line.number
     ++ (codes "value", text_json (asked_value by.strings (tree_in (config_of by)) k.s k.kind line.user)) ∷ (codes "outcome", text_json c.args.outcome.now) ∷ [])))

@@ -1,4 +1,4 @@
-use Rattle.kmin_explain_records.proofs.Common.{◌∙◌, wrote, and_then, and_last, sources_model, last_write, as_last}
+use Rattle.kmin_explain_records.proofs.Common.{map, ap, ◌∙◌, overridden_view, wrote, and_then, and_last, sources_model, last_write, as_last}
 use Rattle.kmin_explain_records.proofs.AskedTokens.{asked_array}
 use Rattle.kmin_explain_records.proofs.asked_members.write_asked_list.Goals as goal
 
@@ -8,8 +8,8 @@ returns c = λ read meanings are.
     let k = c.args.symbol.now in
     let own = c.requires.unit in
     as_last c.end_array.result _ _ _ _
-    (asked_array g k.s k.kind k.unit c.args.by.now.files.now are.kept c.args.case c.args.hindrance c.deref.result.now _ own
-    (c.deref.ensures.value ∙ c.in_ok-found.ensures g.tree meanings own are.kept) (c.deciding_line-place.ensures g.tree meanings own are.kept))
+    (asked_array g k.s k.kind k.unit c.args.case c.args.hindrance c.deref.result.now _ own
+    (ap (map overridden_view) c.deref.ensures.value ∙ c.in_ok-found.ensures g.tree meanings own are.kept) (c.deciding_line-place.ensures g.tree meanings own are.kept))
     (and_last _ _ _ _ _ _
     (and_then _ _ _ _ _ (wrote _ _ _ _ c.in_ok-begin_array.ensures)
     (and_then _ _ _ _ _ (c.in_ok-write_each_overridden.ensures read meanings) (c.in_ok-write_deciding.ensures read meanings)))

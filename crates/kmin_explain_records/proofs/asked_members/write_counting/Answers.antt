@@ -1,4 +1,4 @@
-use Rattle.kmin_explain_records.proofs.Common.{ℕ, List, ◌++◌, ap, ◌∙◌, json_tokens, line_view, sources_model, as_last, asked_json}
+use Rattle.kmin_explain_records.proofs.Common.{ℕ, List, ◌++◌, ap, ◌∙◌, json_tokens, place_view, sources_model, as_last, asked_json}
 use Rattle.kc_explanation.specs.Asked.{outcome_text}
 use Rattle.kmin_explain_records.proofs.asked_members.write_counting.Goals as goal
 
@@ -7,7 +7,7 @@ returns c = λ read meanings.
     let g = sources_model c.args.by.now read meanings in
     let k = c.args.symbol.now in
     as_last c.write_asked.result _ _ _ _
-    (ap (λ (outcome : List ℕ). json_tokens (asked_json g k.s k.kind (record { file = c.args.file; line = line_view c.args.line.now }) outcome))
+    (ap (λ (outcome : List ℕ). json_tokens (asked_json g k.s k.kind (place_view c.args.place) outcome))
     (c.deref.ensures.value ∙ c.in_ok-push_outcome.ensures
     ∙ ap (λ (before : List ℕ). before ++ outcome_text c.args.case c.args.hindrance) c.new-outcome.ensures.items))
     (c.write_asked.ensures read meanings)

@@ -1,5 +1,4 @@
-use Rattle.kmin_explain_records.proofs.Common.{[], sym, ap, flat_map, option_map, json_tokens, sources_model, as_tokens, as_last, nothing_more, deciding_json}
-use Rattle.kc_config_reasons.specs.between.Places.{place_view}
+use Rattle.kmin_explain_records.proofs.Common.{[], sym, ap, flat_map, option_map, json_tokens, sources_model, as_tokens, as_last, nothing_more, deciding_json, place_view}
 use Rattle.kmin_explain_records.proofs.asked_members.write_deciding.Goals as goal
 
 pub returns-in-None : goal.returns-in-None

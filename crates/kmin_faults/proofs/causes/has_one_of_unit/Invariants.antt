@@ -1,4 +1,4 @@
-use Rattle.kmin_faults.proofs.Common.{◌≡◌, [], drop, slice_get, slice_index_or, list_any, node_expr, default_view, range_view, reverse_dependency_view, is_of_unit}
+use Rattle.kmin_faults.proofs.Common.{◌≡◌, [], drop, slice_index_or, list_any, is_of_unit}
 use Rattle.kmin_faults.proofs.causes.has_one_of_unit.Given as goal
 
 abbrev pub invariant-loop-name : goal.invariant-loop-name

@@ -1,4 +1,4 @@
-use Rattle.kmin_faults.proofs.Common.{◌≡◌, [], drop, slice_get, slice_index_or, list_any, node_expr, default_view, range_view, reverse_dependency_view, prompts_name_unit}
+use Rattle.kmin_faults.proofs.Common.{◌≡◌, drop, slice_get, list_any, prompts_name_unit}
 use Rattle.kmin_faults.proofs.causes.is_in_members.Given as goal
 
 abbrev pub invariant-loop-member : goal.invariant-loop-member

@@ -1,4 +1,4 @@
-use Rattle.kmin_faults.proofs.Common.{◌≡◌, [], drop, slice_get, slice_index_or, list_any, node_expr, default_view, range_view, reverse_dependency_view, range_names_unit}
+use Rattle.kmin_faults.proofs.Common.{◌≡◌, drop, list_any, range_view, range_names_unit}
 use Rattle.kmin_faults.proofs.causes.is_in_ranges.Given as goal
 
 abbrev pub invariant-loop-range : goal.invariant-loop-range

@@ -1,4 +1,4 @@
-use Rattle.kmin_faults.proofs.Common.{sym, ◌∙◌, IfOk-weaker, any_map, MemberDefault, default_view, member_default_view, range_view, reverse_dependency_view, node_expr, default_names_unit, names_unit, range_names_unit, reverse_names_unit}
+use Rattle.kmin_faults.proofs.Common.{sym, ◌∙◌, IfOk-weaker, any_map, MemberDefault, member_default_view, names_unit}
 use Rattle.kmin_faults.proofs.causes.makes_choice_depend.Goals as goal
 
 pub returns-in-Default : goal.returns-in-Default

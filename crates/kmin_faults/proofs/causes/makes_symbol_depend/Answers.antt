@@ -1,4 +1,4 @@
-use Rattle.kmin_faults.proofs.Common.{sym, ◌∙◌, IfOk-weaker, any_map, MemberDefault, default_view, member_default_view, range_view, reverse_dependency_view, node_expr, default_names_unit, names_unit, range_names_unit, reverse_names_unit}
+use Rattle.kmin_faults.proofs.Common.{sym, ◌∙◌, IfOk-weaker, any_map, default_view, range_view, reverse_dependency_view, node_expr, default_names_unit, names_unit, range_names_unit, reverse_names_unit}
 use Rattle.kmin_faults.proofs.causes.makes_symbol_depend.Goals as goal
 
 pub returns-in-DependsOn : goal.returns-in-DependsOn

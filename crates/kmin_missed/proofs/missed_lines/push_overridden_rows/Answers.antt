@@ -1,16 +1,16 @@
-use Rattle.kmin_missed.proofs.Common.{Overridden, sources_model, line_in, overridden_row_text, one_more_text, no_more_text}
+use Rattle.kmin_missed.proofs.Common.{ℕ, List, ◌++◌, ◌∙◌, ap, Overridden, overridden_view, sources_model, one_more_text, no_more_text}
+use Rattle.kmin_missed.specs.MissedLines.{overridden_row}
 use Rattle.kmin_missed.proofs.missed_lines.push_overridden_rows.Goals as goal
 
 pub loop-one-preserved : goal.loop-one-preserved
 loop-one-preserved c = λ read meanings.
     let k = c.args.symbol.now in
-    let files = c.args.by.now.files.now in
-    one_more_text (λ (n : Overridden). overridden_row_text (sources_model c.args.by.now read meanings) k.s k.kind n (line_in files k.unit k.s n.file) (line_in files k.unit k.s n.by))
-    c.args.found.now c.loop-one.one-index _ c.loop-one.out.items _ _ c.loop-one-test.true (c.in_ok-push_overridden_row.ensures read meanings) (c.loop-one.invariant read meanings)
+    let text : Overridden → List ℕ = λ o. overridden_row (sources_model c.args.by.now read meanings) k.s k.kind (overridden_view o) in
+    one_more_text text c.args.found.now c.loop-one.one-index c.one-item.result c.loop-one.out.items _ _ c.loop-one-test.true
+    (c.in_ok-push_overridden_row.ensures read meanings ∙ ap (λ o. c.loop-one.out.items ++ text o) c.one-item.is) (c.loop-one.invariant read meanings)
 
 pub returns : goal.returns
 returns c = λ read meanings.
     let k = c.args.symbol.now in
-    let files = c.args.by.now.files.now in
-    no_more_text (λ (n : Overridden). overridden_row_text (sources_model c.args.by.now read meanings) k.s k.kind n (line_in files k.unit k.s n.file) (line_in files k.unit k.s n.by))
+    no_more_text (λ (o : Overridden). overridden_row (sources_model c.args.by.now read meanings) k.s k.kind (overridden_view o))
     c.args.found.now c.loop-one.one-index c.loop-one.out.items _ c.loop-one-test.false (c.loop-one.invariant read meanings)

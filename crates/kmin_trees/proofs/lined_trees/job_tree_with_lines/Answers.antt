@@ -1,4 +1,4 @@
-use Rattle.kmin_trees.proofs.Common.{sym, ap, ◌∙◌, no_value, memory_err, status_of, names_by_number}
+use Rattle.kmin_trees.proofs.Common.{sym, ap, ◌∙◌, no_value, names_by_number}
 use Rattle.kmin_trees.proofs.ErrorExits.{with_error, memory_stops, memory_unfailed}
 use Rattle.kmin_trees.proofs.lined_trees.job_tree_with_lines.Goals as goal
 

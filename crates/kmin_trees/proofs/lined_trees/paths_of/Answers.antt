@@ -1,4 +1,4 @@
-use Rattle.kmin_trees.proofs.Common.{◌≡◌, ◌<◌, List, ◌++◌, ◌∷◌, [], length, take, ap, ◌∙◌, map, arith, rules, take_all, common_steps, names_of}
+use Rattle.kmin_trees.proofs.Common.{◌≡◌, ◌<◌, ◌++◌, ◌∷◌, [], length, take, ap, ◌∙◌, map, arith, rules, take_all, common_steps, names_of}
 use Rattle.kmin_trees.proofs.PathLists.{one_more_path, name_of_file}
 use Rattle.kmin_trees.proofs.lined_trees.paths_of.Goals as goal
 

@@ -1,4 +1,4 @@
-use Rattle.kmin_trees.proofs.Common.{rules, ◌≡◌, ◌+◌, ◌∙◌, None, ap, subst, take, arith, refl, List, ℕ, get_or, string_bytes, take_all, file_at, Surroundings, path_below, MayBeMissing}
+use Rattle.kmin_trees.proofs.Common.{rules, ◌≡◌, ◌∙◌, None, ap, subst, take, arith, refl, List, ℕ, get_or, string_bytes, take_all, file_at, Surroundings, path_below, MayBeMissing}
 use Rattle.std.proofs.lemmas.List.Elements.{All-map}
 use Rattle.kmin_trees.proofs.MissingFiles.{insert_step}
 use Rattle.kmin_trees.proofs.tree_files.insert_all.Goals as goal

@@ -37,26 +37,26 @@ returns-in_default g c = record {
   rising = c.read_below.ensures.rising;
 }
 
-pub returns-in_err-insert : goal.returns-in_err-insert
-returns-in_err-insert g c = record {
+pub returns-in_err-insert_whole : goal.returns-in_err-insert_whole
+returns-in_err-insert_whole g c = record {
   same = c.read_below.ensures.same;
-  below = rw c.in_err-insert.ensures.err c.requires.below;
-  inserted = no_value c.from_residual-in_err-insert.result _ _ c.from_residual-in_err-insert.ensures.1;
-  same_texts = no_value c.from_residual-in_err-insert.result _ _ c.from_residual-in_err-insert.ensures.1;
-  missing = no_value c.from_residual-in_err-insert.result _ _ c.from_residual-in_err-insert.ensures.1;
+  below = rw c.in_err-insert_whole.ensures.err c.requires.below;
+  inserted = no_value c.from_residual-in_err-insert_whole.result _ _ c.from_residual-in_err-insert_whole.ensures.1;
+  same_texts = no_value c.from_residual-in_err-insert_whole.result _ _ c.from_residual-in_err-insert_whole.ensures.1;
+  missing = no_value c.from_residual-in_err-insert_whole.result _ _ c.from_residual-in_err-insert_whole.ensures.1;
   rising = c.read_below.ensures.rising;
 }
 
 pub returns : goal.returns
 returns g c =
     let content_of = (g.F.Files.surroundings c.args.files.now).content in
-    let starts : MatchContentStart (content_of (path_below c.args.root.now c.args.path.now)) c.deref.result.now =
-    rw c.deref.ensures.value (rw c.in-Some.is at c.in_ok-bytes.ensures.bytes) in
+    let starts : MatchContentStart (content_of (path_below c.args.root.now c.args.path.now)) c.in-Some.bytes.items =
+    rw c.in-Some.is at c.in_ok-bytes.ensures.bytes in
     let absent : file_at c.args.texts.now c.args.path.now ≡ None = lacks_text (λ (b : Bor (List ℕ)). b.now) c.get.result c.is_some.result _
     c.is_some.ensures c.if-is_some.false c.get.ensures in record {
       same = c.read_below.ensures.same;
-      below = rw c.in_ok-insert.ensures.ok (inserted content_of c.args.root.now c.args.path.now c.deref.result.now c.args.texts.now c.requires.below starts);
-      inserted = λ _. longer c.args.texts.now c.insert.new.self c.args.path.now c.deref.result.now absent c.in_ok-insert.ensures.ok;
+      below = rw c.in_ok-insert_whole.ensures.ok (inserted content_of c.args.root.now c.args.path.now c.in-Some.bytes.items c.args.texts.now c.requires.below starts);
+      inserted = λ _. longer c.args.texts.now c.insert_whole.new.self c.args.path.now c.in-Some.bytes.items absent c.in_ok-insert_whole.ensures.ok;
       same_texts = λ e. absurd (false≢true (sym e));
       missing = λ e none. absurd (false≢true (sym e));
       rising = c.read_below.ensures.rising;

@@ -1,5 +1,0 @@
-use Rattle.kc_located_reasons.proofs.laws.given_places_are_told.Goals as goal
-use Rattle.kc_located_reasons.proofs.LocatedLaws.{given as law}
-
-pub returns : goal.returns
-returns c = law
