@@ -25,9 +25,9 @@ def lowest_first(uses, names):
     found = []
 
     def visit(name):
-        for it in uses[name]:
-            visit(it)
         if name not in found:
+            for it in uses[name]:
+                visit(it)
             found.append(name)
 
     for name in names:

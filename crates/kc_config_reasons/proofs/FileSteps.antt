@@ -8,7 +8,7 @@ use Rattle.kc_dotconfig_model.specs.ConfigFiles.{has_utf8_lines, FileMeans}
 use Rattle.kc_reasons_model.specs.AssigningLines.{assigning_line}
 use Rattle.kc_config_reasons.proofs.OwnLines.{own_line}
 
--- what is left of a file, after so many lines, and what is kept of these lines are together the file
+-- what is left of a file after its first `lines` lines, and what is kept of these lines are together the file
 abbrev pub Leads : FileFormat → Tree → (bytes rest : List ℕ) → (lines : ℕ) → FileLines → Type 0
 Leads format tree bytes rest lines f = (meanings : List LineMeaning) → has_utf8_lines bytes ≡ true → FileMeans format tree bytes meanings
     → (left : List LineMeaning) × (has_utf8_lines rest ≡ true) × FileMeans format tree rest left × NumbersBelow (lines + 1) f

@@ -2,9 +2,12 @@
 use Rattle.kc_expr.proofs.Common.{◌≡◌, ℕ, suc, ◌+◌, ◌≤◌, ◌<◌, ◌⊎◌, inl, inr, Bool, true, false, List, length, drop, Option, Some, None, Result, Ok, Err, refl, ap, sym, ◌∙◌, subst, arith, option_map, cases_lt, ExprFault, ExprKind, Malformed, NodeStore, Relop, TokenKind, Not, Open, Close, Represents}
 use Rattle.kc_expr.proofs.Common.{node_expr, Expr, Operand, alone, related, negated, Read, on_read, past_depth_limit, closed, fault_of, as_condition, first_kind, first_operand, first_relation, IsParsedToEnd, IsRefusedToEnd, exprs_in, IsSound, Extends, Lexeme}
 use Rattle.std.proofs.Math.ListN.{drop_of_length-le}
-use Rattle.kc_expr.specs.checker.ParserResults.{operand_read, factor_read, ors_read, read_all_tokens, IsParsed, IsExpressionRefused, Parses, MeetsFault}
-use Rattle.kc_expr.proofs.ReaderSteps.{IsLevel, drop_one, operand_none, operand_alone, operand_no_right, operand_related, factor_operand, factor_too_deep, factor_not, factor_open, closed_ok, closed_not, whole_fails, whole_left, whole_ok}
+use Rattle.kc_expr.specs.checker.ParserResults.{operand_read, factor_read, connective_kind, part_read, joined_read, read_all_tokens, IsParsed, IsExpressionRefused, Parses, MeetsFault}
+use Rattle.kc_expr.proofs.ReaderSteps.{first_fails, first, link_fails, link, ends, as_joined, joined_on, drop_one, operand_none, operand_alone, operand_no_right, operand_related, factor_operand, factor_too_deep, factor_not, factor_open, closed_ok, closed_not, whole_fails, whole_left, whole_ok}
 use Rattle.kc_expr.proofs.StoreLemmas.{represents_later}
+use Rattle.kc_expr.specs.declared.node.Connective.{Connective}
+use Rattle.kc_expr.specs.declared.node.Connective.TheVariants.{Or as Ors}
+use Rattle.kc_expr.specs.checker.Nodes.{joined}
 
 -- conditions of composed expressions
 as_related : (c : Bool) (op : Relop) (a b : Operand) → related op a b ≡ as_condition c (related op a b)
@@ -119,8 +122,8 @@ module _ (all : List Lexeme) (condition : Bool) (at : ℕ) where
     not_step k = ap (λ d. factor_read d (drop at all)) deep ∙ factor_not n (drop at all) k ∙ ap (λ us. on_read (factor_read n us) (λ r. Ok (negated r.0, r.1)))
         (sym (drop_one at all))
 
-    open_step : first_kind (drop at all) ≡ Some Open → factor_read d (drop at all) ≡ on_read (ors_read n (drop (at + 1) all)) closed
-    open_step k = ap (λ d. factor_read d (drop at all)) deep ∙ factor_open n (drop at all) k ∙ ap (λ us. on_read (ors_read n us) closed) (sym (drop_one at all))
+    open_step : first_kind (drop at all) ≡ Some Open → factor_read d (drop at all) ≡ on_read (joined_read Ors n (drop (at + 1) all)) closed
+    open_step k = ap (λ d. factor_read d (drop at all)) deep ∙ factor_open n (drop at all) k ∙ ap (λ us. on_read (joined_read Ors n us) closed) (sym (drop_one at all))
 
     pub not_fails : first_kind (drop at all) ≡ Some Not → (e : ExprFault) → IsExpressionRefused all (factor_read n (drop (at + 1) all)) e
         → IsExpressionRefused all (factor_read d (drop at all)) e
@@ -138,12 +141,12 @@ module _ (all : List Lexeme) (condition : Bool) (at : ℕ) where
       represents = subst (Represents (exprs_in new) id) (ap negated p.represents.is ∙ as_negated condition p.expr) h;
     }
 
-    pub open_fails : first_kind (drop at all) ≡ Some Open → (e : ExprFault) → IsExpressionRefused all (ors_read n (drop (at + 1) all)) e
+    pub open_fails : first_kind (drop at all) ≡ Some Open → (e : ExprFault) → IsExpressionRefused all (joined_read Ors n (drop (at + 1) all)) e
         → IsExpressionRefused all (factor_read d (drop at all)) e
-    open_fails k e h = refused_on all (ors_read n (drop (at + 1) all)) (factor_read d (drop at all)) e (λ f r. open_step k ∙ ap (λ q. on_read q closed) r) h
+    open_fails k e h = refused_on all (joined_read Ors n (drop (at + 1) all)) (factor_read d (drop at all)) e (λ f r. open_step k ∙ ap (λ q. on_read q closed) r) h
 
     pub open_unclosed : first_kind (drop at all) ≡ Some Open → (s : NodeStore) (inside next : ℕ) → IsParsed s all condition (at + 1)
-        (ors_read n (drop (at + 1) all)) inside next → (first_kind (drop next all) ≡ Some Close → ⊥) → (e : ExprFault)
+        (joined_read Ors n (drop (at + 1) all)) inside next → (first_kind (drop next all) ≡ Some Close → ⊥) → (e : ExprFault)
         → e ≡ fault_of all (Malformed, drop next all) → IsExpressionRefused all (factor_read d (drop at all)) e
     open_unclosed k s inside next p c e q = inr (
       (Malformed, drop next all),
@@ -153,7 +156,7 @@ module _ (all : List Lexeme) (condition : Bool) (at : ℕ) where
     )
 
     pub open_parsed : first_kind (drop at all) ≡ Some Open → (s : NodeStore) (inside next : ℕ) → IsParsed s all condition (at + 1)
-        (ors_read n (drop (at + 1) all)) inside next → first_kind (drop next all) ≡ Some Close → IsParsed s all condition at
+        (joined_read Ors n (drop (at + 1) all)) inside next → first_kind (drop next all) ≡ Some Close → IsParsed s all condition at
         (factor_read d (drop at all)) inside (next + 1)
     open_parsed k s inside next p c = record {
       expr = p.expr;
@@ -163,71 +166,70 @@ module _ (all : List Lexeme) (condition : Bool) (at : ℕ) where
       represents = p.represents;
     }
 
--- the front of a chain was read from an index of the tokens on, a node represents it, and `next` is the index where the chain
--- continues
-pub record IsChained (on : ℕ → Expr → List Lexeme → Read) (whole : ℕ → List Lexeme → Read) (s : NodeStore) (all : List Lexeme) (condition : Bool)
-    (at d id next : ℕ) : Type 0 where
+-- the front of joined parts was read from an index of the tokens on, a node represents it, and `next` is the index where they
+-- continue
+pub record IsChained (c : Connective) (s : NodeStore) (all : List Lexeme) (condition : Bool) (at d id next : ℕ) : Type 0 where
   pub expr : Expr
-  pub reads : whole d (drop at all) ≡ on d expr (drop next all)
+  pub reads : joined_read c d (drop at all) ≡ joined_on c d expr (drop next all)
   pub forward : at ≤ next
   pub within : next ≤ length all
   pub represents : Represents (exprs_in s) id (as_condition condition expr)
 
--- chains, by the steps of their readers
-module _ {part whole : ℕ → List Lexeme → Read} {on : ℕ → Expr → List Lexeme → Read} {kind : TokenKind} {joined : Expr → Expr → Expr}
-    (level : IsLevel part whole on kind joined) (all : List Lexeme) (condition : Bool) (at d : ℕ) where
-  pub chain_first_fails : (e : ExprFault) → IsExpressionRefused all (part d (drop at all)) e → IsExpressionRefused all (whole d (drop at all)) e
-  chain_first_fails e h = refused_on all (part d (drop at all)) (whole d (drop at all)) e (level.first_fails d (drop at all)) h
+-- joined parts, by the steps of their reader
+module _ (c : Connective) (all : List Lexeme) (condition : Bool) (at d : ℕ) where
+  pub chain_first_fails : (e : ExprFault) → IsExpressionRefused all (part_read c d (drop at all)) e → IsExpressionRefused all (joined_read c d (drop at all)) e
+  chain_first_fails e h = refused_on all (part_read c d (drop at all)) (joined_read c d (drop at all)) e (first_fails c d (drop at all)) h
 
-  pub chain_begins : (s : NodeStore) (id next : ℕ) → IsParsed s all condition at (part d (drop at all)) id next → IsChained on whole s all condition at d id next
+  pub chain_begins : (s : NodeStore) (id next : ℕ) → IsParsed s all condition at (part_read c d (drop at all)) id next → IsChained c s all condition at d id next
   chain_begins s id next p = record {
     expr = p.expr;
-    reads = level.first d (drop at all) (drop next all) p.expr p.reads;
+    reads = first c d (drop at all) (drop next all) p.expr p.reads;
     forward = p.forward;
     within = p.within;
     represents = p.represents;
   }
 
-  pub chain_fails : (s : NodeStore) (left next : ℕ) → IsChained on whole s all condition at d left next → first_kind (drop next all) ≡ Some kind → (e : ExprFault)
-      → IsExpressionRefused all (part d (drop (next + 1) all)) e → IsExpressionRefused all (whole d (drop at all)) e
-  chain_fails s left next c k e h = refused_on all (part d (drop (next + 1) all)) (whole d (drop at all)) e
-      (λ f r. c.reads ∙ level.link_fails d (drop next all) c.expr f k (ap (part d) (sym (drop_one next all)) ∙ r)) h
+  pub chain_fails : (s : NodeStore) (left next : ℕ) → IsChained c s all condition at d left next → first_kind (drop next all) ≡ Some (connective_kind c)
+      → (e : ExprFault) → IsExpressionRefused all (part_read c d (drop (next + 1) all)) e → IsExpressionRefused all (joined_read c d (drop at all)) e
+  chain_fails s left next p k e h = refused_on all (part_read c d (drop (next + 1) all)) (joined_read c d (drop at all)) e
+      (λ f r. p.reads ∙ link_fails c d (drop next all) p.expr f k (ap (part_read c d) (sym (drop_one next all)) ∙ r)) h
 
-  pub chain_goes_on : (s0 s1 s2 : NodeStore) (left next right after id : ℕ) → IsChained on whole s0 all condition at d left next
-      → first_kind (drop next all) ≡ Some kind → IsSound s0 → Extends s0 s1 → IsParsed s1 all condition (next + 1) (part d (drop (next + 1) all)) right after
-      → Represents (exprs_in s2) id (joined (node_expr (exprs_in s1) left) (node_expr (exprs_in s1) right)) → IsChained on whole s2 all condition at d id after
-  chain_goes_on s0 s1 s2 left next right after id c k sound x p h =
-      let kept = represents_later s0 s1 left (as_condition condition c.expr) sound x c.represents in
+  pub chain_goes_on : (s0 s1 s2 : NodeStore) (left next right after id : ℕ) → IsChained c s0 all condition at d left next
+      → first_kind (drop next all) ≡ Some (connective_kind c) → IsSound s0 → Extends s0 s1
+      → IsParsed s1 all condition (next + 1) (part_read c d (drop (next + 1) all)) right after
+      → Represents (exprs_in s2) id (joined c (node_expr (exprs_in s1) left) (node_expr (exprs_in s1) right)) → IsChained c s2 all condition at d id after
+  chain_goes_on s0 s1 s2 left next right after id p k sound x q h =
+      let kept = represents_later s0 s1 left (as_condition condition p.expr) sound x p.represents in
       record {
-        expr = joined c.expr p.expr;
-        reads = c.reads ∙ level.link d (drop next all) (drop after all) c.expr p.expr k (ap (part d) (sym (drop_one next all)) ∙ p.reads);
-        forward = omega (arith, c.forward, p.forward);
-        within = p.within;
-        represents = subst (Represents (exprs_in s2) id) (ap (λ v. joined v (node_expr (exprs_in s1) right)) kept.is
-            ∙ ap (joined (as_condition condition c.expr)) p.represents.is ∙ level.as_joined condition c.expr p.expr) h;
+        expr = joined c p.expr q.expr;
+        reads = p.reads ∙ link c d (drop next all) (drop after all) p.expr q.expr k (ap (part_read c d) (sym (drop_one next all)) ∙ q.reads);
+        forward = omega (arith, p.forward, q.forward);
+        within = q.within;
+        represents = subst (Represents (exprs_in s2) id) (ap (λ v. joined c v (node_expr (exprs_in s1) right)) kept.is
+            ∙ ap (joined c (as_condition condition p.expr)) q.represents.is ∙ as_joined c condition p.expr q.expr) h;
       }
 
-  pub chain_ends : (s : NodeStore) (id next : ℕ) → IsChained on whole s all condition at d id next → (first_kind (drop next all) ≡ Some kind → ⊥)
-      → IsParsed s all condition at (whole d (drop at all)) id next
-  chain_ends s id next c n = record {
-    expr = c.expr;
-    reads = c.reads ∙ level.ends d (drop next all) c.expr n;
-    forward = c.forward;
-    within = c.within;
-    represents = c.represents;
+  pub chain_ends : (s : NodeStore) (id next : ℕ) → IsChained c s all condition at d id next → (first_kind (drop next all) ≡ Some (connective_kind c) → ⊥)
+      → IsParsed s all condition at (joined_read c d (drop at all)) id next
+  chain_ends s id next p n = record {
+    expr = p.expr;
+    reads = p.reads ∙ ends c d (drop next all) p.expr n;
+    forward = p.forward;
+    within = p.within;
+    represents = p.represents;
   }
 
 -- all of the tokens
 module _ (all : List Lexeme) (condition : Bool) (at d : ℕ) where
-  pub whole_refused : (e : ExprFault) → IsExpressionRefused all (ors_read d (drop at all)) e → IsRefusedToEnd all (read_all_tokens d (drop at all)) e
+  pub whole_refused : (e : ExprFault) → IsExpressionRefused all (joined_read Ors d (drop at all)) e → IsRefusedToEnd all (read_all_tokens d (drop at all)) e
   whole_refused e (inl m) = inl m
   whole_refused e (inr (f, r, q)) = inr (f, whole_fails d (drop at all) f r, q)
 
-  pub whole_too_long : (s : NodeStore) (id next : ℕ) → IsParsed s all condition at (ors_read d (drop at all)) id next → 0 < length (drop next all) → (e : ExprFault)
+  pub whole_too_long : (s : NodeStore) (id next : ℕ) → IsParsed s all condition at (joined_read Ors d (drop at all)) id next → 0 < length (drop next all) → (e : ExprFault)
       → e ≡ fault_of all (Malformed, drop next all) → IsRefusedToEnd all (read_all_tokens d (drop at all)) e
   whole_too_long s id next p l e q = inr ((Malformed, drop next all), whole_left d (drop at all) (drop next all) p.expr p.reads l, q)
 
-  pub whole_parsed : (s : NodeStore) (id next : ℕ) → IsParsed s all condition at (ors_read d (drop at all)) id next → length all ≤ next
+  pub whole_parsed : (s : NodeStore) (id next : ℕ) → IsParsed s all condition at (joined_read Ors d (drop at all)) id next → length all ≤ next
       → IsParsedToEnd s condition (read_all_tokens d (drop at all)) id
   whole_parsed s id next p l = record {
     expr = p.expr;

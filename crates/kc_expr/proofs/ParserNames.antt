@@ -4,6 +4,9 @@ use Rattle.kc_expr.proofs.Common.{Extends, HasNamesOf}
 use Rattle.kc_expr.specs.between.Names.{with_names}
 use Rattle.kc_expr.specs.checker.ParserResults.{names_of_m}
 use Rattle.kc_expr.proofs.StoreLemmas.{represents_later}
+use Rattle.kc_expr.specs.declared.node.Connective.{Connective}
+use Rattle.kc_expr.specs.declared.node.Connective.TheVariants.{And, Or}
+use Rattle.kc_expr.specs.checker.Nodes.{joined}
 
 with_names-append : (xs ys names : List (List ℕ)) → with_names (xs ++ ys) names ≡ with_names ys (with_names xs names)
 with_names-append [] ys names = refl
@@ -19,6 +22,10 @@ alone_names true (Constant N) names texts = refl
 alone_names true _ names texts = refl
 alone_names false (Constant N) names texts = refl
 alone_names false _ names texts = refl
+
+joined_names : (c : Connective) (a b : Expr) → names_in (joined c a b) ≡ names_in a ++ names_in b
+joined_names And a b = refl
+joined_names Or a b = refl
 
 -- no name is added for a constant that isn't `m`, nor outside a condition
 module _ (old new : NodeStore) (id : ℕ) where
@@ -45,16 +52,14 @@ module _ (old new : NodeStore) (id : ℕ) where
       → Represents (exprs_in new) id (negated (node_expr (exprs_in s) part)) → HasNamesOf old new id
   read_negated s part e f h = of_expr (negated (node_expr (exprs_in s) part)) h (f ∙ e)
 
-  pub read_joined : (joined : Expr → Expr → Expr) → ((a b : Expr) → names_in (joined a b) ≡ names_in a ++ names_in b)
-      → (s0 s1 : NodeStore) (left right : ℕ) (e : Expr) → HasNamesOf old s0 left → IsSound s0 → Extends s0 s1 → Represents (exprs_in s0) left e
-      → HasNamesOf s0 s1 right
-      → stored_names new ≡ stored_names s1 → Represents (exprs_in new) id (joined (node_expr (exprs_in s1) left) (node_expr (exprs_in s1) right))
-      → HasNamesOf old new id
-  read_joined joined parts s0 s1 left right e first sound x at second same h =
+  pub read_joined : (c : Connective) (s0 s1 : NodeStore) (left right : ℕ) (e : Expr) → HasNamesOf old s0 left → IsSound s0 → Extends s0 s1
+      → Represents (exprs_in s0) left e → HasNamesOf s0 s1 right → stored_names new ≡ stored_names s1
+      → Represents (exprs_in new) id (joined c (node_expr (exprs_in s1) left) (node_expr (exprs_in s1) right)) → HasNamesOf old new id
+  read_joined c s0 s1 left right e first sound x at second same h =
       let kept = (represents_later s0 s1 left e sound x at).is ∙ sym at.is in
       let a = node_expr (exprs_in s1) left in
       let b = node_expr (exprs_in s1) right in
-      of_expr (joined a b) h
+      of_expr (joined c a b) h
       (same ∙ both_added (names_in a) (names_in b) (stored_names old) (stored_names s0) (stored_names s1)
       (first ∙ ap (λ v. with_names (names_in v) (stored_names old)) (sym kept)) second
-      ∙ ap (λ ws. with_names ws (stored_names old)) (sym (parts a b)))
+      ∙ ap (λ ws. with_names ws (stored_names old)) (sym (joined_names c a b)))

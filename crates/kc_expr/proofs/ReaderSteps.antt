@@ -1,9 +1,12 @@
 -- Steps of reading an expression.
 use Rattle.std.proofs.Common.{drop-drop}
 use Rattle.kc_expr.proofs.Common.{◌≡◌, ℕ, suc, zero, ◌+◌, ◌<◌, ◌≤◌, ◌⊎◌, inl, inr, Bool, true, false, List, [], ◌∷◌, length, drop, Some, None, Ok, Err, refl, ap, sym, ◌∙◌, arith, ExprKind, Malformed, TooDeep, Relop, TokenKind, Word, Quoted, Relation, Not, And, Or, Open, Close, Expr, Operand, alone}
-use Rattle.kc_expr.proofs.Common.{related, negated, both, either, Read, on_read, past_depth_limit, chain, is_and, is_or, is_close, closed, after_operand, right_operand, operand_of_kind, read_factor, read_ands, read_to_end, first_kind, first_operand, first_relation, relation_of, Lexeme, as_condition}
+use Rattle.kc_expr.proofs.Common.{related, negated, Read, on_read, past_depth_limit, chain, is_and, is_or, is_close, closed, after_operand, right_operand, operand_of_kind, read_factor, read_to_end, first_kind, first_operand, first_relation, relation_of, Lexeme, as_condition}
 use Rattle.kc_expr.specs.Grammar.{read_expr}
-use Rattle.kc_expr.specs.checker.ParserResults.{operand_else, operand_read, factor_read, ands_read, ors_read, read_all_tokens}
+use Rattle.kc_expr.specs.declared.node.Connective.{Connective}
+use Rattle.kc_expr.specs.declared.node.Connective.TheVariants.{And as Ands, Or as Ors}
+use Rattle.kc_expr.specs.checker.Nodes.{joined}
+use Rattle.kc_expr.specs.checker.ParserResults.{operand_else, operand_read, factor_read, connective_kind, part_read, joined_read, read_all_tokens}
 use Rattle.kc_expr.proofs.GrammarLaws.{beyond_kind, after_operand_kind, zero_kind, suc_kind}
 use Rattle.kc_expr.proofs.GrammarComplete.{Stops, chain_same, chain_stops, factor_short, ands_short}
 
@@ -116,8 +119,8 @@ unfolding factor_read
 factor_not d [] e = cc
 factor_not d (t ∷ ts) e = let k : t.kind ≡ Not = cc in ap (λ k. suc_kind d k t ts) k
 
-pub factor_open : (d : ℕ) (us : List Lexeme) → first_kind us ≡ Some Open → factor_read (suc d) us ≡ on_read (ors_read d (drop 1 us)) closed
-unfolding factor_read ors_read
+pub factor_open : (d : ℕ) (us : List Lexeme) → first_kind us ≡ Some Open → factor_read (suc d) us ≡ on_read (joined_read Ors d (drop 1 us)) closed
+unfolding factor_read joined_read
 factor_open d [] e = cc
 factor_open d (t ∷ ts) e = let k : t.kind ≡ Open = cc in ap (λ k. suc_kind d k t ts) k
 
@@ -133,99 +136,95 @@ pub closed_not : (e : Expr) (us : List Lexeme) → (first_kind us ≡ Some Close
 closed_not e [] n = refl
 closed_not e (t ∷ ts) n = let k = close_by t.kind n in rw k refl
 
--- reads the further factors of an `&&` chain, after the expression that was read of it
-unfoldable pub ands_on : ℕ → Expr → List Lexeme → Read
-ands_on d e us = chain is_and both (read_factor d) (length us) e us
+-- whether a token is a connective
+abbrev pub is_joint : Connective → TokenKind → Bool
+is_joint Ands = is_and
+is_joint Ors = is_or
 
-unfoldable pub ors_on : ℕ → Expr → List Lexeme → Read
-ors_on d e us = chain is_or either (read_ands (read_factor d)) (length us) e us
+joint : (c : Connective) → is_joint c (connective_kind c) ≡ true
+joint Ands = refl
+joint Ors = refl
 
-and_by : (k : TokenKind) → (Some k ≡ Some And → ⊥) → is_and k ≡ false
-and_by And n = absurd (n refl)
-and_by _ n = refl
+no_joint : (c : Connective) (k : TokenKind) → (Some k ≡ Some (connective_kind c) → ⊥) → is_joint c k ≡ false
+no_joint Ands And n = absurd (n refl)
+no_joint Ors Or n = absurd (n refl)
+no_joint Ands _ n = refl
+no_joint Ors _ n = refl
 
-or_by : (k : TokenKind) → (Some k ≡ Some Or → ⊥) → is_or k ≡ false
-or_by Or n = absurd (n refl)
-or_by _ n = refl
+-- a part of what a connective joins leaves no more tokens than there were
+part_short : (c : Connective) (d : ℕ) (ts : List Lexeme) (r : Expr × List Lexeme) → part_read c d ts ≡ Ok r → length r.1 ≤ length ts
+unfolding factor_read joined_read
+part_short Ands d ts r h = factor_short d ts r h
+part_short Ors d ts r h = ands_short d ts r h
 
-as_both : (c : Bool) (a b : Expr) → both (as_condition c a) (as_condition c b) ≡ as_condition c (both a b)
-as_both true a b = refl
-as_both false a b = refl
+pub as_joined : (c : Connective) (condition : Bool) (a b : Expr) → joined c (as_condition condition a) (as_condition condition b) ≡ as_condition condition (joined c a b)
+as_joined Ands true a b = refl
+as_joined Ands false a b = refl
+as_joined Ors true a b = refl
+as_joined Ors false a b = refl
 
-as_either : (c : Bool) (a b : Expr) → either (as_condition c a) (as_condition c b) ≡ as_condition c (either a b)
-as_either true a b = refl
-as_either false a b = refl
+-- reads the further parts of what a connective joins, after the expression that was read of it
+unfoldable pub joined_on : Connective → ℕ → Expr → List Lexeme → Read
+joined_on c d e us = chain (is_joint c) (joined c) (part_read c d) (length us) e us
 
--- how the reader of a level goes on after its first part, at an operator and where no operator follows
-pub record IsLevel (part whole : ℕ → List Lexeme → Read) (on : ℕ → Expr → List Lexeme → Read) (kind : TokenKind) (join : Expr → Expr → Expr) : Type 0 where
-  pub first_fails : (d : ℕ) (us : List Lexeme) (f : ExprKind × List Lexeme) → part d us ≡ Err f → whole d us ≡ Err f
-  pub first : (d : ℕ) (us ws : List Lexeme) (e : Expr) → part d us ≡ Ok (e, ws) → whole d us ≡ on d e ws
-  pub link_fails : (d : ℕ) (us : List Lexeme) (e : Expr) (f : ExprKind × List Lexeme) → first_kind us ≡ Some kind → part d (drop 1 us) ≡ Err f
-      → on d e us ≡ Err f
-  pub link : (d : ℕ) (us ws : List Lexeme) (e b : Expr) → first_kind us ≡ Some kind → part d (drop 1 us) ≡ Ok (b, ws) → on d e us ≡ on d (join e b) ws
-  pub ends : (d : ℕ) (us : List Lexeme) (e : Expr) → (first_kind us ≡ Some kind → ⊥) → on d e us ≡ Ok (e, us)
-  pub as_joined : (c : Bool) (a b : Expr) → join (as_condition c a) (as_condition c b) ≡ as_condition c (join a b)
+is_chain : (c : Connective) (d : ℕ) (us : List Lexeme) → joined_read c d us
+    ≡ on_read (part_read c d us) (λ r. chain (is_joint c) (joined c) (part_read c d) (length us) r.0 r.1)
+unfolding factor_read joined_read
+is_chain Ands d us = refl
+is_chain Ors d us = refl
 
-module _ (is_joint : TokenKind → Bool) (kind : TokenKind) (join : Expr → Expr → Expr) (part : ℕ → List Lexeme → Read)
-    (short : (d : ℕ) (ts : List Lexeme) (r : Expr × List Lexeme) → part d ts ≡ Ok r → length r.1 ≤ length ts) (joint : is_joint kind ≡ true)
-    (other : (k : TokenKind) → (Some k ≡ Some kind → ⊥) → is_joint k ≡ false) where
-  abbrev on : ℕ → Expr → List Lexeme → Read
-  on d e us = chain is_joint join (part d) (length us) e us
+-- how the reader of joined parts goes on after its first part, at a connective and where none follows
+module _ (c : Connective) (d : ℕ) where
+  abbrev then : List Lexeme → (Expr → Expr) → Read → Read
+  then us f q = on_read q (λ r. chain (is_joint c) (joined c) (part_read c d) (length us) (f r.0) r.1)
 
-  abbrev then : ℕ → List Lexeme → (Expr → Expr) → Read → Read
-  then d us f q = on_read q (λ r. chain is_joint join (part d) (length us) (f r.0) r.1)
+  pub first_fails : (us : List Lexeme) (f : ExprKind × List Lexeme) → part_read c d us ≡ Err f → joined_read c d us ≡ Err f
+  first_fails us f h = is_chain c d us ∙ ap (then us (λ e. e)) h
 
-  link_fails : (d : ℕ) (us : List Lexeme) (e : Expr) (f : ExprKind × List Lexeme) → first_kind us ≡ Some kind → part d (drop 1 us) ≡ Err f → on d e us ≡ Err f
-  link_fails d [] e f k h = cc
-  link_fails d (t ∷ ts) e f k h =
-      let same : t.kind ≡ kind = cc in
-      let q : is_joint t.kind ≡ true = ap is_joint same ∙ joint in
-      rw (q, chain) (ap (then d ts (join e)) h)
+  pub first : (us ws : List Lexeme) (e : Expr) → part_read c d us ≡ Ok (e, ws) → joined_read c d us ≡ joined_on c d e ws
+  unfolding joined_on
+  first us ws e h = is_chain c d us ∙ ap (then us (λ e. e)) h
+      ∙ chain_same (is_joint c) (joined c) (part_read c d) (part_short c d) (length us) (length ws) e ws (part_short c d us (e, ws) h) (omega arith)
 
-  link : (d : ℕ) (us ws : List Lexeme) (e b : Expr) → first_kind us ≡ Some kind → part d (drop 1 us) ≡ Ok (b, ws) → on d e us ≡ on d (join e b) ws
-  link d [] ws e b k h = cc
-  link d (t ∷ ts) ws e b k h =
-      let same : t.kind ≡ kind = cc in
-      let q : is_joint t.kind ≡ true = ap is_joint same ∙ joint in
-      rw (q, chain) (ap (then d ts (join e)) h
-      ∙ chain_same is_joint join (part d) (short d) (length ts) (length ws) (join e b) ws (short d ts (b, ws) h) (omega arith))
+  pub link_fails : (us : List Lexeme) (e : Expr) (f : ExprKind × List Lexeme) → first_kind us ≡ Some (connective_kind c) → part_read c d (drop 1 us) ≡ Err f
+      → joined_on c d e us ≡ Err f
+  unfolding joined_on
+  link_fails [] e f k h = cc
+  link_fails (t ∷ ts) e f k h =
+      let same : t.kind ≡ connective_kind c = cc in
+      let q : is_joint c t.kind ≡ true = ap (is_joint c) same ∙ joint c in
+      rw (q, chain) (ap (then ts (joined c e)) h)
 
-  stops : (us : List Lexeme) → (first_kind us ≡ Some kind → ⊥) → Stops is_joint us
+  pub link : (us ws : List Lexeme) (e b : Expr) → first_kind us ≡ Some (connective_kind c) → part_read c d (drop 1 us) ≡ Ok (b, ws)
+      → joined_on c d e us ≡ joined_on c d (joined c e b) ws
+  unfolding joined_on
+  link [] ws e b k h = cc
+  link (t ∷ ts) ws e b k h =
+      let same : t.kind ≡ connective_kind c = cc in
+      let q : is_joint c t.kind ≡ true = ap (is_joint c) same ∙ joint c in
+      rw (q, chain) (ap (then ts (joined c e)) h
+      ∙ chain_same (is_joint c) (joined c) (part_read c d) (part_short c d) (length ts) (length ws) (joined c e b) ws (part_short c d ts (b, ws) h) (omega arith))
+
+  stops : (us : List Lexeme) → (first_kind us ≡ Some (connective_kind c) → ⊥) → Stops (is_joint c) us
   stops [] n = tt
-  stops (t ∷ ts) n = other t.kind n
+  stops (t ∷ ts) n = no_joint c t.kind n
 
-  level : ((c : Bool) (a b : Expr) → join (as_condition c a) (as_condition c b) ≡ as_condition c (join a b))
-      → IsLevel part (λ d us. then d us (λ e. e) (part d us)) on kind join
-  level as_joined = record {
-    first_fails = λ d us f e. ap (then d us (λ e. e)) e;
-    first = λ d us ws e h. ap (then d us (λ e. e)) h
-        ∙ chain_same is_joint join (part d) (short d) (length us) (length ws) e ws (short d us (e, ws) h) (omega arith);
-    link_fails = link_fails;
-    link = link;
-    ends = λ d us e n. chain_stops is_joint join (part d) (short d) (length us) e us (stops us n);
-    as_joined = as_joined;
-  }
-
-pub ands_level : IsLevel factor_read ands_read ands_on And both
-unfolding factor_read ands_read ands_on
-ands_level = level is_and And both read_factor factor_short refl and_by as_both
-
-pub ors_level : IsLevel ands_read ors_read ors_on Or either
-unfolding ands_read ors_read ors_on
-ors_level = level is_or Or either (λ d. read_ands (read_factor d)) ands_short refl or_by as_either
+  pub ends : (us : List Lexeme) (e : Expr) → (first_kind us ≡ Some (connective_kind c) → ⊥) → joined_on c d e us ≡ Ok (e, us)
+  unfolding joined_on
+  ends us e n = chain_stops (is_joint c) (joined c) (part_read c d) (part_short c d) (length us) e us (stops us n)
 
 -- a fault of reading an expression is one of reading all tokens as an expression
-pub whole_fails : (d : ℕ) (us : List Lexeme) (f : ExprKind × List Lexeme) → ors_read d us ≡ Err f → read_all_tokens d us ≡ Err f
-unfolding ors_read read_all_tokens
+pub whole_fails : (d : ℕ) (us : List Lexeme) (f : ExprKind × List Lexeme) → joined_read Ors d us ≡ Err f → read_all_tokens d us ≡ Err f
+unfolding joined_read read_all_tokens
 whole_fails d us f e = ap read_to_end e
 
-pub whole_left : (d : ℕ) (us ws : List Lexeme) (e : Expr) → ors_read d us ≡ Ok (e, ws) → 0 < length ws → read_all_tokens d us ≡ Err (Malformed, ws)
-unfolding ors_read read_all_tokens
+pub whole_left : (d : ℕ) (us ws : List Lexeme) (e : Expr) → joined_read Ors d us ≡ Ok (e, ws) → 0 < length ws → read_all_tokens d us ≡ Err (Malformed, ws)
+unfolding joined_read read_all_tokens
 whole_left d us [] e h l = absurd (omega arith)
 whole_left d us (w ∷ ws) e h l = ap read_to_end h
 
-pub whole_ok : (d : ℕ) (us ws : List Lexeme) (e : Expr) → ors_read d us ≡ Ok (e, ws) → ws ≡ [] → read_all_tokens d us ≡ Ok e
-unfolding ors_read read_all_tokens
+pub whole_ok : (d : ℕ) (us ws : List Lexeme) (e : Expr) → joined_read Ors d us ≡ Ok (e, ws) → ws ≡ [] → read_all_tokens d us ≡ Ok e
+unfolding joined_read read_all_tokens
 whole_ok d us ws e h n = ap read_to_end (h ∙ ap (λ vs. Ok (e, vs)) n)
 
 pub whole_expr : (us : List Lexeme) → read_all_tokens 64 us ≡ read_expr us

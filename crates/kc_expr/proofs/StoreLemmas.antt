@@ -1,9 +1,9 @@
 -- The expressions that a store represents, as it grows.
-use Rattle.kc_expr.proofs.Common.{◌≡◌, ℕ, suc, ◌+◌, ◌^◌, ◌<◌, ◌≤◌, List, [], ◌∷◌, ◌++◌, length, get_or, take, drop, map, Bool, true, false, cond, refl, ap, sym, ◌∙◌, subst, arith, length-append, append_assoc, append-nil, string_bytes, get_or_append_left, map-append, take-append_seam, take-length, N}
-use Rattle.kc_expr.proofs.Common.{Leaf, Constant, Node, Alone, NodeStore, Exprs, node_expr, Represents, Expr, alone, related, constant, named, quoted, AreDistinct, operand_of, expr_of, exprs_after, exprs_of, NodeFits, some_node, stored_names, exprs_in, IsSound, Extends, kept_through}
+use Rattle.kc_expr.proofs.Common.{◌≡◌, ℕ, suc, ◌+◌, ◌^◌, ◌<◌, ◌≤◌, ◌⊎◌, inl, inr, List, [], ◌∷◌, ◌++◌, length, get_or, take, drop, map, Bool, true, false, cond, refl, ap, sym, ◌∙◌, subst, arith, length-append, append_assoc, append-nil, string_bytes, get_or_append_left, map-append, take-append_seam, take-length, N}
+use Rattle.kc_expr.proofs.Common.{Leaf, Constant, Node, Alone, NodeStore, Exprs, node_expr, Represents, Expr, alone, related, negated, shown, constant, named, quoted, AreDistinct, operand_of, expr_of, exprs_after, exprs_of, NodeFits, some_node, stored_names, exprs_in, IsSound, Extends, kept_through}
 use Rattle.std.proofs.lemmas.List.{take-append-drop, length-take}
 use Rattle.kc_expr.specs.declared.node.Leaf.TheVariants.{Name, Quoted}
-use Rattle.kc_expr.specs.declared.node.Node.TheVariants.{Related}
+use Rattle.kc_expr.specs.declared.node.Node.TheVariants.{Negated, Related, Shown}
 use Rattle.kc_expr.specs.between.Arena.{Grows}
 use Rattle.kc_expr.specs.checker.Nodes.{LeafFits}
 use Rattle.kc_expr.proofs.NodeLemmas.{at_node, nodes_push, represents_last, length-exprs}
@@ -17,6 +17,17 @@ node_of s i found n sound h e f = at_node (stored_names s) s.texts.items (length
 pub fits_at : (s : NodeStore) (i : ℕ) (found n : Node) → IsSound s → i < length s.nodes.items → found ≡ get_or s.nodes.items i some_node → found ≡ n
     → NodeFits (length (stored_names s)) (length s.texts.items) i n
 fits_at s i found n sound h e f = subst (NodeFits (length (stored_names s)) (length s.texts.items) i) (sym e ∙ f) (sound.nodes i h)
+
+-- a node of one part: the part has a smaller number, and what no `!` and no `shown` changes is that of the part
+module _ (s : NodeStore) (i part : ℕ) (found : Node) (sound : IsSound s) (there : i < length s.nodes.items) (at : found ≡ get_or s.nodes.items i some_node) where
+  pub part_below : (found ≡ Negated part) ⊎ (found ≡ Shown part) → part < i
+  part_below (inl e) = fits_at s i found (Negated part) sound there at e
+  part_below (inr e) = fits_at s i found (Shown part) sound there at e
+
+  pub of_part : {X : Type 0} (f : Expr → X) → ((e : Expr) → f (negated e) ≡ f e) → ((e : Expr) → f (shown e) ≡ f e) → (found ≡ Negated part) ⊎ (found ≡ Shown part)
+      → f (node_expr (exprs_in s) i) ≡ f (node_expr (exprs_in s) part)
+  of_part f n h (inl e) = ap f (node_of s i found (Negated part) sound there at e) ∙ n (node_expr (exprs_in s) part)
+  of_part f n h (inr e) = ap f (node_of s i found (Shown part) sound there at e) ∙ h (node_expr (exprs_in s) part)
 
 prefix_parts : {X : Type 0} (xs ys : List X) → take (length xs) ys ≡ xs → ys ≡ xs ++ drop (length xs) ys
 prefix_parts xs ys e = sym (take-append-drop (length xs) ys) ∙ ap (λ zs. zs ++ drop (length xs) ys) e

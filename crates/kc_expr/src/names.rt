@@ -28,6 +28,26 @@ fn push_name(store: &NodeStore, leaf: Leaf, found: &mut Vec<NameId>) -> Result<(
     Ok(())
 }
 
+/// Appends the names of the two sides of a relation.
+#[tactic(auto, using(kc_tokens::proofs::KeptLists::kept_through))]
+fn push_sides(
+    store: &NodeStore,
+    left: Leaf,
+    right: Leaf,
+    found: &mut Vec<NameId>,
+) -> Result<(), AllocError>
+    requires left { LeafFits (length (stored_names store.now)) (length store.now.texts.items) left }
+    requires right { LeafFits (length (stored_names store.now)) (length store.now.texts.items) right }
+    ensures words { OnOk result (map (λ i. slice_index_or (stored_names store.now) i []) found.new.items
+        ≡ map (λ i. slice_index_or (stored_names store.now) i []) found.old.items
+        ++ (operand_names (operand_of (stored_names store.now) store.now.texts.items left) ++ operand_names (operand_of (stored_names store.now) store.now.texts.items right))) }
+    ensures held { OnOk result (All (λ i. i < length (stored_names store.now)) found.old.items → All (λ i. i < length (stored_names store.now)) found.new.items) }
+    ensures kept { take (length found.old.items) found.new.items ≡ found.old.items }
+{
+    push_name(store, left, found)?;
+    push_name(store, right, found)
+}
+
 /// Appends to `found` the numbers of the names in the expression that a node represents.
 pub(crate) fn push_names(
     store: &NodeStore,
@@ -45,12 +65,8 @@ pub(crate) fn push_names(
     'down: loop {
         match store.node(at) {
             Node::Alone(leaf) => return push_name(store, leaf, found),
-            Node::Related(_, left, right) => {
-                push_name(store, left, found)?;
-                return push_name(store, right, found);
-            }
-            Node::Negated(part) => at = part as usize,
-            Node::Shown(part) => at = part as usize,
+            Node::Related(_, left, right) => return push_sides(store, left, right, found),
+            Node::Negated(part) | Node::Shown(part) => at = part as usize,
             Node::Joined(_, left, right) => {
                 push_names(store, right as usize, found)?;
                 at = left as usize;
@@ -84,12 +100,8 @@ pub(crate) fn push_new_names(
         walk.mark(at);
         match store.node(at) {
             Node::Alone(leaf) => return push_name(store, leaf, found),
-            Node::Related(_, left, right) => {
-                push_name(store, left, found)?;
-                return push_name(store, right, found);
-            }
-            Node::Negated(part) => at = part as usize,
-            Node::Shown(part) => at = part as usize,
+            Node::Related(_, left, right) => return push_sides(store, left, right, found),
+            Node::Negated(part) | Node::Shown(part) => at = part as usize,
             Node::Joined(_, left, right) => {
                 push_new_names(store, right as usize, walk, found)?;
                 at = left as usize;

@@ -3,7 +3,7 @@ ghost use Rattle.std.specs.Prelude.{◌≡◌, ◌↔◌, ◌≤◌, Some, lengt
 ghost use Rattle.kc_tokens.specs.declared.token.TokenKind.TheVariants.{Word, Quoted, Not, Open};
 ghost use Rattle.kc_expr.specs.Expr.{named};
 ghost use Rattle.kc_expr.specs.Grammar.{past_depth_limit, constant_or, extent, fault_of, is_close, is_operand_kind};
-ghost use Rattle.kc_expr.specs.checker.ParserResults.{first_kind, first_operand, first_relation, operand_read, factor_read, ands_read, ors_read, read_all_tokens, Parses, IsParsedToEnd, IsRefusedToEnd, MeetsFault};
+ghost use Rattle.kc_expr.specs.checker.ParserResults.{first_kind, first_operand, first_relation, operand_read, factor_read, connective_kind, part_read, joined_read, read_all_tokens, IsRead, IsParsedToEnd, IsRefusedToEnd, MeetsFault};
 ghost use Rattle.kc_tokens.specs.Token.{lexemes_of};
 
 use super::node::{Connective, Node};
@@ -81,6 +81,16 @@ fn is_symbol_at(tokens: &[Token<'_>], at: usize) -> bool
     is_kind_at(tokens, at, TokenKind::Word) || is_kind_at(tokens, at, TokenKind::Quoted)
 }
 
+/// Whether the token at an index is this connective.
+fn is_connective_at(tokens: &[Token<'_>], at: usize, connective: Connective) -> bool
+    ensures { IsTrue result ↔ (first_kind (drop at (lexemes_of tokens.now)) ≡ Some (connective_kind connective)) }
+{
+    match connective {
+        Connective::And => is_kind_at(tokens, at, TokenKind::And),
+        Connective::Or => is_kind_at(tokens, at, TokenKind::Or),
+    }
+}
+
 /// The fault past the limit of depth: the first symbol is too deep, unless another token comes before it.
 fn too_deep(tokens: &[Token<'_>], at: usize) -> ExprFault
     requires within { at ≤ length tokens.now }
@@ -119,28 +129,32 @@ fn ends_between(left: TokenKind, right: TokenKind) -> bool
         && matches!(right, TokenKind::Word | TokenKind::Quoted)
 }
 
+/// What the parser reads: tokens, with at most `depth` more `!` and parentheses around a symbol, as a condition or as they are.
+#[derive(Clone, Copy)]
+struct Input<'a> {
+    tokens: &'a [Token<'a>],
+    depth: usize,
+    condition: bool,
+}
+
+/// The number of the node that was read, and the index after its last token.
+type Parsed = Result<(u32, usize), ExprFault>;
+
 impl NodeStore {
     ghost use Rattle.kc_expr.specs.checker.Store.{IsSound, Extends, HasNamesOf};
 
     /// Reads an operand, or a relation of two.
-    fn parse_relation(
-        &mut self,
-        tokens: &[Token<'_>],
-        at: usize,
-        condition: bool,
-    ) -> Result<(u32, usize), ExprFault>
-        requires within { at ≤ length tokens.now }
+    fn parse_relation(&mut self, input: &Input<'_>, at: usize) -> Parsed
+        requires within { at ≤ length input.now.tokens.now }
         requires sound { IsSound self.old }
-        ensures sound { IsSound self.new }
-        ensures extends { Extends self.old self.new }
-        ensures names { IfOk result (λ r. HasNamesOf self.old self.new r.0) }
-        ensures parses { Parses self.new (lexemes_of tokens.now) condition at (operand_read (drop at (lexemes_of tokens.now))) result }
+        ensures { IsRead self.old self.new input.now at (λ _. operand_read) result }
     {
+        let tokens = input.tokens;
         let Some(left) = self.leaf_at(tokens, at)? else {
             return Err(fault_at(tokens, at, ExprKind::Malformed));
         };
         let Some(op) = relation_at(tokens, at + 1) else {
-            return Ok((self.push_alone(left, condition)?, at + 1));
+            return Ok((self.push_alone(left, input.condition)?, at + 1));
         };
         let Some(right) = self.leaf_at(tokens, at + 2)? else {
             return Err(fault_at(tokens, at + 2, ExprKind::Malformed));
@@ -148,90 +162,65 @@ impl NodeStore {
         Ok((self.push(Node::Related(op, left, right))?, at + 3))
     }
 
-    /// Reads a factor, with at most `depth` more `!` and parentheses around a symbol.
+    /// Reads a factor: an operand, a relation, a `!` and a factor, or an expression in parentheses.
     #[cycle(parser)]
-    fn parse_factor(
-        &mut self,
-        tokens: &[Token<'_>],
-        at: usize,
-        depth: usize,
-        condition: bool,
-    ) -> Result<(u32, usize), ExprFault>
-        requires within { at ≤ length tokens.now }
+    fn parse_factor(&mut self, input: &Input<'_>, at: usize) -> Parsed
+        requires within { at ≤ length input.now.tokens.now }
         requires sound { IsSound self.old }
-        ensures sound { IsSound self.new }
-        ensures extends { Extends self.old self.new }
-        ensures names { IfOk result (λ r. HasNamesOf self.old self.new r.0) }
-        ensures parses { Parses self.new (lexemes_of tokens.now) condition at (factor_read depth (drop at (lexemes_of tokens.now))) result }
+        ensures { IsRead self.old self.new input.now at factor_read result }
     {
+        let tokens = input.tokens;
         let negated = is_kind_at(tokens, at, TokenKind::Not);
         if !negated && !is_kind_at(tokens, at, TokenKind::Open) {
-            return self.parse_relation(tokens, at, condition);
+            return self.parse_relation(input, at);
         }
-        if depth == 0 {
+        if input.depth == 0 {
             return Err(too_deep(tokens, at + 1));
         }
+        let inside = Input {
+            depth: input.depth - 1,
+            ..*input
+        };
         if negated {
-            let (part, next) = self.parse_factor(tokens, at + 1, depth - 1, condition)?;
+            let (part, next) = self.parse_factor(&inside, at + 1)?;
             return Ok((self.push(Node::Negated(part))?, next));
         }
-        let (inside, next) = self.parse_ors(tokens, at + 1, depth - 1, condition)?;
+        let (id, next) = self.parse_joined(Connective::Or, &inside, at + 1)?;
         if is_kind_at(tokens, next, TokenKind::Close) {
-            Ok((inside, next + 1))
+            Ok((id, next + 1))
         } else {
             Err(fault_at(tokens, next, ExprKind::Malformed))
         }
     }
 
-    /// Reads factors joined by `&&`.
+    /// Reads parts joined by a connective.
     #[cycle(parser)]
-    fn parse_ands(
-        &mut self,
-        tokens: &[Token<'_>],
-        at: usize,
-        depth: usize,
-        condition: bool,
-    ) -> Result<(u32, usize), ExprFault>
-        requires within { at ≤ length tokens.now }
+    #[inline(never)]
+    fn parse_joined(&mut self, connective: Connective, input: &Input<'_>, at: usize) -> Parsed
+        requires within { at ≤ length input.now.tokens.now }
         requires sound { IsSound self.old }
-        ensures sound { IsSound self.new }
-        ensures extends { Extends self.old self.new }
-        ensures names { IfOk result (λ r. HasNamesOf self.old self.new r.0) }
-        ensures parses { Parses self.new (lexemes_of tokens.now) condition at (ands_read depth (drop at (lexemes_of tokens.now))) result }
+        ensures { IsRead self.old self.new input.now at (joined_read connective) result }
     {
-        let (mut left, mut next) = self.parse_factor(tokens, at, depth, condition)?;
-        'ands: while is_kind_at(tokens, next, TokenKind::And) {
-            let (right, after) = self.parse_factor(tokens, next + 1, depth, condition)?;
-            left = self.push(Node::Joined(Connective::And, left, right))?;
+        let (mut left, mut next) = self.parse_part(connective, input, at)?;
+        'parts: while is_connective_at(input.tokens, next, connective) {
+            let (right, after) = self.parse_part(connective, input, next + 1)?;
+            left = self.push(Node::Joined(connective, left, right))?;
             next = after;
         }
         Ok((left, next))
     }
 
-    /// Reads conjunctions joined by `||`.
+    /// Reads a part of what a connective joins: a factor by `&&`, and by `||` factors joined by `&&`.
     #[cycle(parser)]
-    #[inline(never)]
-    fn parse_ors(
-        &mut self,
-        tokens: &[Token<'_>],
-        at: usize,
-        depth: usize,
-        condition: bool,
-    ) -> Result<(u32, usize), ExprFault>
-        requires within { at ≤ length tokens.now }
+    fn parse_part(&mut self, connective: Connective, input: &Input<'_>, at: usize) -> Parsed
+        requires within { at ≤ length input.now.tokens.now }
         requires sound { IsSound self.old }
-        ensures sound { IsSound self.new }
-        ensures extends { Extends self.old self.new }
-        ensures names { IfOk result (λ r. HasNamesOf self.old self.new r.0) }
-        ensures parses { Parses self.new (lexemes_of tokens.now) condition at (ors_read depth (drop at (lexemes_of tokens.now))) result }
+        ensures { IsRead self.old self.new input.now at (part_read connective) result }
     {
-        let (mut left, mut next) = self.parse_ands(tokens, at, depth, condition)?;
-        'ors: while is_kind_at(tokens, next, TokenKind::Or) {
-            let (right, after) = self.parse_ands(tokens, next + 1, depth, condition)?;
-            left = self.push(Node::Joined(Connective::Or, left, right))?;
-            next = after;
+        match connective {
+            Connective::And => self.parse_factor(input, at),
+            Connective::Or => self.parse_joined(Connective::And, input, at),
         }
-        Ok((left, next))
     }
 
     /// Reads all tokens from index `at` on as one expression, with at most `depth` `!` and parentheses around a symbol, and
@@ -255,7 +244,12 @@ impl NodeStore {
         if let Some(text) = last_word(tokens, at) {
             return self.parse_word(text, condition);
         }
-        let (id, next) = self.parse_ors(tokens, at, depth, condition)?;
+        let input = Input {
+            tokens,
+            depth,
+            condition,
+        };
+        let (id, next) = self.parse_joined(Connective::Or, &input, at)?;
         if next < tokens.len() {
             return Err(fault_at(tokens, next, ExprKind::Malformed));
         }

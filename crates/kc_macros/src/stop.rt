@@ -1,7 +1,7 @@
 //! Places, faults and notices of the expansion, and why it stops.
 use super::bytes::Bytes;
 use kc_macros_model::{MacroKind, MacroNoticeKind};
-use std::alloc::{AllocError, AllocFailed};
+use std::alloc::AllocError;
 
 /// A line of a file: the path of the file and the number of the line, which is 0 for the file as a whole.
 #[derive(Clone, Copy)]
@@ -42,24 +42,14 @@ pub enum Stop {
 /// The value of a text, `None` where it depends on a question without an answer; or why the expansion stops.
 pub(crate) type ValueResult = Result<Option<Bytes>, Stop>;
 
-impl From<AllocError> for Stop {
+/// Memory ran out: an `AllocError`, or an error that becomes one.
+impl<E: Into<AllocError> + Drop> From<E> for Stop {
     ghost use Rattle.std.specs.Prelude.{◌≡◌};
     ghost use Rattle.kc_macros.specs.declared.stop.Stop.TheVariants.{OutOfMemory};
 
     ghost from_gives = { λ _ e. e ≡ OutOfMemory };
 
-    fn from(_error: AllocError) -> Stop {
-        Stop::OutOfMemory
-    }
-}
-
-impl<T: Drop> From<AllocFailed<T>> for Stop {
-    ghost use Rattle.std.specs.Prelude.{◌≡◌};
-    ghost use Rattle.kc_macros.specs.declared.stop.Stop.TheVariants.{OutOfMemory};
-
-    ghost from_gives = { λ _ e. e ≡ OutOfMemory };
-
-    fn from(_error: AllocFailed<T>) -> Stop {
+    fn from(_error: E) -> Stop {
         Stop::OutOfMemory
     }
 }

@@ -2,7 +2,7 @@
 ghost use Rattle.std.specs.Prelude.{◌≡◌, ℕ, List};
 ghost use Rattle.kc_solver.specs.declared.orders.OrderFault.TheVariants.{OutOfMemory};
 
-use std::alloc::{AllocError, AllocFailed};
+use std::alloc::AllocError;
 use std::error::Error;
 use std::fmt;
 use std::marker::Model;
@@ -49,18 +49,11 @@ impl fmt::Display for OrderFault {
 
 impl Error for OrderFault {}
 
-impl From<AllocError> for OrderFault {
+/// Memory ran out: an `AllocError`, or an error that becomes one.
+impl<E: Into<AllocError> + Drop> From<E> for OrderFault {
     ghost from_gives = { λ _ e. e ≡ OutOfMemory };
 
-    fn from(_e: AllocError) -> OrderFault {
-        OrderFault::OutOfMemory
-    }
-}
-
-impl<T: Drop> From<AllocFailed<T>> for OrderFault {
-    ghost from_gives = { λ _ e. e ≡ OutOfMemory };
-
-    fn from(_e: AllocFailed<T>) -> OrderFault {
+    fn from(_e: E) -> OrderFault {
         OrderFault::OutOfMemory
     }
 }

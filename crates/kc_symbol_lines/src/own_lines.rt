@@ -59,6 +59,18 @@ pub(crate) struct FileLines<'a> {
     pub lines: &'a [Line],
 }
 
+impl FileLines<'_> {
+    /// The place of a line of the file.
+    fn place_of(&self, line: u32) -> Position
+        ensures { result ≡ position_at self.now.file line }
+    {
+        Position {
+            file: self.file,
+            line,
+        }
+    }
+}
+
 /// Appends the conditions of the `depends on`, or of the `visible if`, among some lines.
 pub(crate) fn push_parts(
     found: &mut Vec<LocatedExpr>,
@@ -68,11 +80,8 @@ pub(crate) fn push_parts(
     ensures { OnOk result (found.new.items ≡ found.old.items ++ parts_in which own.entry.file own.entry.lines.now) }
 {
     for line in own.lines {
-        let at = Position {
-            file: own.file,
-            line: line.number,
-        };
-        push_located(found, at, line.attribute.conjunct_given(which))?;
+        let expr = line.attribute.conjunct_given(which);
+        push_located(found, own.place_of(line.number), expr)?;
     }
     Ok(())
 }
@@ -87,11 +96,7 @@ pub(crate) fn push_places(
 {
     for line in own.lines {
         if is_given(given, &line.attribute) {
-            let at = Position {
-                file: own.file,
-                line: line.number,
-            };
-            found.push(at)?;
+            found.push(own.place_of(line.number))?;
         }
     }
     Ok(())
@@ -122,11 +127,7 @@ fn prompt_parts(
 {
     let mut parts = dependency_parts(alloc, enclosing, own)?;
     parts.extend_from_slice(&enclosing.visibles)?;
-    let at = Position {
-        file: own.file,
-        line,
-    };
-    push_located(&mut parts, at, condition)?;
+    push_located(&mut parts, own.place_of(line), condition)?;
     Ok(parts)
 }
 

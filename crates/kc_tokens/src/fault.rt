@@ -1,6 +1,6 @@
 //! Faults of a line's tokens and of expressions.
 use kc_value::variant_name;
-use std::alloc::{AllocError, AllocFailed};
+use std::alloc::AllocError;
 use thiserror::Error;
 
 /// The kind of a fault of a line's tokens or of an expression; it is displayed by its name.
@@ -47,27 +47,14 @@ pub struct ExprFault {
     pub kind: ExprKind,
 }
 
-impl<T: Drop> From<AllocFailed<T>> for ExprFault {
+/// Memory ran out: an `AllocError`, or an error that becomes one.
+impl<E: Into<AllocError> + Drop> From<E> for ExprFault {
     ghost use Rattle.std.specs.Prelude.{◌≡◌};
     ghost use Rattle.kc_tokens.specs.declared.fault.ExprKind.TheVariants.{OutOfMemory};
 
     ghost from_gives = { λ _ e. (e.kind ≡ OutOfMemory) × (e.offset ≡ 0) };
 
-    fn from(_: AllocFailed<T>) -> ExprFault {
-        ExprFault {
-            offset: 0,
-            kind: ExprKind::OutOfMemory,
-        }
-    }
-}
-
-impl From<AllocError> for ExprFault {
-    ghost use Rattle.std.specs.Prelude.{◌≡◌};
-    ghost use Rattle.kc_tokens.specs.declared.fault.ExprKind.TheVariants.{OutOfMemory};
-
-    ghost from_gives = { λ _ e. (e.kind ≡ OutOfMemory) × (e.offset ≡ 0) };
-
-    fn from(_: AllocError) -> ExprFault {
+    fn from(_: E) -> ExprFault {
         ExprFault {
             offset: 0,
             kind: ExprKind::OutOfMemory,

@@ -12,7 +12,7 @@ coefficient (byte ∷ bytes) = byte + 256 * coefficient bytes
 abbrev pub with_coefficient : (key value next : ℕ) → ℕ
 with_coefficient key value next = ((value % 2 ^ 61 + next) * (key % 2 ^ 60)) % (2 ^ 61 - 1)
 
--- the value after further bytes, of which so many pieces of seven are followed by others
+-- the value after further bytes, of which `pieces` pieces of seven come before the last piece
 unfoldable pub with_pieces : (key value pieces : ℕ) (bytes : List ℕ) → ℕ
 with_pieces key value zero bytes = with_coefficient key value (coefficient bytes)
 with_pieces key value (suc pieces) bytes = with_pieces key (with_coefficient key value (coefficient (take 7 bytes))) pieces (drop 7 bytes)

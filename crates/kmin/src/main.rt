@@ -10,7 +10,7 @@ use kc_value::{FromRead, ToWrite};
 use kmin_cli::{ParsedWords, command_first, read_words};
 use kmin_disk::SystemDisk;
 use kmin_options::{Question, Task, Verb};
-use kmin_run::run;
+use kmin_run::Program;
 use line_files::SystemLines;
 use standard_error::StandardError;
 use std::alloc::Global;
@@ -31,21 +31,16 @@ fn run_words(rt: &HostRuntime) -> io::Result<u8> {
     let words: Vec<&str> = words.iter().map(|word| word.as_str()).collect(rt.alloc())?;
     write_waiting(rt, &words);
     write_without_files(rt, &words);
-    let mut input = FromRead::new(rt.stdin());
-    let mut out = ToWrite::new(rt.stdout());
-    let mut err = StandardError::new(rt.alloc(), rt.stderr(), SystemLines::new(rt));
-    let mut files = SystemFiles::new(rt);
-    let mut disk = SystemDisk::new(rt, new_seed(rt));
-    let status = run(
-        rt.alloc(),
-        &words,
-        &mut files,
-        &mut disk,
-        &mut input,
-        &mut out,
-        &mut err,
-    );
-    err.end(out.is_closed());
+    let mut program = Program {
+        files: SystemFiles::new(rt),
+        disk: SystemDisk::new(rt, new_seed(rt)),
+        input: FromRead::new(rt.stdin()),
+        out: ToWrite::new(rt.stdout()),
+        err: StandardError::new(rt.alloc(), rt.stderr(), SystemLines::new(rt)),
+    };
+    let status = program.run(rt.alloc(), &words);
+    let is_closed = program.out.is_closed();
+    program.err.end(is_closed);
     Ok(status)
 }
 

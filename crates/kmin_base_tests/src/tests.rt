@@ -11,6 +11,7 @@ macro_rules! holds_over_disk {
 }
 
 mod disks;
+mod other_bytes;
 mod sessions;
 mod streams;
 mod sums;

@@ -1,11 +1,17 @@
 -- What a parse of the program's words gives.
 use Rattle.std.proofs.Common.{◌≡◌, ℕ, Bool, true, false, List, option_map, unwrap_or, Option, Some, None, Result, Ok, Err, IfOk, refl, sym, ap, ap₂, ◌∙◌}
+use Rattle.std.specs.Borrow.{Bor}
+use Rattle.std.specs.Prelude.{String}
+use Rattle.std.specs.declared.alloc.Global.{Global}
 use Rattle.clap.specs.Words.{App, HasMatchesOf, is_simple, rows_of, subcommand_rows_of, takes}
 use Rattle.clap.specs.declared.parser.matches.ArgMatches.{ArgMatches}
 use Rattle.clap.specs.declared.parser.matches.Found.{Found}
 use Rattle.kmin_commands.specs.Declarations.{IsProgram}
+use Rattle.kmin_options.specs.declared.refusal.Refusal.{Refusal}
+use Rattle.kmin_options.specs.declared.refusal.Refusal.TheVariants.{Words}
 use Rattle.kmin_cli.specs.declared.command_line.ParsedWords.{ParsedWords}
-use Rattle.kmin_cli.specs.between.WordValues.{HasValues}
+use Rattle.kmin_cli.specs.declared.command_line.ParsedWords.TheVariants.{Refused}
+use Rattle.kmin_cli.specs.between.WordValues.{Gives, HasValues}
 use Rattle.kmin_cli.specs.Parses.{AreParsedAs, IsText, command, text}
 
 -- a value of two parts that are known is known
@@ -31,3 +37,8 @@ pub of_text : {E : Type 0} (words : List (List ℕ)) (app : App) (P : Type 0) (r
     → (takes app words ≡ true → P) → IfOk result IsText → IfOk result (λ parsed. P → ⊥) → IfOk result (AreParsedAs words)
 of_text words app P (Ok parsed) is memory given other = text (app, is, not_true _ (λ e. other (memory e))) given
 of_text words app P (Err e) is memory given other = tt
+
+-- the message of a refusal has the property that it is given
+pub of_refusal : (P : ParsedWords → Type 0) (result : Result ParsedWords Refusal) (line : Bor (List ℕ)) (message : String Global)
+    → result ≡ Err (Words line) → message.bytes.items ≡ line.now → Gives P result → P (Refused message)
+of_refusal P result line message is same given = (rw is at given) message same

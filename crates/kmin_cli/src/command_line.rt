@@ -114,99 +114,32 @@ fn named_job<'a>(
 ) -> Result<ParsedWords<'a>, AllocError>
     ensures { IfOk result (parsed.HasValues name.now (found_of matches.now)) }
 {
+    match accepted_job(alloc, name, matches) {
+        Ok(job) => Ok(job),
+        Err(Refusal::Words(line)) => Ok(ParsedWords::Refused(String::from_str(alloc, line)?)),
+        Err(Refusal::OutOfMemory) => Err(AllocError),
+    }
+}
+
+/// The job of a command by its name.
+fn accepted_job<'a>(
+    alloc: Global,
+    name: &str,
+    matches: &ArgMatches<'a>,
+) -> Result<ParsedWords<'a>, Refusal>
+    ensures { parsed.Gives (parsed.HasValues name.now (found_of matches.now)) result }
+{
     match name {
-        "wants" => parsed_questions(alloc, matches),
-        "tidy" => parsed_tidy_job(alloc, matches),
-        "explain" => parsed_explain_job(alloc, matches),
-        _ => parsed_listing(alloc, name, matches),
-    }
-}
-
-/// A command over one configuration that is written or listed, or whose symbols are listed with reasons; or the message for a value
-/// that isn't allowed.
-fn parsed_listing<'a>(
-    alloc: Global,
-    name: &str,
-    matches: &ArgMatches<'a>,
-) -> Result<ParsedWords<'a>, AllocError>
-    ensures { IfOk result (parsed.IsListing name.now (found_of matches.now)) }
-{
-    if asks_for_reasons(name, matches) {
-        parsed_reasons(alloc, name, matches)
-    } else {
-        parsed_job(alloc, name, matches)
-    }
-}
-
-/// The command `missed` or `check` that asks for reasons, or the message for a value that isn't allowed.
-fn parsed_reasons<'a>(
-    alloc: Global,
-    name: &str,
-    matches: &ArgMatches<'a>,
-) -> Result<ParsedWords<'a>, AllocError>
-    ensures { IfOk result (parsed.IsExplainJob (parsed.reasons_job_of name.now (found_of matches.now))) }
-{
-    match reasons_job_of(alloc, name, matches) {
-        Ok(explain_job) => Ok(ParsedWords::Explain(explain_job)),
-        Err(Refusal::Words(line)) => Ok(ParsedWords::Refused(String::from_str(alloc, line)?)),
-        Err(Refusal::OutOfMemory) => Err(AllocError),
-    }
-}
-
-/// The command `wants`, or the message for a value that isn't allowed.
-fn parsed_questions<'a>(
-    alloc: Global,
-    matches: &ArgMatches<'a>,
-) -> Result<ParsedWords<'a>, AllocError>
-    ensures { IfOk result (parsed.AreQuestions (parsed.questions_of (found_of matches.now))) }
-{
-    match questions_of(alloc, matches) {
-        Ok(questions) => Ok(ParsedWords::Questions(questions)),
-        Err(Refusal::Words(line)) => Ok(ParsedWords::Refused(String::from_str(alloc, line)?)),
-        Err(Refusal::OutOfMemory) => Err(AllocError),
-    }
-}
-
-/// The command `tidy`, or the message for a value that isn't allowed.
-fn parsed_tidy_job<'a>(
-    alloc: Global,
-    matches: &ArgMatches<'a>,
-) -> Result<ParsedWords<'a>, AllocError>
-    ensures { IfOk result (parsed.IsTidyJob (parsed.tidy_job_of (found_of matches.now))) }
-{
-    match tidy_job_of(alloc, matches) {
-        Ok(tidy_job) => Ok(ParsedWords::Tidy(tidy_job)),
-        Err(Refusal::Words(line)) => Ok(ParsedWords::Refused(String::from_str(alloc, line)?)),
-        Err(Refusal::OutOfMemory) => Err(AllocError),
-    }
-}
-
-/// The command `explain`, or the message for a value that isn't allowed.
-fn parsed_explain_job<'a>(
-    alloc: Global,
-    matches: &ArgMatches<'a>,
-) -> Result<ParsedWords<'a>, AllocError>
-    ensures { IfOk result (parsed.IsExplainJob (parsed.explain_job_of (found_of matches.now))) }
-{
-    match explain_job_of(alloc, matches) {
-        Ok(explain_job) => Ok(ParsedWords::Explain(explain_job)),
-        Err(Refusal::Words(line)) => Ok(ParsedWords::Refused(String::from_str(alloc, line)?)),
-        Err(Refusal::OutOfMemory) => Err(AllocError),
-    }
-}
-
-/// A command over configuration files, or the message for a value that isn't allowed.
-fn parsed_job<'a>(
-    alloc: Global,
-    name: &str,
-    matches: &ArgMatches<'a>,
-) -> Result<ParsedWords<'a>, AllocError>
-    ensures { IfOk result (parsed.AreJob (parsed.job_and_output_of name.now (found_of matches.now))) }
-{
-    match job_and_output(alloc, name, matches) {
-        Ok((job, output)) => Ok(with_output(job, output)),
-        Err(Refusal::Words(line)) => Ok(ParsedWords::Refused(String::from_str(alloc, line)?)),
-        Err(Refusal::OutOfMemory) => Err(AllocError),
+        "wants" => Ok(ParsedWords::Questions(questions_of(alloc, matches)?)),
+        "tidy" => Ok(ParsedWords::Tidy(tidy_job_of(alloc, matches)?)),
+        "explain" => Ok(ParsedWords::Explain(explain_job_of(alloc, matches)?)),
+        _ if asks_for_reasons(name, matches) => {
+            Ok(ParsedWords::Explain(reasons_job_of(alloc, name, matches)?))
+        }
+        _ => {
+            let (job, output) = job_and_output(alloc, name, matches)?;
+            Ok(with_output(job, output))
+        }
     }
 }
 

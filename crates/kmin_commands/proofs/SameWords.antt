@@ -1,9 +1,9 @@
 -- Lists of the same words, and the words that name the program's commands and options.
-use Rattle.std.proofs.Common.{◌≡◌, ℕ, Bool, true, false, true≢false, ◌&&◌, ◌||◌, not, List, [], ◌∷◌, ◌++◌, sym, refl, ap, subst, ◌∙◌}
+use Rattle.std.proofs.Common.{◌≡◌, Bool, true, false, true≢false, ◌&&◌, ◌||◌, not, List, [], ◌∷◌, sym, refl, ap, subst}
 use Rattle.std.specs.Prelude.{bytes_eq}
-use Rattle.std.specs.List.{list_all, list_any}
+use Rattle.std.specs.List.{list_all}
 use Rattle.std.proofs.lemmas.Slice.Eq.{bytes_eq-Decides}
-use Rattle.clap.specs.Words.{App, Rule, Text}
+use Rattle.clap.specs.Words.{App, Text}
 use Rattle.clap.proofs.OnLiterals.{clap_on_literals}
 use Rattle.kmin_commands.specs.declared.commands.Choices.{Choices}
 use Rattle.kmin_commands.specs.Declarations.{IsProgram, program}

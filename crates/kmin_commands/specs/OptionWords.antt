@@ -1,5 +1,5 @@
 -- The words of the command line that name a command or give an option.
-use Rattle.std.specs.Prelude.{◌≡◌, ℕ, ◌+◌, ◌==◌, Bool, true, ◌||◌, List, [], ◌∷◌, ◌++◌, Some, None, filter, map, option_map, unwrap_or, position, take, codes, bytes_eq, nat_eq}
+use Rattle.std.specs.Prelude.{ℕ, ◌==◌, Bool, ◌||◌, List, [], ◌∷◌, ◌++◌, Some, None, filter, map, option_map, unwrap_or, position, take, codes, bytes_eq, nat_eq}
 use Rattle.std.specs.List.{flat_map, list_any, starts_with}
 use Rattle.clap.specs.Simple.{values_of}
 use Rattle.clap.specs.Walk.{action_of}

@@ -5,146 +5,12 @@ ghost use Rattle.clap.specs.Words.{App, Rule, Shape, app_of, is_simple, with_sub
 ghost use Rattle.kmin_commands.specs.Declarations as declared;
 ghost use Rattle.kmin_commands.specs.checker.Commands.{IsDeclared, IsReadBy, HasApp, HasDeclaredCommands, IsCommandRequired};
 
-use crate::help_texts;
+use crate::help_texts::{
+    self, CHECK, COMPARE, CommandHelp, EXPLAIN, FULL, MIN, MISSED, TIDY, WANTS,
+};
 use crate::messages::{self, Row, message_tables};
 use clap::{Arg, ArgAction, Command};
 use std::alloc::{AllocError, Global};
-
-/// A command's name and its help: one line, the long text, and the text after its options.
-struct CommandHelp {
-    name: &'static str,
-    about: &'static str,
-    long: &'static str,
-    after: &'static str,
-}
-
-/// The command that writes a minimal file.
-static MIN: CommandHelp = CommandHelp {
-    name: "min",
-    about: help_texts::MIN,
-    long: help_texts::MIN_LONG,
-    after: help_texts::MIN_AFTER,
-};
-
-/// The command that writes a full file.
-static FULL: CommandHelp = CommandHelp {
-    name: "full",
-    about: help_texts::FULL,
-    long: help_texts::FULL_LONG,
-    after: help_texts::FULL_AFTER,
-};
-
-/// The command that lists the symbols without their assigned value.
-static MISSED: CommandHelp = CommandHelp {
-    name: "missed",
-    about: help_texts::MISSED,
-    long: help_texts::MISSED_LONG,
-    after: help_texts::MISSED_AFTER,
-};
-
-/// The command that lists the symbols that are selected against their dependencies.
-static CHECK: CommandHelp = CommandHelp {
-    name: "check",
-    about: help_texts::CHECK,
-    long: help_texts::CHECK_LONG,
-    after: help_texts::CHECK_AFTER,
-};
-
-/// The command that says why symbols have their values.
-static EXPLAIN: CommandHelp = CommandHelp {
-    name: "explain",
-    about: help_texts::EXPLAIN,
-    long: help_texts::EXPLAIN_LONG,
-    after: help_texts::EXPLAIN_AFTER,
-};
-
-/// The command over two configurations of one file each.
-static COMPARE: CommandHelp = CommandHelp {
-    name: "compare",
-    about: help_texts::COMPARE,
-    long: help_texts::COMPARE_LONG,
-    after: help_texts::COMPARE_AFTER,
-};
-
-/// The command over any number of files, each a configuration of its own.
-static TIDY: CommandHelp = CommandHelp {
-    name: "tidy",
-    about: help_texts::TIDY,
-    long: help_texts::TIDY_LONG,
-    after: help_texts::TIDY_AFTER,
-};
-
-/// The command over a tree without configuration files.
-static WANTS: CommandHelp = CommandHelp {
-    name: "wants",
-    about: help_texts::WANTS,
-    long: help_texts::WANTS_LONG,
-    after: help_texts::WANTS_AFTER,
-};
-
-/// An option with a default: its name, the name of its value, the default, and its help.
-struct OptionHelp {
-    name: &'static str,
-    value: &'static str,
-    default: &'static str,
-    help: &'static str,
-}
-
-/// The option for the folder of the tree.
-static ROOT: OptionHelp = OptionHelp {
-    name: "root",
-    value: "DIR",
-    default: ".",
-    help: help_texts::ROOT,
-};
-
-/// The option for the tree's first Kconfig file.
-static TREE: OptionHelp = OptionHelp {
-    name: "tree",
-    value: "PATH",
-    default: "Kconfig",
-    help: help_texts::TREE,
-};
-
-/// The option for the prefix of symbol names in configuration files.
-static PREFIX: OptionHelp = OptionHelp {
-    name: "prefix",
-    value: "TEXT",
-    default: "CONFIG_",
-    help: help_texts::PREFIX,
-};
-
-/// The option for the profile, one of `PROFILES`.
-static IMPLY: OptionHelp = OptionHelp {
-    name: "imply",
-    value: "PROFILE",
-    default: "present",
-    help: help_texts::IMPLY,
-};
-
-/// The option for the form of strings in configuration files, one of `FORMS`.
-static STRINGS: OptionHelp = OptionHelp {
-    name: "strings",
-    value: "FORM",
-    default: "escaped",
-    help: help_texts::STRINGS,
-};
-
-/// The option for the form of messages, one of `MESSAGE_FORMS`.
-static MESSAGES: OptionHelp = OptionHelp {
-    name: "messages",
-    value: "FORM",
-    default: "plain",
-    help: help_texts::MESSAGES,
-};
-
-/// The option for the form of what is listed, one of `OUTPUT_FORMS`.
-static FORMAT: OptionHelp = OptionHelp {
-    name: "format",
-    value: "FORM",
-    default: "plain",
-    help: help_texts::FORMAT,
-};
 
 /// The values of `--format`.
 static OUTPUT_FORMS: [&str; 2] = ["plain", "json"];
@@ -454,7 +320,7 @@ fn with_options<'a>(
 {
     let command = with_place(alloc, described(alloc, help))?;
     let command = command.arg(language(alloc, choices))?;
-    let command = command.arg(option(alloc, &PREFIX))?;
+    let command = command.arg(option(alloc, "prefix", "TEXT", "CONFIG_", help_texts::PREFIX))?;
     let command = command.arg(flag(alloc, "no-prefix", help_texts::NO_PREFIX))?;
     let command = command.arg(strings(alloc, choices))?;
     let command = command.arg(imply(alloc, choices))?;
@@ -467,8 +333,8 @@ fn with_options<'a>(
 fn with_place<'a>(alloc: Global, command: Command<'a>) -> Result<Command<'a>, AllocError>
     ensures { IfOk result (λ made. (shape : Shape) → IsDeclared shape command.entry → IsDeclared (fold declared.added shape declared.place) made) }
 {
-    let command = command.arg(option(alloc, &ROOT))?;
-    command.arg(option(alloc, &TREE))
+    let command = command.arg(option(alloc, "root", "DIR", ".", help_texts::ROOT))?;
+    command.arg(option(alloc, "tree", "PATH", "Kconfig", help_texts::TREE))
 }
 
 /// Adds the options that turn the expansion of macros on to a command.
@@ -536,44 +402,32 @@ fn one_of<'a>(option: Arg<'a>, long_help: &'a str, values: &'a [&'a str]) -> Arg
 fn strings<'a>(alloc: Global, choices: &Choices<'a>) -> Arg<'a>
     ensures { IsReadBy (declared.one_of (declared.option (codes "strings") (codes "escaped")) choices.now.forms) result }
 {
-    one_of(
-        option(alloc, &STRINGS),
-        help_texts::STRINGS_LONG,
-        choices.forms,
-    )
+    let strings = option(alloc, "strings", "FORM", "escaped", help_texts::STRINGS);
+    one_of(strings, help_texts::STRINGS_LONG, choices.forms)
 }
 
 /// The option for the profile.
 fn imply<'a>(alloc: Global, choices: &Choices<'a>) -> Arg<'a>
     ensures { IsReadBy (declared.one_of (declared.option (codes "imply") (codes "present")) choices.now.profiles) result }
 {
-    one_of(
-        option(alloc, &IMPLY),
-        help_texts::IMPLY_LONG,
-        choices.profiles,
-    )
+    let imply = option(alloc, "imply", "PROFILE", "present", help_texts::IMPLY);
+    one_of(imply, help_texts::IMPLY_LONG, choices.profiles)
 }
 
 /// The option for the form of messages.
 fn message_form<'a>(alloc: Global, choices: &Choices<'a>) -> Arg<'a>
     ensures { IsReadBy (declared.message_form choices.now) result }
 {
-    one_of(
-        option(alloc, &MESSAGES),
-        help_texts::MESSAGES_LONG,
-        choices.messages,
-    )
+    let messages = option(alloc, "messages", "FORM", "plain", help_texts::MESSAGES);
+    one_of(messages, help_texts::MESSAGES_LONG, choices.messages)
 }
 
 /// The option for the form of what is listed.
 fn output_form<'a>(alloc: Global, choices: &Choices<'a>) -> Arg<'a>
     ensures { IsReadBy (declared.output_form choices.now) result }
 {
-    one_of(
-        option(alloc, &FORMAT),
-        help_texts::FORMAT_LONG,
-        choices.outputs,
-    )
+    let format = option(alloc, "format", "FORM", "plain", help_texts::FORMAT);
+    one_of(format, help_texts::FORMAT_LONG, choices.outputs)
 }
 
 /// A command with its help and no options.
@@ -587,8 +441,14 @@ fn described<'a>(alloc: Global, help: &CommandHelp) -> Command<'a>
 }
 
 /// An option with a value and a default.
-fn option<'a>(alloc: Global, help: &OptionHelp) -> Arg<'a>
-    ensures { IsReadBy (declared.option help.now.name.now help.now.default.now) result }
+fn option<'a>(
+    alloc: Global,
+    name: &'a str,
+    value: &'a str,
+    default: &'a str,
+    help: &'a str,
+) -> Arg<'a>
+    ensures { IsReadBy (declared.option name.entry.now default.entry.now) result }
 {
-    valued(alloc, help.name, help.value, help.help).default_value(help.default)
+    valued(alloc, name, value, help).default_value(default)
 }

@@ -8,6 +8,14 @@ pub(crate) const ABOUT: &str =
 pub(crate) const USAGE: &str = "kmin <COMMAND> [OPTIONS] [FILE]...
        kmin < BUNDLE";
 
+/// A command's name and its help: one line, the long text, and the text after its options.
+pub(crate) struct CommandHelp {
+    pub(crate) name: &'static str,
+    pub(crate) about: &'static str,
+    pub(crate) long: &'static str,
+    pub(crate) after: &'static str,
+}
+
 /// A text, and the exit statuses of a command that lists symbols.
 macro_rules! with_listing_statuses {
     ($text:literal) => {
@@ -34,16 +42,17 @@ Exit status: 0 done, 2 command line refused, 3 tree refused, 4 configuration fil
     };
 }
 
-pub(crate) const MIN: &str = "Writes the minimal file: the lines that a tree's defaults don't give";
-
-pub(crate) const MIN_LONG: &str = "\
+/// The command that writes a minimal file.
+pub(crate) static MIN: CommandHelp = CommandHelp {
+    name: "min",
+    about: "Writes the minimal file: the lines that a tree's defaults don't give",
+    long: "\
 Writes the minimal file of the configuration: a line for each symbol, and each choice, whose value
 isn't the one that it would have without that line. Reading it back gives every symbol its value
 again, and without any one of its lines some symbol has another value. This is the file that is
-kept as a board's defconfig, in the way of `make savedefconfig`.";
-
-pub(crate) const MIN_AFTER: &str = with_statuses!(
-    "\
+kept as a board's defconfig, in the way of `make savedefconfig`.",
+    after: with_statuses!(
+        "\
 Example:
   kmin min -o defconfig .config
 
@@ -51,12 +60,14 @@ The output is made whole before its first byte is written. With `-o` FILE may be
 too: it is replaced at the end, whole or not at all. A line that the tree can't read is then never
 lost unasked: a file with a notice is refused, unless --drop is given, too. A shell empties
 `> FILE` before kmin reads it."
-);
+    ),
+};
 
-pub(crate) const FULL: &str =
-    "Writes the full file: the symbols that are visible, selected, implied or have a default";
-
-pub(crate) const FULL_LONG: &str = "\
+/// The command that writes a full file.
+pub(crate) static FULL: CommandHelp = CommandHelp {
+    name: "full",
+    about: "Writes the full file: the symbols that are visible, selected, implied or have a default",
+    long: "\
 Writes the full file of the configuration, a .config in the way of `make olddefconfig`, without a
 header: headings of menus and comments, and each symbol that is visible. Of the others, members of
 choices aside, it has those with an active default, the first whose condition isn't n (of a bool
@@ -66,17 +77,19 @@ dependency isn't n. A line is `CONFIG_NAME=value`, of a bool or tristate that is
 bound of its range.
 
 Several FILEs are merged: each overrides those before it. `kmin missed` lists afterwards which
-assignments had no effect.";
-
-pub(crate) const FULL_AFTER: &str = with_statuses!(
-    "\
+assignments had no effect.",
+    after: with_statuses!(
+        "\
 Example:
   kmin full --root firmware configs/board_defconfig -o .config"
-);
+    ),
+};
 
-pub(crate) const MISSED: &str = "Lists the symbols that don't have the value that a FILE assigns";
-
-pub(crate) const MISSED_LONG: &str = "\
+/// The command that lists the symbols without their assigned value.
+pub(crate) static MISSED: CommandHelp = CommandHelp {
+    name: "missed",
+    about: "Lists the symbols that don't have the value that a FILE assigns",
+    long: "\
 Lists, one name a line, the symbols whose assigned value isn't their value: since a dependency
 isn't met, a number is out of its range, or another symbol selects them. A member of a choice is
 listed if it was chosen and isn't selected. The status is 0 with and without such lines; with
@@ -85,56 +98,60 @@ listed if it was chosen and isn't selected. The status is 0 with and without suc
 With --long a line for each, `PATH:LINE: NAME: ASKED -> VALUE: WHY`, has the line that asks, the
 value that the symbol has and why, as `kmin explain` says it. Lines that a later FILE overrides are
 listed, too, as `PATH:LINE: NAME: ASKED -> overridden by PATH:LINE`. With --by-cause the symbols
-are listed below what keeps them from their values: `COUNT VALUE: WHY`, the largest group first.";
+are listed below what keeps them from their values: `COUNT VALUE: WHY`, the largest group first.",
+    after: with_listing_statuses!(
+        "\
+Example, a check that fails where a symbol is listed, and where kmin fails, and what keeps most:
+  kmin missed board.config debug.config
+  kmin missed --exit-code board.config debug.config
+  kmin missed --by-cause board.config debug.config"
+    ),
+};
 
 pub(crate) const LONG_MISSED: &str = "Lists each line that isn't taken, and why";
 
 pub(crate) const BY_CAUSE: &str = "Lists the symbols below what keeps them; not with --long";
 
-pub(crate) const MISSED_AFTER: &str = with_listing_statuses!(
-    "\
-Example, a check that fails where a symbol is listed, and where kmin fails, and what keeps most:
-  kmin missed board.config debug.config
-  kmin missed --exit-code board.config debug.config
-  kmin missed --by-cause board.config debug.config"
-);
-
-pub(crate) const CHECK: &str = "Lists the symbols that are selected against their dependencies";
-
-pub(crate) const CHECK_LONG: &str = "\
+/// The command that lists the symbols that are selected against their dependencies.
+pub(crate) static CHECK: CommandHelp = CommandHelp {
+    name: "check",
+    about: "Lists the symbols that are selected against their dependencies",
+    long: "\
 Lists, as `unmet NAME`, the symbols that another symbol selects although their own dependencies
 aren't met. The status is 0 with and without such lines; with --exit-code it is 1 where there are
 any.
 
 With --long a line for each has the place of its first definition, what selects it, and what is
-unmet: `PATH:LINE: NAME: VALUE: selected by NAME (y) (PATH:LINE); unmet: PART (n) (PATH:LINE)`.";
+unmet: `PATH:LINE: NAME: VALUE: selected by NAME (y) (PATH:LINE); unmet: PART (n) (PATH:LINE)`.",
+    after: with_listing_statuses!(
+        "\
+Example, of a check that fails where there is any such line, and where kmin fails:
+  kmin check --exit-code board.config"
+    ),
+};
 
 pub(crate) const LONG_CHECK: &str = "Says what selects each symbol, and what is unmet";
 
-pub(crate) const CHECK_AFTER: &str = with_listing_statuses!(
-    "\
-Example, of a check that fails where there is any such line, and where kmin fails:
-  kmin check --exit-code board.config"
-);
-
-pub(crate) const EXPLAIN: &str = "Says why symbols have their values, and which lines aren't taken";
-
-pub(crate) const EXPLAIN_LONG: &str = "\
+/// The command that says why symbols have their values.
+pub(crate) static EXPLAIN: CommandHelp = CommandHelp {
+    name: "explain",
+    about: "Says why symbols have their values, and which lines aren't taken",
+    long: "\
 Says of each NAME, in several lines, its value and what gives it, with the place of the default or
 range: what the last line asks that says something of it, and whether that is taken; which parts of
 its prompt's condition are too low (`needs`), each with its value and place; which symbols select
 or imply it; and what is unmet where it is selected against its dependencies. NAME is a symbol's
 name, with or without the prefix of configuration files. With --every each symbol of the tree is
-explained, in order of first definition, and no NAME is given.";
-
-pub(crate) const EXPLAIN_AFTER: &str = "\
+explained, in order of first definition, and no NAME is given.",
+    after: "\
 Example:
   kmin explain NF_CONNTRACK_AMANDA,USB_GADGET x86_64_defconfig android-base.config
   kmin explain --every board_defconfig
 
 Exit status: 0 done, 1 with --exit-code a line for a NAME isn't taken, 2 command line refused,
 3 tree refused, 4 configuration file refused or NAME unknown, 5 a read or a write failed, 6 out of
-memory.";
+memory.",
+};
 
 pub(crate) const NAMES: &str = "The names of symbols, with commas between them";
 
@@ -149,9 +166,11 @@ pub(crate) const EXIT_CODE_OF_LINES: &str =
 
 pub(crate) const EXIT_CODE: &str = "Ends with status 1 where a symbol is listed";
 
-pub(crate) const TIDY: &str = "Lists, or rewrites, the files that aren't their own minimal file";
-
-pub(crate) const TIDY_LONG: &str = "\
+/// The command over any number of files, each a configuration of its own.
+pub(crate) static TIDY: CommandHelp = CommandHelp {
+    name: "tidy",
+    about: "Lists, or rewrites, the files that aren't their own minimal file",
+    long: "\
 Goes over configuration files, each alone and over no assignments, with the tree read once, and
 writes a line for each that isn't its own minimal file: `FILE: K out, L in`, how many of its lines
 aren't in its minimal file, and the other way round; `FILE: order` where just their order is
@@ -162,16 +181,16 @@ tree can't read is never lost unasked: a file with a notice is then refused, unl
 given, too. With --strict it is refused with and without --write.
 
 A file that is refused or can't be written is reported and left as it is, and the others are gone
-over. Standard output is written at the end, with --write a line for each file that was replaced.";
-
-pub(crate) const TIDY_AFTER: &str = "\
+over. Standard output is written at the end, with --write a line for each file that was replaced.",
+    after: "\
 Example:
   kmin tidy --root firmware configs/*_defconfig
   git ls-files -z 'configs/*' | kmin tidy --write --from - -z
 
 Exit status: 0 each file is minimal, or is now, 1 some file isn't minimal, 2 command line or list
 refused, 3 tree refused, 4 configuration file or file of answers refused or list too large, 5 a
-read or a write failed, 6 out of memory. Of several files the first refused one decides.";
+read or a write failed, 6 out of memory. Of several files the first refused one decides.",
+};
 
 pub(crate) const WRITE: &str = "Replaces each file that isn't minimal by its minimal file";
 
@@ -187,40 +206,44 @@ pub(crate) const NUL: &str = "Each path in LIST ends with NUL, not with a newlin
 
 pub(crate) const EACH_FILE: &str = "Configuration files, each by itself";
 
-pub(crate) const WANTS: &str = "Lists the questions of a tree's macros that have no answer";
-
-pub(crate) const WANTS_LONG: &str = "\
+/// The command over a tree without configuration files.
+pub(crate) static WANTS: CommandHelp = CommandHelp {
+    name: "wants",
+    about: "Lists the questions of a tree's macros that have no answer",
+    long: "\
 Expands the tree as far as the answers go, and lists the questions that it met and that have no
 answer, each once, a line each: a NAME of the environment, or `$ ` and a command. A command that is
 made of another's answer is listed once that is known, so answer the list and ask again, until
 nothing is listed. Then --unused lists what the files of answers have beyond what the tree asks, in
 their order. kmin itself runs nothing: the script kmin-answer runs the commands of a tree, and adds
-what they print to a file of answers, to be read before it is used.";
-
-pub(crate) const WANTS_AFTER: &str = "\
+what they print to a file of answers, to be read before it is used.",
+    after: "\
 Example, and how a tree's own Makefile, in its folder, records the answers:
   kmin wants --root linux --answers answers
   make ARCH=x86 --eval='kminconfig:; kmin-answer ../answers kmin wants' kminconfig
 
 Exit status: 0 nothing is listed, 1 questions are listed, 2 command line refused, 3 tree refused,
-4 file of answers refused, 5 a read or a write failed, 6 out of memory.";
+4 file of answers refused, 5 a read or a write failed, 6 out of memory.",
+};
 
 pub(crate) const UNUSED: &str = "Lists questions in files that nothing asks, once none is open";
 
-pub(crate) const COMPARE: &str = "Lists the symbols whose values differ between two files";
-
-pub(crate) const COMPARE_LONG: &str = "\
+/// The command over two configurations of one file each.
+pub(crate) static COMPARE: CommandHelp = CommandHelp {
+    name: "compare",
+    about: "Lists the symbols whose values differ between two files",
+    long: "\
 Resolves LEFT and RIGHT, each alone, and writes a line `NAME: LEFT -> RIGHT` for each symbol whose
 values differ, also where neither file has a line of it. It compares values, not lines: a file and
 its minimal file don't differ, nor do a file and its full file where no tristate is above its
-visibility, as a default or an imply may set it.";
-
-pub(crate) const COMPARE_AFTER: &str = "\
+visibility, as a default or an imply may set it.",
+    after: "\
 Example:
   kmin compare old.config new.config
 
 Exit status: 0 no difference, 1 differences, 2 command line refused, 3 tree refused,
-4 configuration file refused, 5 a read or a write failed, 6 out of memory.";
+4 configuration file refused, 5 a read or a write failed, 6 out of memory.",
+};
 
 pub(crate) const ROOT: &str = "Folder of the tree";
 

@@ -2,15 +2,16 @@
 use Rattle.std.proofs.Common.{◌≡◌, ℕ, Bool, true, false, List, Result, refl, subst}
 use Rattle.std.specs.Str.{IsUtf8, is_utf8}
 use Rattle.std.proofs.lemmas.Str.{IsUtf8-from_is_utf8}
+use Rattle.kc_answers.specs.RunStates.{questions_of}
 use Rattle.kc_macros_model.specs.AnswerFiles.{RecordedAnswers}
 use Rattle.kc_macros_model.specs.Programs.{Fault, Notice}
 use Rattle.kc_macros_model.specs.ReadingStates.{ExpandedFile}
 use Rattle.kc_macros_model.specs.Worlds.{World}
 use Rattle.kc_expansion.specs.Expansions.{IsCountedExpansion, AreCountedWanted, AreCountedUnused}
 use Rattle.kc_files.specs.TreeContents.{IsWorldOf, IsWholeWorldOf}
-use Rattle.kc_files.specs.TreeContents as tree
 use Rattle.kmin_inputs.specs.FileContents.{Surroundings}
 use Rattle.kmin_expansions.specs.TreeFolders.{contents_through, contents_below}
+use Rattle.kmin_expansions.specs.WantedQuestions.{AreListed}
 
 not_so : (b : Bool) → (b ≡ true → ⊥) → b ≡ false
 not_so true h = absurd (h refl)
@@ -66,15 +67,6 @@ wanted_any reference failures known root first counted counted_after answers ask
   (λ none. whole_below reference failures known root h.0.world (h.1 none)),
 )
 
-pub wanted_below : (reference failures : ℕ) (known : Surroundings) (root first path : List ℕ) (counted opened counted_after : ℕ) (answers : RecordedAnswers)
-    (asked : Result (List (List ℕ)) Fault) → path ≡ first → opened ≡ counted_after
-    → AreCountedWanted (contents_through reference failures known root) counted opened answers path asked
-    → AreCountedWanted (contents_below known root) counted counted_after answers first asked
-wanted_below reference failures known root first path counted opened counted_after answers asked e same h =
-    subst (λ n. AreCountedWanted (contents_below known root) counted n answers first asked) same
-    (subst (λ p. AreCountedWanted (contents_below known root) counted opened answers p asked) e
-    (wanted_any reference failures known root path counted opened answers asked h))
-
 unused_any : (reference failures : ℕ) (known : Surroundings) (root first : List ℕ) (counted counted_after : ℕ) (answers : RecordedAnswers)
     (answered : List (List ℕ)) (listed : Result (List (List ℕ)) Fault)
     → AreCountedUnused (contents_through reference failures known root) counted counted_after answers first answered listed
@@ -89,11 +81,14 @@ unused_any reference failures known root first counted counted_after answers ans
   (λ none. whole_below reference failures known root h.0.world (h.1 none)),
 )
 
-pub unused_below : (reference failures : ℕ) (known : Surroundings) (root first path : List ℕ) (counted opened counted_after : ℕ) (answers : RecordedAnswers)
-    (answered : List (List ℕ)) (listed : Result (List (List ℕ)) Fault) → path ≡ first → opened ≡ counted_after
-    → AreCountedUnused (contents_through reference failures known root) counted opened answers path answered listed
-    → AreCountedUnused (contents_below known root) counted counted_after answers first answered listed
-unused_below reference failures known root first path counted opened counted_after answers answered listed e same h =
-    subst (λ n. AreCountedUnused (contents_below known root) counted n answers first answered listed) same
-    (subst (λ p. AreCountedUnused (contents_below known root) counted opened answers p answered listed) e
-    (unused_any reference failures known root path counted opened answers answered listed h))
+-- what is listed is the same, whatever the tree is read through
+pub listed_below : (unused : Bool) (reference failures : ℕ) (known : Surroundings) (root first : List ℕ) (counted opened counted_after : ℕ)
+    (answers recorded : RecordedAnswers) (listed : Result (List (List ℕ)) Fault) → opened ≡ counted_after
+    → AreListed unused (contents_through reference failures known root) counted opened answers recorded first listed
+    → AreListed unused (contents_below known root) counted counted_after answers recorded first listed
+listed_below false reference failures known root first counted opened counted_after answers recorded listed same h =
+    subst (λ n. AreCountedWanted (contents_below known root) counted n answers first listed) same
+    (wanted_any reference failures known root first counted opened answers listed h)
+listed_below true reference failures known root first counted opened counted_after answers recorded listed same h =
+    subst (λ n. AreCountedUnused (contents_below known root) counted n answers first (questions_of recorded) listed) same
+    (unused_any reference failures known root first counted opened answers (questions_of recorded) listed h)

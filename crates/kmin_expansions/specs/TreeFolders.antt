@@ -1,5 +1,5 @@
 -- The files and folders of a tree below its root, as far as they are known.
-use Rattle.std.specs.Prelude.{ℕ, List, [], Some, None, if◌then◌else◌}
+use Rattle.std.specs.Prelude.{ℕ, List, [], Some, if◌then◌else◌}
 use Rattle.std.specs.Str.{is_utf8}
 use Rattle.kc_value.specs.FileContents.{FileContent, absent}
 use Rattle.kc_files.specs.TreeContents.{FolderContent, TreeContents}

@@ -1,13 +1,17 @@
 //! The expansion of a tree: its expanded files, and the questions of its macros that are open.
 ghost use Rattle.std.specs.Prelude.{◌≡◌, ◌≤◌, ℕ, List, Ok, IfOk, IfErr, OnOk, map, slice_get, if◌then◌else◌};
 ghost use Rattle.std.specs.Str.{is_utf8};
+ghost use Rattle.kc_answers.specs.RunStates.{questions_of as recorded_questions};
+ghost use Rattle.kc_macros_model.specs.AnswerFiles.{RecordedAnswers};
 ghost use Rattle.kc_macros_model.specs.Programs.{Notice};
 ghost use Rattle.kc_macros.specs.Runs.{notice_of};
-ghost use Rattle.kc_expansion.specs.Expansions.{IsExpansion, IsCountedExpansion, AreCountedWanted, AreCountedUnused, tree_of, questions_of};
+ghost use Rattle.kc_expansion.specs.Expansions.{IsExpansion, IsCountedExpansion, tree_of, questions_of};
 ghost use Rattle.kc_files.specs.TextViews.{texts_of};
+ghost use Rattle.kc_files.specs.TreeContents.{StaysKnown};
 ghost use Rattle.kc_tree_model.specs.TreeFiles.{with_file};
 ghost use Rattle.kmin_expansions.specs.JobTexts.{expanded_texts};
 ghost use Rattle.kmin_expansions.specs.TreeFolders.{contents_below};
+ghost use Rattle.kmin_expansions.specs.WantedQuestions.{AreListed};
 ghost use Rattle.kmin_report.specs.Reports.{ErrorLine, macro_notice_line};
 ghost use Rattle.kmin_report.specs.StandardError.{TakesLines};
 ghost use Rattle.kmin_expansions.specs.between.FilesByPlace.{with_file_at};
@@ -17,12 +21,13 @@ ghost use Rattle.kmin_report.specs.between.RunErrors.{status_of};
 use crate::tree_folder::{TreeFolder, utf8_or_none};
 use kc_answers::Answers;
 use kc_expansion::{ExpandedTree, ExpansionOutcome, expand, unused, wants};
+use kc_files::TreeFiles;
 use kc_macros::{MacroFault, MacroNotice};
 use kc_tokens::Language;
 use kc_tree::Texts;
 use kc_value::Seed;
 use kmin_inputs::Files;
-use kmin_options::Settings;
+use kmin_options::{Questions, Settings};
 use kmin_report::{Message, Messages, RunError};
 use std::alloc::{AllocError, Global};
 use std::rc::Rc;
@@ -132,49 +137,46 @@ fn expansion_below<F: Files>(
     })
 }
 
-/// The open questions of the macros of the tree below a folder, or the fault of its expansion, with the path of the file that
-/// couldn't be opened, if none was asked for after it.
+/// What `wants` lists of the macros of a job's tree, as `listed_in` does, with the path of the file that couldn't be opened, if none was
+/// asked for after it.
 pub(crate) fn wanted_below<F: Files>(
     alloc: Global,
-    root: &str,
-    first: &str,
-    answers: &Answers,
-    files: &mut F,
-) -> Result<Wanted, AllocError>
-    ensures asked { IfOk result (λ w. AreCountedWanted (contents_below (F.surroundings files.old) root.now) (F.failures files.old) (F.failures files.new) answers.now first.now (questions_of w.listed)) }
-    ensures rising { F.failures files.old ≤ F.failures files.new }
-{
-    let mut missing = None;
-    let mut tree = TreeFolder {
-        files,
-        root,
-        missing: &mut missing,
-    };
-    let listed = wants(alloc, &mut tree, first.as_bytes(), answers)?;
-    Ok(Wanted { listed, missing })
-}
-
-/// The questions of `answered` that the macros of the tree below a folder don't ask; or their open questions, or the fault of its
-/// expansion, with the path of the file that couldn't be opened, if none was asked for after it.
-pub(crate) fn unused_below<F: Files>(
-    alloc: Global,
-    root: &str,
-    first: &str,
+    questions: &Questions<'_>,
     answers: &Answers,
     answered: Vec<Vec<u8>>,
     files: &mut F,
 ) -> Result<Wanted, AllocError>
-    ensures asked { IfOk result (λ w. AreCountedUnused (contents_below (F.surroundings files.old) root.now) (F.failures files.old) (F.failures files.new) answers.now first.now (texts_of answered) (questions_of w.listed)) }
+    ensures asked { IfOk result (λ w. (recorded : RecordedAnswers) → texts_of answered ≡ recorded_questions recorded → AreListed questions.now.unused (contents_below (F.surroundings files.old) questions.now.root.now) (F.failures files.old) (F.failures files.new) answers.now recorded questions.now.tree.now (questions_of w.listed)) }
     ensures rising { F.failures files.old ≤ F.failures files.new }
 {
     let mut missing = None;
     let mut tree = TreeFolder {
         files,
-        root,
+        root: questions.root,
         missing: &mut missing,
     };
-    let listed = unused(alloc, &mut tree, first.as_bytes(), answers, answered)?;
+    let listed = listed_in(alloc, questions, &mut tree, answers, answered)?;
     Ok(Wanted { listed, missing })
+}
+
+/// What `wants` lists of the macros of a tree with these answers, of which those to the questions `answered` are of answer files: the open
+/// questions, with `--unused` those of `answered` that the tree doesn't ask where none is open, or the fault of its expansion.
+fn listed_in<F: TreeFiles>(
+    alloc: Global,
+    questions: &Questions<'_>,
+    tree: &mut F,
+    answers: &Answers,
+    answered: Vec<Vec<u8>>,
+) -> Result<Result<Vec<Vec<u8>>, MacroFault>, AllocError>
+    ensures same { StaysKnown (F.contents tree.old) (F.contents tree.new) }
+    ensures listed { IfOk result (λ listed. (recorded : RecordedAnswers) → texts_of answered ≡ recorded_questions recorded → AreListed questions.now.unused (F.contents tree.old) (F.contents tree.old).failures (F.contents tree.new).failures answers.now recorded questions.now.tree.now (questions_of listed)) }
+{
+    let first = questions.tree.as_bytes();
+    if questions.unused {
+        unused(alloc, tree, first, answers, answered)
+    } else {
+        wants(alloc, tree, first, answers)
+    }
 }
 
 /// The texts of expanded files by their keys, in a language; a file whose key isn't UTF-8 is left out.

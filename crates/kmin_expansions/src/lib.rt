@@ -9,3 +9,4 @@ mod tree_folder;
 pub use expanded_trees::{ExpandedTexts, Wanted, expanded_tree};
 pub use laws::known_files_determine_the_expanded_tree;
 pub use questions::wanted_of;
+pub use tree_folder::path_below;

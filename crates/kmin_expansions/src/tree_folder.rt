@@ -19,7 +19,7 @@ pub(crate) struct TreeFolder<'a, F> {
 }
 
 /// The path, for the system, of a file or folder of a tree below its root.
-pub(crate) fn path_in(alloc: Global, root: &str, path: &str) -> Result<String, AllocError>
+pub fn path_below(alloc: Global, root: &str, path: &str) -> Result<String, AllocError>
     ensures { IfOk result (λ place. string_bytes place ≡ path_below root.now path.now) }
 {
     let mut place = String::from_str(alloc, root)?;
@@ -61,7 +61,7 @@ impl<F: Files> TreeFiles for TreeFolder<'_, F> {
         let Some(path) = utf8_or_none(path) else {
             return Ok(None);
         };
-        let place = path_in(alloc, self.root, path)?;
+        let place = path_below(alloc, self.root, path)?;
         let opened = self.files.regular_reader_for(&place);
         *self.missing = missing_path(alloc, path, &opened);
         match opened {
@@ -88,7 +88,7 @@ impl<F: Files> TreeFiles for TreeFolder<'_, F> {
         let Some(folder) = utf8_or_none(folder) else {
             return Ok(Some(Vec::new(alloc)));
         };
-        let place = path_in(alloc, self.root, folder)?;
+        let place = path_below(alloc, self.root, folder)?;
         self.files.names_in(alloc, &place, most)
     }
 }

@@ -25,8 +25,3 @@ all_asked g s kind unit case hindrance found place old one two own is_found is_p
 pub four_appended : (old a b c d s x y n : List ℕ) → a ≡ old ++ s → b ≡ a ++ x → c ≡ b ++ y → d ≡ c ++ n → d ≡ old ++ (s ++ ((x ++ y) ++ n))
 four_appended old a b c d s x y n first second third fourth =
     fourth ∙ ap (λ t. t ++ n) (third ∙ ap (λ t. t ++ y) (second ∙ ap (λ t. t ++ x) first)) ∙ simp append_assoc
-
--- and for one that is overridden
-pub five_appended : (old a b c d e s x o y n : List ℕ) → a ≡ old ++ s → b ≡ a ++ x → c ≡ b ++ o → d ≡ c ++ y → e ≡ d ++ n → e ≡ old ++ (s ++ ((x ++ (o ++ y)) ++ n))
-five_appended old a b c d e s x o y n first second third fourth fifth =
-    fifth ∙ ap (λ t. t ++ n) (fourth ∙ ap (λ t. t ++ y) (third ∙ ap (λ t. t ++ o) (second ∙ ap (λ t. t ++ x) first))) ∙ simp append_assoc

@@ -1,10 +1,12 @@
 pub mod Common
 pub mod AskedTexts
+pub mod Contexts
 pub mod EachOnce
 pub mod SymbolTexts
 pub mod NameLists
 pub mod ReasonTexts
 pub mod OnceLemmas
 pub mod MarkLemmas
+pub mod MarkedSymbols
 pub mod BlamedLemmas
 pub mod DeepLemmas

@@ -1,8 +1,8 @@
 -- The text for a symbol, by its parts.
 use Rattle.std.proofs.Common.{◌&&◌, ◌||◌, Result, IfOk}
 use Rattle.kmin_explain.proofs.Common.{◌≡◌, ℕ, zero, suc, ◌+◌, ◌<◌, ◌≤◌, Bool, true, false, List, [], ◌∷◌, ◌++◌, length, Option, Some, None, refl, sym, subst, ◌∙◌, ap, append_assoc, append-nil, drop, get_or, arith, flat_map, option_map, unwrap_or, slice_get, is_some, list_any, at_drop_more, Tree}
-use Rattle.kmin_explain.proofs.Common.{Symbol, Group, UnitValue, TreeModel, symbol_view, PlainReasons, assigning_place, SymbolLines, ReasonPlaces, located_first_line, located_details_at, symbol_lines_view, SourcesModel, reasons_of, is_hindered_at, asked_lines, reason_places, listed_reasons}
-use Rattle.kmin_explain.proofs.Common.{explained_by, explained_at}
+use Rattle.kmin_explain.proofs.Common.{Symbol, Group, TreeModel, symbol_view, PlainReasons, assigning_place, symbol_lines_view, SourcesModel, reasons_of, is_hindered_at, listed_reasons}
+use Rattle.kmin_explain.proofs.Common.{explained_at}
 use Rattle.std.proofs.Math.ListN.{drop_of_length-le}
 use Rattle.std.proofs.lemmas.Option.{slice_get_within}
 use Rattle.kc_tree_model.specs.Contents.{contents_of, symbol_of, tree_of_groups}
@@ -11,7 +11,6 @@ use Rattle.kc_tree_model.proofs.Consistency.Lists.{map-get}
 use Rattle.kc_tree.specs.declared.symbol.Symbol.{Symbol as CodeSymbol}
 use Rattle.kc_reasons_model.specs.SymbolLines.{lines_of_symbol}
 use Rattle.kc_symbol_lines.proofs.IndexLaws.{symbol_name}
-use Rattle.kc_explanation.proofs.ExplanationLemmas.{joined_three, located_details_is}
 use Rattle.kc_builder.specs.declared.tree_lines.TreeLines.{TreeLines}
 use Rattle.kc_builder.specs.between.TreeLines.{HasLines}
 use Rattle.kc_symbol_lines.specs.declared.located.SymbolLines.{SymbolLines as CodeLines}
@@ -35,25 +34,6 @@ name_defined t read s symbol e at =
 pub explained_is : (g : SourcesModel) (all : Bool) (s : ℕ) (symbol : Symbol) → slice_get g.tree.symbols s ≡ Some symbol
     → explained_at g all s ≡ explained g all s symbol
 explained_is g all s symbol at = ap (λ k. unwrap_or (option_map (explained g all s) k) []) at
-
--- its three parts, each appended to what was there
-pub parts_text : (g : SourcesModel) (s : ℕ) (symbol : Symbol) (r : PlainReasons) (lines : SymbolLines) (tree : Tree) (values : List UnitValue) (places : ReasonPlaces)
-    → tree ≡ g.tree → values ≡ g.values → places ≡ reason_places g s symbol lines r.case → slice_get g.tree.symbols s ≡ Some symbol
-    → (old one two three : List ℕ)
-    → one ≡ old ++ located_first_line g.strings g.tree_paths tree values s r.chosen r.case places.given_at
-    → two ≡ one ++ asked_lines g s symbol.kind r.case r.hindrance
-    → three ≡ two ++ located_details_at g.strings g.tree_paths tree values s lines r places
-    → three ≡ old ++ explained_by g s symbol r lines
-parts_text g s symbol r lines tree values places is_tree is_values is_places at old one two three first asked details =
-    joined_three old one two three _ _ _
-    (first ∙ ap (λ t. old ++ located_first_line g.strings g.tree_paths t values s r.chosen r.case places.given_at) is_tree
-    ∙ ap (λ v. old ++ located_first_line g.strings g.tree_paths g.tree v s r.chosen r.case places.given_at) is_values
-    ∙ ap (λ (p : ReasonPlaces). old ++ located_first_line g.strings g.tree_paths g.tree g.values s r.chosen r.case p.given_at) is_places)
-    asked
-    (details ∙ ap (λ t. two ++ located_details_at g.strings g.tree_paths t values s lines r places) is_tree
-    ∙ ap (λ v. two ++ located_details_at g.strings g.tree_paths g.tree v s lines r places) is_values
-    ∙ ap (λ p. two ++ located_details_at g.strings g.tree_paths g.tree g.values s lines r p) is_places
-    ∙ ap (λ x. two ++ x) (located_details_is g.strings g.tree_paths g.tree g.values s symbol lines r (reason_places g s symbol lines r.case) at))
 
 -- the reasons of a symbol as they are listed, without `--all` and with it
 pub listed_plainly : (all : Bool) (symbol : Symbol) (r listed : PlainReasons) → all ≡ false → listed ≡ r → listed ≡ listed_reasons all symbol r

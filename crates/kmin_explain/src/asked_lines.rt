@@ -1,29 +1,21 @@
 //! The lines of text that say what configuration files ask of a symbol, and what became of it.
-ghost use Rattle.std.specs.Prelude.{◌≡◌, ◌++◌, [], ℕ, List, Some, map, flat_map, slice_get, unwrap_or, option_map, OnOk};
+ghost use Rattle.std.specs.Prelude.{◌≡◌, ◌++◌, [], ℕ, List, Some, map, flat_map, slice_get, unwrap_or, option_map, codes, OnOk};
 ghost use Rattle.std.specs.Borrow.{Bor};
 ghost use Rattle.kc_tree_model.specs.TreeLookup.{unit_of};
 ghost use Rattle.kc_tree_model.specs.Blocks.{Group};
 ghost use Rattle.kc_dotconfig_model.specs.ConfigLines.{LineMeaning};
 ghost use Rattle.kc_config.specs.ConfigStates.{tree_in};
 ghost use Rattle.kc_config_reasons.specs.between.Places.{place_view, overridden_view};
-ghost use Rattle.kmin_explain.specs.Explanations.{asks_at, overridden_line, asked_line, asked_lines};
+ghost use Rattle.kc_explanation.specs.Asked.{line_place};
+ghost use Rattle.kmin_explain.specs.Explanations.{path_of_file, asks_at, overridden_line, asked_line, asked_lines};
 ghost use Rattle.kmin_explain.specs.between.Sources.{config_of, AreSourcesOf, sources_model};
 
+use super::asked_symbols::AskedSymbol;
+use super::explained_symbols::ExplainedSymbol;
 use super::sources::Sources;
 use kc_config_reasons::{AskingPlace, Overridden, deciding_line, overridden_lines, valuation};
 use kc_explanation::{push_asks, push_line_place, push_outcome};
-use kc_reasons::{Case, Hindrance};
-use kc_tree::Sym;
-use kc_value::Kind;
-use std::alloc::{AllocError, Global};
-
-/// A symbol as the lines of files speak of it.
-#[derive(Drop)]
-pub struct AskedSymbol {
-    pub s: Sym,
-    pub unit: u32,
-    pub kind: Kind,
-}
+use std::alloc::AllocError;
 
 /// The path of this number; empty if there is none.
 pub fn path_at<'a>(paths: &[&'a str], file: usize) -> &'a str
@@ -58,6 +50,18 @@ fn push_asks_at(
     )
 }
 
+/// Appends `overridden by PATH:LINE`, of a line of a later configuration file. An `Err` means out of memory.
+pub fn push_overridden_by(
+    out: &mut Vec<u8>,
+    by: &Sources<'_>,
+    other: AskingPlace<'_>,
+) -> Result<(), AllocError>
+    ensures { (read : List Group) (meanings : List (List LineMeaning)) → OnOk result (out.new.items ≡ out.old.items ++ (codes "overridden by " ++ line_place (path_of_file (sources_model by.now read meanings) (place_view other.entry).file) (place_view other.entry).line.number)) }
+{
+    out.extend_from_slice(b"overridden by ")?;
+    push_line_place(out, path_at(by.file_paths, other.file), other.line.number)
+}
+
 /// Appends the text for a line that a later file overrides.
 fn push_overridden_line(
     out: &mut Vec<u8>,
@@ -69,9 +73,7 @@ fn push_overridden_line(
 {
     out.extend_from_slice(b"  ")?;
     push_asks_at(out, by, symbol, found.place)?;
-    out.extend_from_slice(b"overridden by ")?;
-    let other = found.by;
-    push_line_place(out, path_at(by.file_paths, other.file), other.line.number)?;
+    push_overridden_by(out, by, found.by)?;
     out.extend_from_slice(b"\n")?;
     Ok(())
 }
@@ -95,16 +97,14 @@ fn push_overridden_lines(
 fn push_place(
     out: &mut Vec<u8>,
     by: &Sources<'_>,
-    symbol: &AskedSymbol,
-    case: Case,
-    hindrance: Option<Hindrance>,
+    found: &ExplainedSymbol,
     place: AskingPlace<'_>,
 ) -> Result<(), AllocError>
-    ensures { (read : List Group) (meanings : List (List LineMeaning)) → OnOk result (out.new.items ≡ out.old.items ++ asked_line (sources_model by.now read meanings) symbol.now.s symbol.now.kind case hindrance (Some (place_view place.entry))) }
+    ensures { (read : List Group) (meanings : List (List LineMeaning)) → OnOk result (out.new.items ≡ out.old.items ++ asked_line (sources_model by.now read meanings) found.now.symbol.s found.now.symbol.kind found.now.reasons.case found.now.reasons.hindrance (Some (place_view place.entry))) }
 {
     out.extend_from_slice(b"  ")?;
-    push_asks_at(out, by, symbol, place)?;
-    push_outcome(out, case, hindrance)?;
+    push_asks_at(out, by, &found.symbol, place)?;
+    push_outcome(out, found.reasons.case, found.reasons.hindrance)?;
     out.extend_from_slice(b"\n")?;
     Ok(())
 }
@@ -113,34 +113,30 @@ fn push_place(
 fn push_asked_line(
     out: &mut Vec<u8>,
     by: &Sources<'_>,
-    symbol: &AskedSymbol,
-    case: Case,
-    hindrance: Option<Hindrance>,
+    found: &ExplainedSymbol,
     place: Option<AskingPlace<'_>>,
 ) -> Result<(), AllocError>
-    ensures { (read : List Group) (meanings : List (List LineMeaning)) → OnOk result (out.new.items ≡ out.old.items ++ asked_line (sources_model by.now read meanings) symbol.now.s symbol.now.kind case hindrance (option_map place_view place.entry)) }
+    ensures { (read : List Group) (meanings : List (List LineMeaning)) → OnOk result (out.new.items ≡ out.old.items ++ asked_line (sources_model by.now read meanings) found.now.symbol.s found.now.symbol.kind found.now.reasons.case found.now.reasons.hindrance (option_map place_view place.entry)) }
 {
     match place {
         None => out.extend_from_slice(b""),
-        Some(place) => push_place(out, by, symbol, case, hindrance, place),
+        Some(place) => push_place(out, by, found, place),
     }
 }
 
 /// Appends what the configuration files ask of a symbol: of each file whose last line on it a later one overrides that line, then the
 /// line that counts, by what gives the value and what hinders the assigned one.
 pub(crate) fn push_asked_lines(
-    alloc: Global,
     out: &mut Vec<u8>,
     by: &Sources<'_>,
-    symbol: &AskedSymbol,
-    case: Case,
-    hindrance: Option<Hindrance>,
+    found: &ExplainedSymbol,
 ) -> Result<(), AllocError>
-    requires unit { symbol.now.unit ≡ unit_of (tree_in (config_of by.now)) symbol.now.s }
-    ensures { (read : List Group) (meanings : List (List LineMeaning)) → AreSourcesOf by.now read meanings → OnOk result (out.new.items ≡ out.old.items ++ asked_lines (sources_model by.now read meanings) symbol.now.s symbol.now.kind case hindrance) }
+    requires unit { found.now.symbol.unit ≡ unit_of (tree_in (config_of by.now)) found.now.symbol.s }
+    ensures { (read : List Group) (meanings : List (List LineMeaning)) → AreSourcesOf by.now read meanings → OnOk result (out.new.items ≡ out.old.items ++ asked_lines (sources_model by.now read meanings) found.now.symbol.s found.now.symbol.kind found.now.reasons.case found.now.reasons.hindrance) }
 {
-    let found = overridden_lines(alloc, by.files, symbol.unit, symbol.s)?;
-    push_overridden_lines(out, by, symbol, &found)?;
+    let symbol = &found.symbol;
+    let overridden = overridden_lines(by.alloc, by.files, symbol.unit, symbol.s)?;
+    push_overridden_lines(out, by, symbol, &overridden)?;
     let place = deciding_line(by.files, symbol.unit, symbol.s);
-    push_asked_line(out, by, symbol, case, hindrance, place)
+    push_asked_line(out, by, found, place)
 }

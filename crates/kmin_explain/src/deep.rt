@@ -13,15 +13,10 @@ use super::each_once::SymbolsOnce;
 use super::sources::Sources;
 use kc_config_reasons::{reasons_in, valuation};
 use kc_tree::Sym;
-use std::alloc::{AllocError, Global};
+use std::alloc::AllocError;
 
 /// Adds the symbols to go on with from symbol `s`.
-fn add_next(
-    alloc: Global,
-    by: &Sources<'_>,
-    s: Sym,
-    seen: &mut SymbolsOnce,
-) -> Result<(), AllocError>
+fn add_next(by: &Sources<'_>, s: Sym, seen: &mut SymbolsOnce) -> Result<(), AllocError>
     requires there { s < length (tree_in (config_of by.now)).symbols }
     requires marks { AreMarked seen.old }
     requires many { length seen.old.is_found.items ≡ length (tree_in (config_of by.now)).symbols }
@@ -29,28 +24,24 @@ fn add_next(
     ensures marks { OnOk result (AreMarked seen.new) }
     ensures many { OnOk result (length seen.new.is_found.items ≡ length (tree_in (config_of by.now)).symbols) }
 {
-    let reasons = reasons_in(alloc, by.config, s)?;
+    let reasons = reasons_in(by.alloc, by.config, s)?;
     let under = &valuation(by.config);
-    add_all_blamed(alloc, under, &reasons.needs, seen)?;
-    add_all_blamed(alloc, under, &reasons.unmet, seen)
+    add_all_blamed(by.alloc, under, &reasons.needs, seen)?;
+    add_all_blamed(by.alloc, under, &reasons.unmet, seen)
 }
 
 /// The symbols that are explained with `--deep`: these, then those whose values keep each of them in turn too low, each once. An
 /// `Err` means out of memory.
-pub fn deep_symbols(
-    alloc: Global,
-    by: &Sources<'_>,
-    symbols: &[Sym],
-) -> Result<Vec<Sym>, AllocError>
+pub fn deep_symbols(by: &Sources<'_>, symbols: &[Sym]) -> Result<Vec<Sym>, AllocError>
     requires there { All (λ s. s < length (tree_in (config_of by.now)).symbols) symbols.now }
     ensures deep { (read : List Group) (meanings : List (List LineMeaning)) → IfOk result (λ found. AreDeep (sources_model by.now read meanings) symbols.now found.items) }
     ensures there { IfOk result (λ found. All (λ s. s < length (tree_in (config_of by.now)).symbols) found.items) }
 {
-    let mut seen = SymbolsOnce::new(alloc, by.config.settled().tree().symbol_count())?;
+    let mut seen = SymbolsOnce::new(by.alloc, by.config.settled().tree().symbol_count())?;
     seen.add_all(symbols)?;
     let mut i = 0;
     while i < seen.found.len() {
-        add_next(alloc, by, seen.found[i], &mut seen)?;
+        add_next(by, seen.found[i], &mut seen)?;
         i += 1;
     }
     let SymbolsOnce { found, .. } = seen;

@@ -1,5 +1,6 @@
 //! Symbols, each once.
-ghost use Rattle.std.specs.Prelude.{◌≡◌, ◌<◌, [], length, All, IfOk, OnOk};
+ghost use Rattle.std.specs.Prelude.{◌≡◌, ◌<◌, ◌==◌, [], ℕ, false, length, All, IfOk, OnOk};
+ghost use Rattle.std.specs.List.{list_any, slice_index_or};
 ghost use Rattle.kmin_explain.specs.Names.{with_number, each_once_after};
 ghost use Rattle.kmin_explain.specs.checker.Marks.{AreMarked};
 
@@ -56,5 +57,24 @@ impl SymbolsOnce {
             self.add(*s)?;
         }
         Ok(())
+    }
+
+    /// These symbols, of a tree that has `count` of them. An `Err` means out of memory.
+    pub fn of(alloc: Global, count: u32, symbols: &[Sym]) -> Result<SymbolsOnce, AllocError>
+        requires there { All (λ s. s < count) symbols.now }
+        ensures marks { IfOk result (λ once. (s : ℕ) → s < count → slice_index_or once.is_found.items s false ≡ list_any (λ m. m == s) symbols.now) }
+        ensures many { IfOk result (λ once. length once.is_found.items ≡ count) }
+    {
+        let mut once = SymbolsOnce::new(alloc, count)?;
+        once.add_all(symbols)?;
+        Ok(once)
+    }
+
+    /// Whether the symbol with a number is among them.
+    pub fn has(&self, s: u32) -> bool
+        requires there { s < length self.now.is_found.items }
+        ensures { result ≡ slice_index_or self.now.is_found.items s false }
+    {
+        self.is_found[s as usize]
     }
 }

@@ -44,8 +44,7 @@ fn all_numbers(alloc: Global, count: usize) -> Result<Vec<usize>, AllocError>
 }
 
 /// The reasons of symbol `s`, of which with `all` every select and imply is listed. An `Err` means out of memory.
-pub fn listed_reasons(
-    alloc: Global,
+pub(crate) fn listed_reasons(
     by: &Sources<'_>,
     all: bool,
     s: Sym,
@@ -54,9 +53,9 @@ pub fn listed_reasons(
     ensures reasons { (read : List Group) (meanings : List (List LineMeaning)) (symbol : ModelSymbol) → slice_get (tree_in (config_of by.now)).symbols s ≡ Some symbol
         → IfOk result (λ r. reasons_view (tree_model_of (config_of by.now).system).exprs r ≡ listed_reasons all symbol (reasons_of (sources_model by.now read meanings) s symbol)) }
 {
-    let reasons = reasons_in(alloc, by.config, s)?;
+    let reasons = reasons_in(by.alloc, by.config, s)?;
     if all {
-        with_all(alloc, &by.config.settled().tree().symbol(s), reasons)
+        with_all(by.alloc, &by.config.settled().tree().symbol(s), reasons)
     } else {
         Ok(reasons)
     }
@@ -77,7 +76,7 @@ fn with_all(
 }
 
 /// The lines of symbol `s`.
-pub fn lines_of(alloc: Global, by: &Sources<'_>, s: Sym) -> Result<SymbolLines, AllocError>
+pub fn lines_of(by: &Sources<'_>, s: Sym) -> Result<SymbolLines, AllocError>
     requires read { AreReadSources by.now }
     requires there { s < length (tree_in (config_of by.now)).symbols }
     ensures lines { (read : List Group) (meanings : List (List LineMeaning)) (symbol : ModelSymbol) → AreSourcesOf by.now read meanings
@@ -87,12 +86,12 @@ pub fn lines_of(alloc: Global, by: &Sources<'_>, s: Sym) -> Result<SymbolLines, 
     ensures direct { IfOk result (λ l. AreHeld (tree_model_of (config_of by.now).system).exprs l.direct.items) }
 {
     let tree = by.config.settled().tree();
-    by.index.lines_of(alloc, tree, by.lines, s)
+    by.index.lines_of(by.alloc, tree, by.lines, s)
 }
 
 /// The places of what gives a symbol its value in a case, of what its prompts lack of what is wanted, and of what its definitions'
 /// dependencies lack of what is selected.
-pub fn reason_places(
+pub(crate) fn reason_places(
     alloc: Global,
     under: &Valuation<'_>,
     symbol: &Symbol<'_>,

@@ -70,6 +70,7 @@ fn text_of(
 {
     let index = LineIndex::new(alloc, tree.settled.tree(), &tree.lines)?;
     let by = Sources {
+        alloc,
         config: &found.read.config,
         lines: &tree.lines,
         index: &index,
@@ -78,32 +79,24 @@ fn text_of(
         file_paths: &job.files,
         strings: job.settings.format.strings,
     };
-    output_by(alloc, job, &by, seed)
+    output_by(job, &by, seed)
 }
 
 /// The output by what symbols are explained by, and its status.
-fn output_by(
-    alloc: Global,
-    job: &ExplainJob<'_>,
-    by: &Sources<'_>,
-    seed: Seed,
-) -> Result<JobOutput, AllocError>
+fn output_by(job: &ExplainJob<'_>, by: &Sources<'_>, seed: Seed) -> Result<JobOutput, AllocError>
     requires read { AreReadSources by.now }
     ensures status { IfOk result (λ output. output.status ≤ 1) }
     ensures output { IfOk result (λ output. (read : List Group) (meanings : List (List LineMeaning)) → AreSourcesOf by.now read meanings → IsOutputOf (explain_job_view job.now) (sources_model by.now read meanings) output.text.items output.status) }
 {
     match job.question {
-        Question::Explain { flags, .. } => explained_output(alloc, job, flags, by),
-        Question::Missed { form, exit_code } => missed_output(
-            alloc, job, form, exit_code, by, seed,
-        ),
-        Question::Check { exit_code } => unmet_output(alloc, job, exit_code, by),
+        Question::Explain { flags, .. } => explained_output(job, flags, by),
+        Question::Missed { form, exit_code } => missed_output(job, form, exit_code, by, seed),
+        Question::Check { exit_code } => unmet_output(job, exit_code, by),
     }
 }
 
 /// The output for the symbols that a job names, with these flags, and its status.
 fn explained_output(
-    alloc: Global,
     job: &ExplainJob<'_>,
     flags: ExplainFlags,
     by: &Sources<'_>,
@@ -112,13 +105,12 @@ fn explained_output(
     ensures status { IfOk result (λ output. output.status ≤ 1) }
     ensures output { (names : Option (List ℕ)) → IfOk result (λ output. (read : List Group) (meanings : List (List LineMeaning)) → AreSourcesOf by.now read meanings → IsOutputFor job.now.settings.output_form (explain flags names) (sources_model by.now read meanings) (symbols_in (explain_job_view job.now) (tree_in (config_of by.now))) output.text.items output.status) }
 {
-    let symbols = symbols_for(alloc, job, by.config.settled().tree())?;
-    named_output(alloc, job.settings.output_form, flags, by, &symbols)
+    let symbols = symbols_for(by.alloc, job, by.config.settled().tree())?;
+    named_output(job.settings.output_form, flags, by, &symbols)
 }
 
 /// The output of `missed` in a form, and its status.
 fn missed_output(
-    alloc: Global,
     job: &ExplainJob<'_>,
     form: MissedForm,
     exit_code: bool,
@@ -131,14 +123,13 @@ fn missed_output(
 {
     let symbols = by.config.missed()?;
     let output_form = job.settings.output_form;
-    let text = missed_text(alloc, output_form, form, by, seed, &symbols)?;
+    let text = missed_text(output_form, form, by, seed, &symbols)?;
     let status = list_status(exit_code, &symbols);
     Ok(JobOutput { text, status })
 }
 
 /// The text of `missed`, for the symbols that don't have the values that files assign: in a form, or their records.
 fn missed_text(
-    alloc: Global,
     output_form: OutputForm,
     form: MissedForm,
     by: &Sources<'_>,
@@ -150,14 +141,13 @@ fn missed_text(
     ensures { (read : List Group) (meanings : List (List LineMeaning)) → AreSourcesOf by.now read meanings → IfOk result (λ text. text.items ≡ missed_text output_form form (sources_model by.now read meanings)) }
 {
     match output_form {
-        OutputForm::Plain => plain_missed_text(alloc, form, by, seed, symbols),
-        OutputForm::Json => records_of_missed(alloc, by, symbols),
+        OutputForm::Plain => plain_missed_text(form, by, seed, symbols),
+        OutputForm::Json => records_of_missed(by, symbols),
     }
 }
 
 /// The text of `missed` in a form, for the symbols that don't have the values that files assign.
 fn plain_missed_text(
-    alloc: Global,
     form: MissedForm,
     by: &Sources<'_>,
     seed: Seed,
@@ -168,14 +158,13 @@ fn plain_missed_text(
     ensures { (read : List Group) (meanings : List (List LineMeaning)) → AreSourcesOf by.now read meanings → IfOk result (λ text. text.items ≡ missed_text OutputForm.Plain form (sources_model by.now read meanings)) }
 {
     match form {
-        MissedForm::Lines => lines_of_missed(alloc, by, symbols),
-        MissedForm::Causes => missed_by_cause(alloc, by, seed, symbols),
+        MissedForm::Lines => lines_of_missed(by, symbols),
+        MissedForm::Causes => missed_by_cause(by, seed, symbols),
     }
 }
 
 /// The output of `check` with reasons, and its status.
 fn unmet_output(
-    alloc: Global,
     job: &ExplainJob<'_>,
     exit_code: bool,
     by: &Sources<'_>,
@@ -184,16 +173,15 @@ fn unmet_output(
     ensures status { IfOk result (λ output. output.status ≤ 1) }
     ensures output { (named : List ℕ) → IfOk result (λ output. (read : List Group) (meanings : List (List LineMeaning)) → AreSourcesOf by.now read meanings → IsOutputFor job.now.settings.output_form (check exit_code) (sources_model by.now read meanings) named output.text.items output.status) }
 {
-    let symbols = by.config.settled().unmet(alloc, by.config.values())?;
+    let symbols = by.config.settled().unmet(by.alloc, by.config.values())?;
     let output_form = job.settings.output_form;
-    let text = unmet_text(alloc, output_form, by, &symbols)?;
+    let text = unmet_text(output_form, by, &symbols)?;
     let status = list_status(exit_code, &symbols);
     Ok(JobOutput { text, status })
 }
 
 /// The text of `check` with reasons, for the symbols that are selected against their dependencies: lines, or their records.
 fn unmet_text(
-    alloc: Global,
     output_form: OutputForm,
     by: &Sources<'_>,
     symbols: &[Sym],
@@ -203,8 +191,8 @@ fn unmet_text(
     ensures { (read : List Group) (meanings : List (List LineMeaning)) → AreSourcesOf by.now read meanings → IfOk result (λ text. text.items ≡ unmet_text output_form (sources_model by.now read meanings)) }
 {
     match output_form {
-        OutputForm::Plain => lines_of_unmet(alloc, by, symbols),
-        OutputForm::Json => records_of(alloc, by, false, symbols),
+        OutputForm::Plain => lines_of_unmet(by, symbols),
+        OutputForm::Json => records_of(by, false, symbols),
     }
 }
 
@@ -221,7 +209,6 @@ fn symbols_for(alloc: Global, job: &ExplainJob<'_>, tree: &Tree) -> Result<Vec<S
 
 /// The output for symbols, and its status.
 fn named_output(
-    alloc: Global,
     form: OutputForm,
     flags: ExplainFlags,
     by: &Sources<'_>,
@@ -233,14 +220,13 @@ fn named_output(
     ensures status { IfOk result (λ output. (read : List Group) (meanings : List (List LineMeaning)) → AreSourcesOf by.now read meanings → output.status ≡ status_by flags (sources_model by.now read meanings) symbols.now) }
     ensures small { IfOk result (λ output. output.status ≤ 1) }
 {
-    let text = named_text(alloc, form, flags, by, symbols)?;
-    let status = status_for(alloc, flags, by, symbols)?;
+    let text = named_text(form, flags, by, symbols)?;
+    let status = status_for(flags, by, symbols)?;
     Ok(JobOutput { text, status })
 }
 
 /// The text for symbols, and with `--deep` for those to go on with.
 fn named_text(
-    alloc: Global,
     form: OutputForm,
     flags: ExplainFlags,
     by: &Sources<'_>,
@@ -251,15 +237,14 @@ fn named_text(
     ensures { IfOk result (λ text. (read : List Group) (meanings : List (List LineMeaning)) → AreSourcesOf by.now read meanings → IsTextOf form flags (sources_model by.now read meanings) symbols.now text.items) }
 {
     if flags.deep {
-        let deep = deep_symbols(alloc, by, symbols)?;
-        return explained_text(alloc, form, by, flags.all, &deep);
+        let deep = deep_symbols(by, symbols)?;
+        return explained_text(form, by, flags.all, &deep);
     }
-    explained_text(alloc, form, by, flags.all, symbols)
+    explained_text(form, by, flags.all, symbols)
 }
 
 /// The text in a form for symbols, with each select and imply where `all` is set.
 fn explained_text(
-    alloc: Global,
     form: OutputForm,
     by: &Sources<'_>,
     all: bool,
@@ -270,18 +255,13 @@ fn explained_text(
     ensures { (read : List Group) (meanings : List (List LineMeaning)) → AreSourcesOf by.now read meanings → IfOk result (λ text. text.items ≡ explained_text form (sources_model by.now read meanings) all symbols.now) }
 {
     match form {
-        OutputForm::Plain => explanation_of(alloc, by, all, symbols),
-        OutputForm::Json => records_of(alloc, by, all, symbols),
+        OutputForm::Plain => explanation_of(by, all, symbols),
+        OutputForm::Json => records_of(by, all, symbols),
     }
 }
 
 /// The status for symbols: 1 with `--exit-code` where a line for one isn't taken, else 0.
-fn status_for(
-    alloc: Global,
-    flags: ExplainFlags,
-    by: &Sources<'_>,
-    symbols: &[Sym],
-) -> Result<u8, AllocError>
+fn status_for(flags: ExplainFlags, by: &Sources<'_>, symbols: &[Sym]) -> Result<u8, AllocError>
     requires there { All (λ s. s < length (tree_in (config_of by.now)).symbols) symbols.now }
     ensures status { IfOk result (λ status. (read : List Group) (meanings : List (List LineMeaning)) → AreSourcesOf by.now read meanings → status ≡ status_by flags (sources_model by.now read meanings) symbols.now) }
     ensures small { IfOk result (λ status. status ≤ 1) }
@@ -289,6 +269,6 @@ fn status_for(
     if !flags.exit_code {
         return Ok(0);
     }
-    let is_hindered = is_one_hindered(alloc, by, symbols)?;
+    let is_hindered = is_one_hindered(by, symbols)?;
     Ok(if is_hindered { 1 } else { 0 })
 }

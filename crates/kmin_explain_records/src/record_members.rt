@@ -32,9 +32,9 @@ use kc_reasons::{Case, Hindrance, SymbolReasons};
 use kc_symbol_lines::{Position, SymbolLines};
 use kc_tree::{Sym, Symbol};
 use kc_value::Text;
-use kmin_explain::{AskedSymbol, Sources};
+use kmin_explain::{ExplainedSymbol, Sources};
 use kmin_records::{write_optional, write_text};
-use std::alloc::{AllocError, Global};
+use std::alloc::AllocError;
 
 /// Writes the name of the selected member of a choice, or null.
 fn write_chosen(
@@ -133,20 +133,17 @@ pub(crate) fn write_given(
 
 /// Writes the members `asked` and `hindrance`.
 pub(crate) fn write_asked_members(
-    alloc: Global,
     writer: &mut Writer,
     by: &Sources<'_>,
-    symbol: &AskedSymbol,
-    case: Case,
-    hindrance: Option<Hindrance>,
+    found: &ExplainedSymbol,
 ) -> Result<(), AllocError>
-    requires unit { symbol.now.unit ≡ unit_of (tree_in (config_of by.now)) symbol.now.s }
-    ensures { (read : List Group) (meanings : List (List LineMeaning)) → AreSourcesOf by.now read meanings → OnOk result (AppendsTokens writer.old writer.new (list_tokens (asked_members (sources_model by.now read meanings) symbol.now.s symbol.now.kind case hindrance))) }
+    requires unit { found.now.symbol.unit ≡ unit_of (tree_in (config_of by.now)) found.now.symbol.s }
+    ensures { (read : List Group) (meanings : List (List LineMeaning)) → AreSourcesOf by.now read meanings → OnOk result (AppendsTokens writer.old writer.new (list_tokens (asked_members (sources_model by.now read meanings) found.now.symbol.s found.now.symbol.kind found.now.reasons.case found.now.reasons.hindrance))) }
 {
     writer.key("asked")?;
-    write_asked_list(alloc, writer, by, symbol, case, hindrance)?;
+    write_asked_list(writer, by, found)?;
     writer.key("hindrance")?;
-    write_hindrance(writer, hindrance)
+    write_hindrance(writer, found.reasons.hindrance)
 }
 
 /// Writes the members `needs` and `unmet`.

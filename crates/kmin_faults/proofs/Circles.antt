@@ -7,7 +7,7 @@ use Rattle.kmin_faults.specs.between.Steps.{step_of}
 use Rattle.kmin_faults.specs.declared.steps.Step.{Step as CodeStep}
 
 module _ (f : ℕ → Option Step) where
-  -- the steps from a place on, so many
+  -- the `n` steps from a place on
   abbrev pub rest_of : (at n : ℕ) → Option (List Step)
   rest_of at n = all_there (map f (range_with_len at n))
 

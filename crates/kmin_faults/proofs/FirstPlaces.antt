@@ -3,7 +3,7 @@ use Rattle.std.proofs.Common.{◌⊎◌}
 use Rattle.std.specs.Prelude.{bytes_eq}
 use Rattle.kmin_faults.proofs.Common.{◌≡◌, inl, inr, ℕ, zero, suc, ◌+◌, ◌≤◌, Bool, true, false, cond, ◌&&◌, ◌||◌, ◌==◌, List, [], ◌∷◌, ◌++◌, length, map, reverse, Option, Some, None, refl, ap, sym, subst, ◌∙◌, arith, filter_map, find, is_some, nat_le, option_and_then, option_map, slice_get}
 use Rattle.kmin_faults.proofs.Common.{slice_range, list_any, range_with_len, cases_Bool, eq-eqb, ne_eqb, false≢true, reverse-append, reverse-reverse, Exprs, Group, GroupHead, from_head, Listing, RepresentsHead, RepresentsGroups, group_at, later, TextPlace, begins_before, defined_by, definition_at}
-use Rattle.kmin_faults.proofs.Common.{defines, gives_type, has_type, is_typed, last_line, position_of}
+use Rattle.kmin_faults.proofs.Common.{defines, gives_type, is_typed, last_line, position_of}
 use Rattle.std.specs.Option.{option_or}
 use Rattle.std.proofs.lemmas.List.Folds.{find-append}
 use Rattle.kc_statements.specs.between.StatementViews.{ReadAttribute, attribute_in}

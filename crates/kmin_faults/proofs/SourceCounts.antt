@@ -1,5 +1,5 @@
 -- How many files were sourced.
-use Rattle.kmin_faults.proofs.Common.{◌≡◌, ℕ, suc, ◌+◌, Bool, true, false, cond, List, [], ◌∷◌, length, reverse, Option, Some, None, refl, ap, sym, ◌∙◌, arith, filter_map, is_some, nat_le, reverse-append, Exprs, Group, GroupHead, from_head, Listing, RepresentsHead}
+use Rattle.kmin_faults.proofs.Common.{◌≡◌, ℕ, suc, ◌+◌, Bool, cond, List, [], ◌∷◌, length, reverse, Option, Some, None, refl, ap, sym, ◌∙◌, arith, filter_map, is_some, nat_le, reverse-append, Exprs, Group, GroupHead, from_head, Listing, RepresentsHead}
 use Rattle.kmin_faults.proofs.Common.{RepresentsGroups}
 use Rattle.std.specs.Prelude.{sum_by}
 use Rattle.kc_value.specs.declared.limits.TheConstants.{MAX_FILES}

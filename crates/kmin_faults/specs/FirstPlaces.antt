@@ -1,5 +1,5 @@
 -- The first definitions of symbols among the statements of a tree that were read, the newest first.
-use Rattle.std.specs.Prelude.{ℕ, Bool, true, false, ◌&&◌, ◌==◌, List, [], ◌∷◌, Option, Some, None, bytes_eq, find, is_some, nat_le, option_and_then, option_map, reverse, if◌then◌else◌}
+use Rattle.std.specs.Prelude.{ℕ, Bool, false, ◌&&◌, ◌==◌, List, [], ◌∷◌, Option, Some, None, bytes_eq, find, is_some, nat_le, option_and_then, option_map, reverse, if◌then◌else◌}
 use Rattle.std.specs.List.{list_any}
 use Rattle.std.specs.Option.{option_or}
 use Rattle.kc_tree_model.specs.Statements.{type_of}

@@ -1,12 +1,13 @@
 //! The first definitions of the symbols of a tree.
 ghost use Rattle.std.specs.Prelude.{◌≡◌, ◌<◌, ◌&&◌, ◌==◌, IfOk, length, nat_le, option_map, reverse};
 ghost use Rattle.std.specs.List.{list_any};
-ghost use Rattle.kc_checks.specs.between.Summaries.{attributes_end, group_at};
+ghost use Rattle.kc_checks.specs.between.Summaries.{group_at};
 ghost use Rattle.kc_tree_model.specs.TreeReading.{reading};
 ghost use Rattle.kmin_faults.specs.FirstPlaces.{first_type, other_definition};
 ghost use Rattle.kmin_faults.specs.between.StoredDefinitions.{begins_before, defined_by, definition_at, defines, first_of, first_type_in, first_typed, gives_type, has_type, is_same_place, is_typed, other_definition_in, other_place, place_of, position_of, unless_same};
 
 use crate::listings::listing_of;
+use kc_checks::end_of;
 use kc_parser::{Group, GroupHead, Line, Listing};
 use kc_statements::ReadAttribute;
 use kc_tree::Texts;
@@ -194,18 +195,8 @@ fn is_typed(listing: &Listing, number: usize) -> bool
     ensures value { result ≡ is_typed listing.now number }
 {
     let begin = listing.groups[number].attributes;
-    has_type(&listing.lines, begin, attributes_end(listing, number))
-}
-
-/// Where the attributes of a statement end: where those of the next one begin, or at the end of all.
-fn attributes_end(listing: &Listing, number: usize) -> usize
-    requires there { number < length listing.now.groups.items }
-    ensures value { result ≡ attributes_end listing.now.groups.items listing.now.lines.items number }
-{
-    if number + 1 < listing.groups.len() {
-        return listing.groups[number + 1].attributes;
-    }
-    listing.lines.len()
+    let end = end_of(&listing.groups, &listing.lines, number);
+    has_type(&listing.lines, begin, end)
 }
 
 /// Whether one of the attributes from one place up to another gives a type; false where the list doesn't have them.

@@ -5,6 +5,7 @@
 mod causes;
 mod first_places;
 mod listings;
+mod naming_parts;
 mod passed_limits;
 mod sourced_paths;
 mod steps;

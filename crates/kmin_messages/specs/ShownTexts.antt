@@ -27,7 +27,7 @@ shown_char c =
     else if is_control c then code_text c
     else encode_utf8 c
 
--- the first of these pieces, joined, up to the last that is whole within so many bytes
+-- the first of these pieces, joined, up to the last that is whole within `room` bytes
 abbrev pub fitting : (room : ℕ) (pieces : List (List ℕ)) → List ℕ
 fitting room [] = []
 fitting room (piece ∷ pieces) = if nat_le (length piece) room then piece ++ fitting (room - length piece) pieces else []

@@ -1,15 +1,10 @@
 -- The rows of lines that later files override, as they are appended.
-use Rattle.kmin_missed.proofs.Common.{◌≡◌, ℕ, List, ◌++◌, map, sym, ◌∙◌, ap, append-nil, Bool, true, false, append_assoc, flat_map, Option, Symbol, unit_of, assigning_place, Overridden, overridden_view, joined_three, SourcesModel, missed_row, missed_rows}
+use Rattle.kmin_missed.proofs.Common.{◌≡◌, ℕ, List, ◌++◌, map, sym, ◌∙◌, ap, append-nil, Bool, true, false, append_assoc, flat_map, Option, Symbol, unit_of, assigning_place, Overridden, overridden_view, SourcesModel, missed_row, missed_rows}
 use Rattle.std.proofs.lemmas.List.Folds.{flat_map-map}
 use Rattle.kc_value.specs.declared.value.Kind.{Kind}
 use Rattle.kc_reasons_model.specs.AssigningLines.{AssigningPlace}
 use Rattle.kc_reasons_model.specs.OverriddenLines.{places_of, overridden}
 use Rattle.kmin_missed.specs.MissedLines.{overridden_row}
-
--- four texts, each appended to what was there
-pub joined_four : (old one two three four a b c d : List ℕ) → one ≡ old ++ a → two ≡ one ++ b → three ≡ two ++ c → four ≡ three ++ d
-    → four ≡ old ++ (a ++ (b ++ (c ++ d)))
-joined_four old one two three four a b c d h1 h2 h3 h4 = h4 ∙ ap (λ x. x ++ d) (joined_three old one two three a b c h1 h2 h3) ∙ simp append_assoc
 
 -- the rows of all lines that are overridden, as they are appended
 pub all_overridden : (g : SourcesModel) (s : ℕ) (kind : Kind) (unit : ℕ) (found : List Overridden) (old one : List ℕ) → unit ≡ unit_of g.tree s

@@ -1,1 +1,2 @@
 pub mod CauseGroups
+pub mod UnmetDetails

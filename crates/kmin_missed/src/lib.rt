@@ -9,5 +9,5 @@ mod one_line;
 mod unmet_lines;
 
 pub use missed_causes::missed_by_cause;
-pub use missed_lines::{is_marked, lines_of_missed, marked};
+pub use missed_lines::lines_of_missed;
 pub use unmet_lines::lines_of_unmet;

@@ -1,6 +1,5 @@
 //! The lines of `missed --long`.
-ghost use Rattle.std.specs.Prelude.{◌≡◌, ◌<◌, ◌==◌, ◌++◌, ℕ, false, List, All, Some, length, flat_map, slice_get, IfOk, OnOk, option_map};
-ghost use Rattle.std.specs.List.{list_any, slice_index_or};
+ghost use Rattle.std.specs.Prelude.{◌≡◌, ◌<◌, ◌++◌, List, All, Some, length, flat_map, slice_get, IfOk, OnOk, option_map};
 ghost use Rattle.kc_tree_model.specs.Blocks.{Group};
 ghost use Rattle.kc_dotconfig_model.specs.ConfigLines.{LineMeaning};
 ghost use Rattle.kc_tree_model.specs.TreeLookup.{unit_of};
@@ -16,7 +15,7 @@ use crate::causes::push_cause;
 use kc_config_reasons::{AskingPlace, Overridden, deciding_line, overridden_lines, valuation};
 use kc_explanation::{push_asked_value, push_line_place, push_name};
 use kc_tree::Sym;
-use kmin_explain::{AskedSymbol, Sources, SymbolsOnce, path_at};
+use kmin_explain::{AskedSymbol, Sources, SymbolsOnce, asked_symbol, path_at, push_overridden_by};
 use std::alloc::{AllocError, Global};
 
 /// Appends `PATH:LINE: NAME: ASKED -> `, of a line of a configuration file.
@@ -55,9 +54,7 @@ fn push_overridden_row(
     ensures { (read : List Group) (meanings : List (List LineMeaning)) → OnOk result (out.new.items ≡ out.old.items ++ overridden_row (sources_model by.now read meanings) symbol.now.s symbol.now.kind (overridden_view found.now)) }
 {
     push_asking_front(out, by, symbol, found.place)?;
-    out.extend_from_slice(b"overridden by ")?;
-    let other = found.by;
-    push_line_place(out, path_at(by.file_paths, other.file), other.line.number)?;
+    push_overridden_by(out, by, found.by)?;
     out.extend_from_slice(b"\n")?;
     Ok(())
 }
@@ -79,7 +76,6 @@ fn push_overridden_rows(
 
 /// Appends the rows of the lines on a symbol that later files override.
 fn push_all_overridden(
-    alloc: Global,
     out: &mut Vec<u8>,
     by: &Sources<'_>,
     symbol: &AskedSymbol,
@@ -87,13 +83,12 @@ fn push_all_overridden(
     requires unit { symbol.now.unit ≡ unit_of (tree_in (config_of by.now)) symbol.now.s }
     ensures { (read : List Group) (meanings : List (List LineMeaning)) → AreSourcesOf by.now read meanings → OnOk result (out.new.items ≡ out.old.items ++ flat_map (overridden_row (sources_model by.now read meanings) symbol.now.s symbol.now.kind) (overridden (places_of (unit_of (tree_in (config_of by.now)) symbol.now.s) symbol.now.s 0 meanings))) }
 {
-    let found = overridden_lines(alloc, by.files, symbol.unit, symbol.s)?;
+    let found = overridden_lines(by.alloc, by.files, symbol.unit, symbol.s)?;
     push_overridden_rows(out, by, symbol, &found)
 }
 
 /// Appends the row of the line that counts.
 fn push_deciding_row(
-    alloc: Global,
     out: &mut Vec<u8>,
     by: &Sources<'_>,
     symbol: &AskedSymbol,
@@ -104,14 +99,13 @@ fn push_deciding_row(
     ensures { (read : List Group) (meanings : List (List LineMeaning)) → AreSourcesOf by.now read meanings → OnOk result (out.new.items ≡ out.old.items ++ missed_row (sources_model by.now read meanings) symbol.now.s symbol.now.kind (Some (place_view place.entry))) }
 {
     push_asking_front(out, by, symbol, place)?;
-    push_cause(alloc, out, by, symbol.s)?;
+    push_cause(out, by, symbol.s)?;
     out.extend_from_slice(b"\n")?;
     Ok(())
 }
 
 /// Appends the row of the line that counts, if there is one.
 fn push_missed_row(
-    alloc: Global,
     out: &mut Vec<u8>,
     by: &Sources<'_>,
     symbol: &AskedSymbol,
@@ -123,13 +117,12 @@ fn push_missed_row(
 {
     match place {
         None => out.extend_from_slice(b""),
-        Some(place) => push_deciding_row(alloc, out, by, symbol, place),
+        Some(place) => push_deciding_row(out, by, symbol, place),
     }
 }
 
 /// Appends the rows of symbol `s`, with that of the line that counts where the symbol is missed.
 fn push_missed_rows(
-    alloc: Global,
     out: &mut Vec<u8>,
     by: &Sources<'_>,
     is_missed: bool,
@@ -139,61 +132,27 @@ fn push_missed_rows(
     requires there { s < length (tree_in (config_of by.now)).symbols }
     ensures { (read : List Group) (meanings : List (List LineMeaning)) (symbol : ModelSymbol) → AreSourcesOf by.now read meanings → slice_get (tree_in (config_of by.now)).symbols s ≡ Some symbol → OnOk result (out.new.items ≡ out.old.items ++ missed_rows (sources_model by.now read meanings) is_missed s symbol) }
 {
-    let symbol = &valuation(by.config).rules.tree.symbol(s);
-    let asked = &AskedSymbol {
-        s,
-        unit: symbol.unit,
-        kind: symbol.kind,
-    };
-    push_all_overridden(alloc, out, by, asked)?;
+    let asked = &asked_symbol(by, s);
+    push_all_overridden(out, by, asked)?;
     if !is_missed {
         return Ok(());
     }
-    push_missed_row(
-        alloc,
-        out,
-        by,
-        asked,
-        deciding_line(by.files, asked.unit, s),
-    )
-}
-
-/// The marks of the symbols in a list, of a tree that has `count` symbols. An `Err` means out of memory.
-pub fn marked(alloc: Global, count: u32, symbols: &[Sym]) -> Result<SymbolsOnce, AllocError>
-    requires there { All (λ s. s < count) symbols.now }
-    ensures marks { IfOk result (λ marks. (s : ℕ) → s < count → slice_index_or marks.is_found.items s false ≡ list_any (λ m. m == s) symbols.now) }
-    ensures many { IfOk result (λ marks. length marks.is_found.items ≡ count) }
-{
-    let mut marks = SymbolsOnce::new(alloc, count)?;
-    marks.add_all(symbols)?;
-    Ok(marks)
-}
-
-/// Whether the symbol with a number is marked.
-pub fn is_marked(marks: &SymbolsOnce, s: u32) -> bool
-    requires there { s < length marks.now.is_found.items }
-    ensures { result ≡ slice_index_or marks.now.is_found.items s false }
-{
-    marks.is_found[s as usize]
+    push_missed_row(out, by, asked, deciding_line(by.files, asked.unit, s))
 }
 
 /// The text of `missed --long`: the lines of each symbol, in order of first definition, of which these don't have the values that
 /// files assign. An `Err` means out of memory.
-pub fn lines_of_missed(
-    alloc: Global,
-    by: &Sources<'_>,
-    symbols: &[Sym],
-) -> Result<Vec<u8>, AllocError>
+pub fn lines_of_missed(by: &Sources<'_>, symbols: &[Sym]) -> Result<Vec<u8>, AllocError>
     requires read { AreReadSources by.now }
     requires missed { symbols.now ≡ missed (tree_in (config_of by.now)) (config_of by.now).users (config_of by.now).values }
     ensures { (read : List Group) (meanings : List (List LineMeaning)) → AreSourcesOf by.now read meanings → IfOk result (λ text. text.items ≡ missed_lines (sources_model by.now read meanings)) }
 {
     let count = by.config.settled().tree().symbol_count();
-    let marks = marked(alloc, count, symbols)?;
-    let mut text = Vec::new(alloc);
+    let marks = SymbolsOnce::of(by.alloc, count, symbols)?;
+    let mut text = Vec::new(by.alloc);
     for s in 0..count {
-        let is_missed = is_marked(&marks, s);
-        push_missed_rows(alloc, &mut text, by, is_missed, Sym::at(s))?;
+        let is_missed = marks.has(s);
+        push_missed_rows(&mut text, by, is_missed, Sym::at(s))?;
     }
     Ok(text)
 }

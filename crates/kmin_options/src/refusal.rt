@@ -2,7 +2,7 @@
 ghost use Rattle.kmin_options.specs.declared.refusal.Refusal.TheVariants.{OutOfMemory};
 ghost use Rattle.std.specs.Prelude.{◌≡◌};
 
-use std::alloc::{AllocError, AllocFailed};
+use std::alloc::AllocError;
 
 /// Why words that `clap` accepts give no command.
 #[derive(Clone, Copy, Debug)]
@@ -12,18 +12,11 @@ pub enum Refusal {
     OutOfMemory,
 }
 
-impl From<AllocError> for Refusal {
+/// Memory ran out: an `AllocError`, or an error that becomes one.
+impl<E: Into<AllocError> + Drop> From<E> for Refusal {
     ghost from_gives = { λ _ refusal. refusal ≡ OutOfMemory };
 
-    fn from(_: AllocError) -> Refusal {
-        Refusal::OutOfMemory
-    }
-}
-
-impl<T: Drop> From<AllocFailed<T>> for Refusal {
-    ghost from_gives = { λ _ refusal. refusal ≡ OutOfMemory };
-
-    fn from(_: AllocFailed<T>) -> Refusal {
+    fn from(_: E) -> Refusal {
         Refusal::OutOfMemory
     }
 }

@@ -119,12 +119,8 @@ fn load_path<F: Files, E: Messages>(
         }
         None => {
             let kind = LoadKind::Read;
-            err.write_report(Message::FileFault {
-                path,
-                line: 0,
-                kind,
-            });
-            Err(RunError::Failed)
+            let fault = LoadFault { line: 0, kind };
+            Err(report_load_fault(path, fault, err))
         }
     }
 }

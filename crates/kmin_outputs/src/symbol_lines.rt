@@ -5,7 +5,7 @@ ghost use Rattle.kc_expr.specs.Expr.{SymbolValue};
 ghost use Rattle.kc_rules_model.specs.SymbolValues.{value_of_symbol};
 ghost use Rattle.kc_rules.specs.between.SettledViews.{tree_of_settled};
 ghost use Rattle.kc_minimal_model.specs.SymbolLine.{spelled};
-ghost use Rattle.kmin_outputs.specs.Outputs.{name_line};
+ghost use Rattle.kmin_outputs.specs.Outputs.{name_line, compared_line};
 ghost use Rattle.kmin_outputs.specs.between.Lines.{line_between};
 ghost use Rattle.kc_minimal.specs.declared.difference.Difference.{Difference as DifferenceRef};
 
@@ -43,31 +43,42 @@ pub(crate) fn name_lines(
     Ok(text)
 }
 
-/// Appends `NAME: LEFT -> RIGHT` for the symbol of this number, if there is one, with values as a file has them after
-/// `=`.
-fn push_plain_difference(
+/// Appends `NAME: LEFT -> RIGHT`.
+fn push_plain_line(
     out: &mut Vec<u8>,
-    strings: Strings,
-    settled: &Settled,
-    left: &[UnitValue],
-    right: &[UnitValue],
-    s: Sym,
+    name: &str,
+    left: &[u8],
+    right: &[u8],
 ) -> Result<(), AllocError>
-    ensures { OnOk result (out.new.items ≡ out.old.items ++ line_between OutputForm.Plain strings (tree_of_settled settled.now) left.now right.now s) }
+    ensures { OnOk result (out.new.items ≡ out.old.items ++ compared_line OutputForm.Plain name.now left.now right.now) }
 {
-    let tree = settled.tree();
-    if s.number() >= tree.symbol_count() {
-        return Ok(());
-    }
-    out.extend_from_slice(name_of(tree, s).as_bytes())?;
+    out.extend_from_slice(name.as_bytes())?;
     out.extend_from_slice(b": ")?;
-    let value = settled.value_of_symbol(s, left);
-    push_spelled(out, strings, value.kind, value.text)?;
+    out.extend_from_slice(left)?;
     out.extend_from_slice(b" -> ")?;
-    let value = settled.value_of_symbol(s, right);
-    push_spelled(out, strings, value.kind, value.text)?;
+    out.extend_from_slice(right)?;
     out.push(b'\n')?;
     Ok(())
+}
+
+/// Appends the line in a form for a symbol of this name with these two values: `NAME: LEFT -> RIGHT`, or a record.
+fn push_compared_line(
+    alloc: Global,
+    out: &mut Vec<u8>,
+    form: OutputForm,
+    name: &str,
+    left: &[u8],
+    right: &[u8],
+) -> Result<(), AllocError>
+    ensures { OnOk result (out.new.items ≡ out.old.items ++ compared_line form name.now left.now right.now) }
+{
+    match form {
+        OutputForm::Plain => push_plain_line(out, name, left, right),
+        OutputForm::Json => {
+            let line = compare_record(alloc, name, left, right)?;
+            out.extend_from_slice(&line)
+        }
+    }
 }
 
 /// The value of a symbol as a file has it after `=`.
@@ -87,29 +98,7 @@ fn spelled_value(
     Ok(text)
 }
 
-/// Appends the record of the symbol of this number, if there is one, with its name and its two values.
-fn push_difference_record(
-    alloc: Global,
-    out: &mut Vec<u8>,
-    strings: Strings,
-    settled: &Settled,
-    left: &[UnitValue],
-    right: &[UnitValue],
-    s: Sym,
-) -> Result<(), AllocError>
-    ensures { OnOk result (out.new.items ≡ out.old.items ++ line_between OutputForm.Json strings (tree_of_settled settled.now) left.now right.now s) }
-{
-    let tree = settled.tree();
-    if s.number() >= tree.symbol_count() {
-        return Ok(());
-    }
-    let before = spelled_value(alloc, strings, settled, left, s)?;
-    let after = spelled_value(alloc, strings, settled, right, s)?;
-    let line = compare_record(alloc, name_of(tree, s), &before, &after)?;
-    out.extend_from_slice(&line)
-}
-
-/// Appends the line of the symbol of this number in a form, if there is one.
+/// Appends the line in a form for the symbol of this number, if there is one, with values as a file has them after `=`.
 fn push_difference(
     alloc: Global,
     out: &mut Vec<u8>,
@@ -122,10 +111,13 @@ fn push_difference(
 ) -> Result<(), AllocError>
     ensures { OnOk result (out.new.items ≡ out.old.items ++ line_between form strings (tree_of_settled settled.now) left.now right.now s) }
 {
-    match form {
-        OutputForm::Plain => push_plain_difference(out, strings, settled, left, right, s),
-        OutputForm::Json => push_difference_record(alloc, out, strings, settled, left, right, s),
+    let tree = settled.tree();
+    if s.number() >= tree.symbol_count() {
+        return Ok(());
     }
+    let before = spelled_value(alloc, strings, settled, left, s)?;
+    let after = spelled_value(alloc, strings, settled, right, s)?;
+    push_compared_line(alloc, out, form, name_of(tree, s), &before, &after)
 }
 
 /// The text with a line in a form for each of these differences of two valuations, in order: `NAME: LEFT -> RIGHT`, or a record.

@@ -3,7 +3,7 @@ ghost use Rattle.std.specs.Prelude.{◌≡◌};
 ghost use Rattle.kmin_report.specs.between.RunErrors.{status_of};
 ghost use Rattle.kmin_report.specs.declared.run_error.RunError.TheVariants.{Memory};
 
-use std::alloc::{AllocError, AllocFailed};
+use std::alloc::AllocError;
 
 /// Why a run ends early. Every error but `Memory` was reported on standard error before.
 #[derive(Clone, Copy, Debug, PartialEq, Eq)]
@@ -32,18 +32,11 @@ impl RunError {
     }
 }
 
-impl From<AllocError> for RunError {
+/// Memory ran out: an `AllocError`, or an error that becomes one.
+impl<E: Into<AllocError> + Drop> From<E> for RunError {
     ghost from_gives = { λ _ stop. stop ≡ Memory };
 
-    fn from(_: AllocError) -> RunError {
-        RunError::Memory
-    }
-}
-
-impl<T: Drop> From<AllocFailed<T>> for RunError {
-    ghost from_gives = { λ _ stop. stop ≡ Memory };
-
-    fn from(_: AllocFailed<T>) -> RunError {
+    fn from(_: E) -> RunError {
         RunError::Memory
     }
 }

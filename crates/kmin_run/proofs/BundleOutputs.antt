@@ -7,7 +7,7 @@ use Rattle.kc_tokens.specs.declared.language.Language.TheVariants.{Strict}
 use Rattle.kc_tree_model.specs.Blocks.{Group}
 use Rattle.kc_tree_model.specs.Contents.{tree_of_groups}
 use Rattle.kc_dotconfig_model.specs.OtherChoices.{has_no_version, choice_lines_from, placed_from, other_places, other_choices}
-use Rattle.kmin_run.proofs.Common.{◌≡◌, ℕ, false, List, [], ◌∷◌, ◌++◌, Option, Some, Ok, Err, Vec, IfOk, IfErr, codes, cond, map, refl, sym, ap, ◌∙◌, subst, append-nil, Global, Settled, tree_of_settled, profile_of, empty_assignment, tree_in, RunError, ErrorLine, last_lines, SpelledBytes, TakesLines}
+use Rattle.kmin_run.proofs.Common.{◌≡◌, ℕ, false, List, [], ◌∷◌, ◌++◌, Option, Some, Ok, Err, Vec, IfOk, IfErr, codes, cond, map, refl, sym, ap, ◌∙◌, append-nil, Global, Settled, tree_of_settled, profile_of, empty_assignment, tree_in, RunError, ErrorLine, SpelledBytes, TakesLines}
 use Rattle.kmin_run.proofs.Common.{AreAccepted, IsBundle, bundle_content, status_of, StopsAtTexts, for_memory, lines_append}
 use Rattle.kc_tree_model.specs.Trees.{Tree}
 use Rattle.kc_rules_model.specs.declared.profile.Profile.TheVariants.{Present}

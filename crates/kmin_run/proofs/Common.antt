@@ -35,8 +35,8 @@ pub use Rattle.kmin_report.specs.declared.run_error.RunError.{RunError}
 pub use Rattle.kmin_report.specs.declared.run_error.RunError.TheVariants.{Configuration, Failed, Memory, Tree}
 pub use Rattle.kmin_run.specs.BundleOutputs.{bundle_content}
 pub use Rattle.kmin_run.specs.Bundles.{IsBundle, has_no_marker}
-pub use Rattle.kmin_run.specs.Runs.{BundleEnds, Input, stopped}
-pub use Rattle.kmin_run.specs.TidyRuns.{Outputs, at_list}
-pub use Rattle.kmin_run.specs.between.WordRuns.{AreWordsRead}
+pub use Rattle.kmin_run.specs.Runs.{BundleEnds, stopped}
+pub use Rattle.kmin_run.specs.States.{Input, Outputs, RunState}
+pub use Rattle.kmin_run.specs.TidyRuns.{at_list}
 pub use Rattle.kmin_trees.specs.AcceptedTrees.{AreAccepted}
 pub use Rattle.kmin_trees.specs.between.TreeStops.{StopsAtTexts, for_memory}

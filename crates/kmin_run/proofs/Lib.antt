@@ -3,6 +3,7 @@ pub mod RunFailures
 pub mod BundleCuts
 pub mod QuestionLines
 pub mod RunStatuses
+pub mod Keeping
 pub mod RunEnds
 pub mod BundleOutputs
 pub mod TidyLemmas

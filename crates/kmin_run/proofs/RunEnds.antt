@@ -1,18 +1,19 @@
 -- Ends of runs, from what the parts of a run ensure.
 use Rattle.std.proofs.Common.{eqb-true, true≢false}
 use Rattle.std.proofs.lemmas.Bool.Decides.{eqb_tells}
-use Rattle.kmin_run.proofs.Common.{◌≡◌, ◌≢◌, ◌≤◌, ◌==◌, map, Bool, false, ◌⊎◌, ℕ, true, List, [], ◌∷◌, ◌++◌, Option, Ok, length, inl, inr, refl, subst, arith, None, ap, sym, ◌∙◌, length-append, Appends, ErrorLine, last_lines, SpelledBytes, TakesLine, TakesLines, none, lines_append, lines_one}
-use Rattle.kmin_run.proofs.Common.{malformed_line, Represent, RunError, Tree, Configuration, Failed, Memory, status_of, Settings, Questions, Task, AreReadAs, Surroundings, TreeTexts, AreTextsOfJob, AreAsked, StopsWanting, questions_text, HasOutput, Outputs, BundleEnds, Input}
+use Rattle.kmin_run.proofs.Common.{◌≡◌, ◌≢◌, ◌≤◌, ◌==◌, map, Bool, false, ◌⊎◌, ℕ, true, List, [], ◌∷◌, ◌++◌, Option, Ok, length, inl, inr, refl, subst, arith, None, ap, sym, ◌∙◌, length-append, Appends, ErrorLine, last_lines, SpelledBytes, TakesLine, TakesLines, none, lines_one}
+use Rattle.kmin_run.proofs.Common.{malformed_line, Represent, RunError, Tree, Configuration, Failed, Memory, status_of, Settings, Questions, Task, AreReadAs, Surroundings, TreeTexts, AreTextsOfJob, AreAsked, StopsWanting, questions_text, HasOutput, Input, Outputs, RunState, BundleEnds}
 use Rattle.kc_value.specs.FileContents.{FileContent}
 use Rattle.kmin_report.specs.StandardError.{one_more}
 use Rattle.kmin_texts.specs.KnownLines.{KnownLines}
 use Rattle.kmin_texts.specs.Spellings.{AskedForm, as_asked}
-use Rattle.kmin_run.specs.between.WordRuns.{FormedEnds}
-use Rattle.kmin_run.specs.between.WordRuns as formed
+use Rattle.kmin_run.proofs.Keeping.{keeps_by, keeps_since}
+use Rattle.kmin_run.specs.between.StateRuns.{AreWordsRead, EndsAsRead, FormedEnds, KeepsWithinRead, KeepsWithinWords}
+use Rattle.kmin_run.specs.between.StateRuns as formed
 use Rattle.kmin_lines.specs.WordLines.{are_utf8}
-use Rattle.kmin_lines.specs.WordFiles.{files_of}
+use Rattle.kmin_lines.specs.WordFiles.{files_of, with_files}
 use Rattle.kmin_inputs.specs.ListFiles.{StopsReadingList, too_large, unread, for_memory}
-use Rattle.kmin_inputs.specs.WordFiles.{AreFilesRead, StopsAtWords, is_input_read_for}
+use Rattle.kmin_inputs.specs.WordFiles.{AreFilesRead, StopsAtWords}
 use Rattle.kmin_inputs.specs.WordFiles as stops
 use Rattle.kmin_options.specs.Jobs.{ExplainJob}
 use Rattle.kmin_cli.specs.Parses.{AreParsedBeside}
@@ -25,7 +26,7 @@ use Rattle.kmin_run.specs.PartialOutputs.{WritesOutputInPart}
 use Rattle.kmin_outputs.specs.Statuses.{status_of_list}
 use Rattle.kmin_outputs.specs.Stops.{Stops}
 use Rattle.kmin_run.specs.Runs as runs
-use Rattle.kmin_run.specs.Runs.{AreReadForChanges, AreReadForTidying, AskForChanges, AskForTidying, Ends, ExplainEnds, JobEnds, MayChangeFiles, QuestionsEnd, ReadEnd, WordsEnd, IsTidying}
+use Rattle.kmin_run.specs.Runs.{AreReadForChanges, AreReadForTidying, AskForChanges, AskForTidying, Ends, ExplainEnds, HelpEnds, JobEnds, QuestionsEnd, WordsEnd}
 
 -- a status is 0 or 1, or it is another one
 zero_or_one : (status : ℕ) → ((status ≡ 0) ⊎ (status ≡ 1)) ⊎ ((status ≢ 0) × (status ≢ 1))
@@ -124,41 +125,40 @@ bundle_wrote P Q stop status is part (inl failed) = elim (part failed) [
 ]
 bundle_wrote P Q stop status is part (inr nothing) = inl nothing
 
-module _ (known : Surroundings) (counted counted_after : ℕ) (input input_after : Input) (old new : Outputs) (lines : List ErrorLine) (status : ℕ) where
+module _ (before after : RunState) (lines : List ErrorLine) (status : ℕ) where
   -- a run without words ends as one on a bundle
-  pub without_words : {A : Type 0} (f : A → List ℕ) (words : List A) → (length words == 0) ≡ true → BundleEnds input input_after old new lines status
-      → Ends known counted counted_after (map f words) input input_after old new None lines status
+  pub without_words : {A : Type 0} (f : A → List ℕ) (words : List A) → (length words == 0) ≡ true
+      → BundleEnds before.input after.input before.outputs after.outputs lines status → Ends before after (map f words) None lines status
   without_words f [] empty ends = (ends, refl)
   without_words f (word ∷ words) empty ends = absurd (omega (arith, eqb-true _ _ empty))
 
   -- a run with words ends as they are parsed
   pub with_words : {A : Type 0} (form : Option AskedForm) (f : A → List ℕ) (words : List A) → (length words == 0) ≡ false
-      → WordsEnd known counted counted_after (map f words) input.left old new form lines status → Ends known counted counted_after (map f words) input input_after old new form lines status
+      → WordsEnd before after (map f words) form lines status → Ends before after (map f words) form lines status
   with_words form f [] some ends = absurd (true≢false some)
   with_words form f (word ∷ words) some ends = ends
+
+-- a run on a bundle leaves the disk as it is
+pub bundle_disk : (input input_after : Input) (old new : Outputs) (lines : List ErrorLine) (status : ℕ) → BundleEnds input input_after old new lines status
+    → new.disk ≡ old.disk
+bundle_disk input input_after old new lines status (runs.done bundle text s r w a t i n d) = d
+bundle_disk input input_after old new lines status (runs.stopped own s i w h d l) = d
+
+-- a help leaves the disk as it is
+pub help_disk : (text : List ℕ) (old new : Outputs) (lines : List ErrorLine) (status : ℕ) → HelpEnds text old new lines status → new.disk ≡ old.disk
+help_disk text old new lines status (runs.done s a n d l) = d
+help_disk text old new lines status (runs.stopped written w s a h d l) = d
 
 -- words are read as what they are parsed as once the command is first
 pub read_first : (is_input_read : Bool) (words ordered : List (List ℕ)) (what : ParsedWords) → ordered ≡ command_first words
     → AreParsedBeside is_input_read ordered what → AreReadAs is_input_read words what
 read_first is_input_read words ordered what first are = subst (λ (given : List (List ℕ)). AreParsedBeside is_input_read given what) first are
 
-module _ (P : Type 0) (is_input_read : Bool) (words : List (List ℕ)) (what : ParsedWords) (are : AreReadAs is_input_read words what) where
-  -- what was parsed of the words changes files, if anything does
-  pub asked : P ⊎ MayChangeFiles what → P ⊎ AreReadForChanges is_input_read words
-  asked (inl unchanged) = inl unchanged
-  asked (inr may) = inr (what, are, may)
-
-  -- what was parsed of the words is `tidy`, if something was written beside a refused file
-  pub tidied : P ⊎ IsTidying what → P ⊎ AreReadForTidying is_input_read words
-  tidied (inl unwritten) = inl unwritten
-  tidied (inr tidies) = inr (what, are, tidies)
-
 -- a run on what the words were parsed as ends as one on these words
-pub read_ended : (known : Surroundings) (counted counted_after : ℕ) (is_input_read : Bool) (words : List (List ℕ)) (left : Option (List ℕ)) (what : ParsedWords) (old new : Outputs)
-    (form : Option AskedForm) (lines : List ErrorLine) (status : ℕ) → AreReadAs is_input_read words what
-    → FormedEnds known counted counted_after left what old new form lines status → ReadEnd known counted counted_after is_input_read words left old new form lines status
-read_ended known counted counted_after is_input_read words left what old new form lines status are (formed.formed f ends) = runs.parsed what are f ends
-read_ended known counted counted_after is_input_read words left what old new form lines status are (formed.for_memory s n f l) = runs.for_memory s n f l
+pub read_ended : (before after : RunState) (is_input_read : Bool) (words : List (List ℕ)) (what : ParsedWords) (form : Option AskedForm) (lines : List ErrorLine) (status : ℕ)
+    → AreReadAs is_input_read words what → FormedEnds before after what form lines status → EndsAsRead before after is_input_read words form lines status
+read_ended before after is_input_read words what form lines status are (formed.formed f ends) = runs.parsed what are f ends
+read_ended before after is_input_read words what form lines status are (formed.for_memory s n f l) = runs.for_memory s n f l
 
 -- standard error that took no lines is as it was
 nothing_taken : (lines : List ErrorLine) (taken middle : SpelledBytes) (failed failed_middle : ℕ) → lines ≡ []
@@ -190,59 +190,53 @@ words_at_most_six content_of left words status lines (stops.unread front back fi
 words_at_most_six content_of left words status lines (stops.malformed files r u s e) = omega arith
 words_at_most_six content_of left words status lines (stops.for_memory s e) = omega arith
 
-module _ (known : Surroundings) (left : Option (List ℕ)) (words : List (List ℕ)) where
+-- what a run on words ensures
+abbrev WordsRun : (before after : RunState) (words : List (List ℕ)) (status : ℕ) (line_files : KnownLines) (taken taken_after : SpelledBytes) (failed failed_after : ℕ) → Type 0
+WordsRun before after words status line_files taken taken_after failed failed_after =
+    ((form : Option AskedForm) × (lines : List ErrorLine) × WordsEnd before after words form lines status
+    × TakesLines (as_asked form line_files taken) failed lines taken_after failed_after)
+
+module _ (before after : RunState) (words : List (List ℕ)) (status : ℕ) (line_files : KnownLines) (taken taken_after : SpelledBytes)
+    (failed failed_after : ℕ) (same : after.outputs ≡ before.outputs) where
   -- a run that a file of words ended, with its last lines reported
-  pub words_stopped : (line_files : KnownLines) (counted counted_after : ℕ) (old : Outputs) (status : ℕ) (taken taken_after : SpelledBytes) (failed failed_after : ℕ)
-      → (lines : List ErrorLine) × StopsAtWords known.content left words status lines × TakesLines taken failed (lines ++ last_lines status) taken_after failed_after
-      → (form : Option AskedForm) × (lines : List ErrorLine) × WordsEnd known counted counted_after words left old old form lines status
-      × TakesLines (as_asked form line_files taken) failed lines taken_after failed_after
-  words_stopped line_files counted counted_after old status taken taken_after failed failed_after h = (None, h.0 ++ last_lines status, runs.stopped h.0 h.1 refl refl refl, h.2)
+  pub words_stopped : (lines : List ErrorLine) × StopsAtWords before.known.content before.input.left words status lines
+      × TakesLines taken failed (lines ++ last_lines status) taken_after failed_after
+      → WordsRun before after words status line_files taken taken_after failed failed_after
+  words_stopped h = (None, h.0 ++ last_lines status, runs.stopped h.0 h.1 same refl refl, h.2)
 
   -- a run that a word in a file ended, which isn't UTF-8
-  pub words_malformed : (line_files : KnownLines) (counted counted_after : ℕ) (old : Outputs) (status : ℕ) (taken middle taken_after : SpelledBytes)
-      (failed failed_middle failed_after : ℕ) (files : List (List ℕ)) → AreFilesRead known.content left (files_of words) files → are_utf8 files ≡ false → status ≡ 2 → TakesLines taken failed [] middle failed_middle
-      → TakesLine middle failed_middle malformed_line taken_after failed_after
-      → (form : Option AskedForm) × (lines : List ErrorLine) × WordsEnd known counted counted_after words left old old form lines status
-      × TakesLines (as_asked form line_files taken) failed lines taken_after failed_after
-  words_malformed line_files counted counted_after old status taken middle taken_after failed failed_middle failed_after files r u s before h = (
+  pub words_malformed : (files : List (List ℕ)) → AreFilesRead before.known.content before.input.left (files_of words) files → are_utf8 files ≡ false → status ≡ 2
+      → TakesLine taken failed malformed_line taken_after failed_after
+      → WordsRun before after words status line_files taken taken_after failed failed_after
+  words_malformed files r u s h = (
     None,
     malformed_line ∷ [],
-    runs.stopped (malformed_line ∷ []) (stops.malformed files r u s refl) refl refl (rw s refl),
-    lines_append taken middle failed failed_middle [] (malformed_line ∷ []) taken_after failed_after before
-        (lines_one middle taken_after failed_middle failed_after malformed_line h),
+    runs.stopped (malformed_line ∷ []) (stops.malformed files r u s refl) same refl (rw s refl),
+    lines_one taken taken_after failed failed_after malformed_line h,
   )
 
   -- a run that ended since memory ran out after the files of words were read
-  pub words_forgotten : (line_files : KnownLines) (counted counted_after : ℕ) (old : Outputs) (status : ℕ) (taken middle taken_after : SpelledBytes)
-      (failed failed_middle failed_after : ℕ) → status ≡ 6 → TakesLines taken failed [] middle failed_middle → TakesLines middle failed_middle (last_lines status) taken_after failed_after
-      → (form : Option AskedForm) × (lines : List ErrorLine) × WordsEnd known counted counted_after words left old old form lines status
-      × TakesLines (as_asked form line_files taken) failed lines taken_after failed_after
-  words_forgotten line_files counted counted_after old status taken middle taken_after failed failed_middle failed_after s before h = (
-    None,
-    last_lines status,
-    runs.stopped [] (stops.for_memory s refl) refl refl refl,
-    lines_append taken middle failed failed_middle [] (last_lines status) taken_after failed_after before h,
-  )
+  pub words_forgotten : status ≡ 6 → TakesLines taken failed (last_lines status) taken_after failed_after
+      → WordsRun before after words status line_files taken taken_after failed failed_after
+  words_forgotten s h = (None, last_lines status, runs.stopped [] (stops.for_memory s refl) same refl refl, h)
 
-  module _ (is_input_read : Bool) (is : is_input_read ≡ is_input_read_for words) (represented : List (List ℕ))
-      (represent : Represent known.content left words represented) where
-    -- a run ends as one on the words that its words represent does
-    pub words_ended : (line_files : KnownLines) (counted counted_after : ℕ) (old new : Outputs) (status : ℕ) (taken taken_after : SpelledBytes) (failed failed_after : ℕ)
-        (left_after : Option (List ℕ)) → (is_input_read_for words ≡ false → left_after ≡ left)
-        → (form : Option AskedForm) × (lines : List ErrorLine) × ReadEnd known counted counted_after is_input_read represented left_after old new form lines status
-        × TakesLines (as_asked form line_files taken) failed lines taken_after failed_after
-        → (form : Option AskedForm) × (lines : List ErrorLine) × WordsEnd known counted counted_after words left old new form lines status
-        × TakesLines (as_asked form line_files taken) failed lines taken_after failed_after
-    words_ended line_files counted counted_after old new status taken taken_after failed failed_after left_after untouched h = (
-      h.0,
-      h.1,
-      runs.represented represented left_after represent untouched
-          (subst (λ (b : Bool). ReadEnd known counted counted_after b represented left_after old new h.0 h.1 status) is h.2),
-      h.3,
-    )
+module _ (before middle after : RunState) (words files represented : List (List ℕ)) (is_input_read : Bool)
+    (read : AreWordsRead before middle words files is_input_read) (utf8 : are_utf8 files ≡ true) (are : represented ≡ with_files words files) where
+  represent : Represent before.known.content before.input.left words represented
+  represent = record { files = files; read = read.read; utf8 = utf8; are = are }
 
-    pub changes_asked : AreReadForChanges is_input_read represented → AskForChanges known left words
-    changes_asked h = (represented, represent, subst (λ (b : Bool). AreReadForChanges b represented) is h)
+  changes_asked : AreReadForChanges is_input_read represented → AskForChanges before words
+  changes_asked h = (represented, represent, subst (λ (b : Bool). AreReadForChanges b represented) read.input h)
 
-    pub tidying_asked : AreReadForTidying is_input_read represented → AskForTidying known left words
-    tidying_asked h = (represented, represent, subst (λ (b : Bool). AreReadForTidying b represented) is h)
+  tidying_asked : AreReadForTidying is_input_read represented → AskForTidying before words
+  tidying_asked h = (represented, represent, subst (λ (b : Bool). AreReadForTidying b represented) read.input h)
+
+  -- a run ends as one on the words that its words represent does
+  pub words_ended : (form : Option AskedForm) (lines : List ErrorLine) (status : ℕ) → EndsAsRead middle after is_input_read represented form lines status
+      → WordsEnd before after words form lines status
+  words_ended form lines status h =
+      runs.represented represented middle.input.left represent read.untouched (rw (read.known, read.counted, read.outputs, read.input) at h)
+
+  -- it keeps within what they ask for
+  pub words_keep : (status : ℕ) → KeepsWithinRead middle after is_input_read represented status → KeepsWithinWords before after words status
+  words_keep status keeps = keeps_by _ _ _ tidying_asked changes_asked (keeps_since _ _ _ _ read.counted read.unfailed read.outputs keeps)

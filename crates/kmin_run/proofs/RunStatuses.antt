@@ -9,10 +9,6 @@ on_four status four h = h (λ zero. omega arith) (λ five. omega arith)
 pub two_at_most_six : (status : ℕ) → status ≡ 2 → status ≤ 6
 two_at_most_six status two = omega arith
 
--- what holds on every status but 0, 1 and 5 holds on 4
-pub on_four_of_outputs : {P : Type 0} (status : ℕ) → status ≡ 4 → (status ≢ 0 → status ≢ 1 → status ≢ 5 → P) → P
-on_four_of_outputs status four h = h (λ zero. omega arith) (λ one. omega arith) (λ five. omega arith)
-
 -- the status of a help, 0 or 5
 module _ (status : ℕ) (help : (status ≡ 0) ⊎ (status ≡ 5)) where
   pub help_at_most_six : status ≤ 6
@@ -20,6 +16,3 @@ module _ (status : ℕ) (help : (status ≡ 0) ⊎ (status ≡ 5)) where
 
   pub help_no_other : {P : Type 0} → status ≢ 0 → status ≢ 5 → P
   help_no_other zero five = absurd (elim help [ inl e ↦ zero e | inr e ↦ five e ])
-
-  pub help_not_four : {P : Type 0} → status ≡ 4 → P
-  help_not_four four = absurd (elim help [ inl e ↦ omega arith | inr e ↦ omega arith ])

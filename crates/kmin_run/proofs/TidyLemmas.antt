@@ -1,8 +1,8 @@
 -- Ends of runs over files: their statuses, their lines, and where nothing is written.
 use Rattle.std.proofs.Common.{max}
-use Rattle.std.specs.Prelude.{bytes_eq, Bool, true, false}
+use Rattle.std.specs.Prelude.{Bool, true, false}
 use Rattle.kmin_tidy.specs.Options.{TidySettings, settings_of}
-use Rattle.kmin_run.proofs.Common.{◌≡◌, ◌≢◌, ℕ, ◌≤◌, ◌⊎◌, inl, inr, List, [], ◌∷◌, ◌++◌, Option, Some, None, refl, sym, ap, ◌∙◌, subst, arith, codes, option_map, Disk, Appends, SpelledBytes, TakesLine, TakesLines, Surroundings, ErrorLine, last_lines, AreAccepted, TreeTexts, AreTextsOfJob, at_list}
+use Rattle.kmin_run.proofs.Common.{◌≡◌, ◌≢◌, ℕ, ◌≤◌, ◌⊎◌, inl, inr, List, [], ◌∷◌, ◌++◌, Option, refl, sym, ap, ◌∙◌, subst, arith, Disk, Appends, SpelledBytes, TakesLine, TakesLines, Surroundings, ErrorLine, last_lines, AreAccepted, TreeTexts, AreTextsOfJob, at_list}
 use Rattle.kmin_run.proofs.Common.{Outputs, malformed_line, RunError, lines_append, lines_one, Settled, tree_of_settled, profile_of}
 use Rattle.kmin_tidy.specs.Runs.{DoneFile, status_of, status_with}
 use Rattle.kmin_tidy.specs.Ends.{Ends, whole, part, stopped, Stops, before_write, at_write, at_left}

@@ -1,5 +1,5 @@
 -- The output for a bundle, and the ends of a bundle without one.
-use Rattle.std.specs.Prelude.{◌≡◌, ℕ, false, ◌<◌, List, [], ◌∷◌, ◌++◌, Option, Some, None, take, length, codes}
+use Rattle.std.specs.Prelude.{◌≡◌, ℕ, false, ◌<◌, List, [], ◌∷◌, ◌++◌, Option, None, take, length, codes}
 use Rattle.std.specs.Io.KnownBytes.{Appends, Consumes}
 use Rattle.kc_value.specs.declared.limits.TheConstants.{MAX_BUNDLE_BYTES}
 use Rattle.kc_value.specs.FileContents.{FileContent, known}

@@ -27,7 +27,8 @@ use Rattle.kmin_run.specs.PartialOutputs.{WritesOutputInPart}
 use Rattle.kmin_run.specs.Saves.{SaveEnds}
 use Rattle.kmin_outputs.specs.Statuses.{status_of_list}
 use Rattle.kmin_outputs.specs.Stops.{Stops}
-use Rattle.kmin_run.specs.TidyRuns.{Outputs, TidyEnds}
+use Rattle.kmin_run.specs.States.{Input, Outputs, RunState}
+use Rattle.kmin_run.specs.TidyRuns.{TidyEnds}
 
 -- the status of a run that ended with a fault, and not by words that are refused
 abbrev pub IsOfFault : (status : ℕ) → Type 0
@@ -116,27 +117,19 @@ pub data ReadEnd (known : Surroundings) (counted counted_after : ℕ) (is_input_
 
 -- A run on words ends as one on the words that they represent does, each `@FILE` those in its file; or such a file ends it, and
 -- nothing changes. Of standard input all is left then but where it is one of these files.
-pub data WordsEnd (known : Surroundings) (counted counted_after : ℕ) (words : List (List ℕ)) (left : Option (List ℕ)) (old new : Outputs) (form : Option AskedForm) (lines : List ErrorLine) (status : ℕ) : Type 0 where
-  represented : (represented : List (List ℕ)) (left_after : Option (List ℕ)) → Represent known.content left words represented
-      → (is_input_read_for words ≡ false → left_after ≡ left)
-      → ReadEnd known counted counted_after (is_input_read_for words) represented left_after old new form lines status → WordsEnd known counted counted_after words left old new form lines status
-  stopped : (own : List ErrorLine) → StopsAtWords known.content left words status own → new ≡ old → form ≡ None → lines ≡ own ++ last_lines status
-      → WordsEnd known counted counted_after words left old new form lines status
-
--- standard input: the bytes that are left, as far as that is known, and the count of its failed reads
-pub record Input : Type 0 where
-  pub left : Option (List ℕ)
-  pub failures : ℕ
-
--- standard input, from its parts
-abbrev pub input_of : (left : Option (List ℕ)) → (failures : ℕ) → Input
-input_of left failures = record { left = left; failures = failures }
+pub data WordsEnd (before after : RunState) (words : List (List ℕ)) (form : Option AskedForm) (lines : List ErrorLine) (status : ℕ) : Type 0 where
+  represented : (represented : List (List ℕ)) (left : Option (List ℕ)) → Represent before.known.content before.input.left words represented
+      → (is_input_read_for words ≡ false → left ≡ before.input.left)
+      → ReadEnd before.known before.counted after.counted (is_input_read_for words) represented left before.outputs after.outputs form lines status
+      → WordsEnd before after words form lines status
+  stopped : (own : List ErrorLine) → StopsAtWords before.known.content before.input.left words status own → after.outputs ≡ before.outputs → form ≡ None → lines ≡ own ++ last_lines status
+      → WordsEnd before after words form lines status
 
 -- a count of failures rose: that of the files, which counts those that can't be opened and reads that fail, that of standard input
 -- or that of standard output
-abbrev pub HasFailed : (failed failed_after : ℕ) → (input input_after : Input) → (old new : Outputs) → Type 0
-HasFailed failed failed_after input input_after old new =
-    HasRisen failed failed_after ⊎ (HasRisen input.failures input_after.failures ⊎ HasRisen old.failures new.failures)
+abbrev pub HasFailed : (before after : RunState) → Type 0
+HasFailed before after =
+    HasRisen before.counted after.counted ⊎ (HasRisen before.input.failures after.input.failures ⊎ HasRisen before.outputs.failures after.outputs.failures)
 
 -- A run on a bundle ends: it was read to its end, has an allowed size, its full file is written, and no read or write failed; or
 -- the run ended without the whole file, on status 5 since a read or a write failed. The disk is unchanged.
@@ -150,9 +143,9 @@ pub data BundleEnds (input input_after : Input) (old new : Outputs) (lines : Lis
       → new.disk ≡ old.disk → lines ≡ own ++ last_lines status → BundleEnds input input_after old new lines status
 
 -- a run ends, without words on a bundle, with plain lines, and with words as they are parsed
-abbrev pub Ends : Surroundings → (counted counted_after : ℕ) → (words : List (List ℕ)) → (input input_after : Input) → (old new : Outputs) → (form : Option AskedForm) → (lines : List ErrorLine) → (status : ℕ) → Type 0
-Ends known counted counted_after [] input input_after old new form lines status = BundleEnds input input_after old new lines status × (form ≡ None)
-Ends known counted counted_after (word ∷ words) input input_after old new form lines status = WordsEnd known counted counted_after (word ∷ words) input.left old new form lines status
+abbrev pub Ends : (before after : RunState) → (words : List (List ℕ)) → (form : Option AskedForm) → (lines : List ErrorLine) → (status : ℕ) → Type 0
+Ends before after [] form lines status = BundleEnds before.input after.input before.outputs after.outputs lines status × (form ≡ None)
+Ends before after (word ∷ words) form lines status = WordsEnd before after (word ∷ words) form lines status
 
 -- what was parsed is `tidy --write`, or a command with an output file
 abbrev pub MayChangeFiles : ParsedWords → Type 0
@@ -165,9 +158,9 @@ abbrev pub AreReadForChanges : (is_input_read : Bool) → (words : List (List �
 AreReadForChanges is_input_read words = (what : ParsedWords) × AreReadAs is_input_read words what × MayChangeFiles what
 
 -- words represent words that are read as a command that changes files
-abbrev pub AskForChanges : Surroundings → (left : Option (List ℕ)) → (words : List (List ℕ)) → Type 0
-AskForChanges known left words =
-    (represented : List (List ℕ)) × Represent known.content left words represented × AreReadForChanges (is_input_read_for words) represented
+abbrev pub AskForChanges : RunState → (words : List (List ℕ)) → Type 0
+AskForChanges before words =
+    (represented : List (List ℕ)) × Represent before.known.content before.input.left words represented × AreReadForChanges (is_input_read_for words) represented
 
 -- what was parsed is the command `tidy`
 abbrev pub IsTidying : ParsedWords → Type 0
@@ -179,6 +172,6 @@ abbrev pub AreReadForTidying : (is_input_read : Bool) → (words : List (List �
 AreReadForTidying is_input_read words = (what : ParsedWords) × AreReadAs is_input_read words what × IsTidying what
 
 -- words represent words that are read as the command `tidy`
-abbrev pub AskForTidying : Surroundings → (left : Option (List ℕ)) → (words : List (List ℕ)) → Type 0
-AskForTidying known left words =
-    (represented : List (List ℕ)) × Represent known.content left words represented × AreReadForTidying (is_input_read_for words) represented
+abbrev pub AskForTidying : RunState → (words : List (List ℕ)) → Type 0
+AskForTidying before words =
+    (represented : List (List ℕ)) × Represent before.known.content before.input.left words represented × AreReadForTidying (is_input_read_for words) represented

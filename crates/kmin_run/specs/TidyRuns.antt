@@ -9,7 +9,6 @@ use Rattle.kc_tree_model.specs.Trees.{Tree}
 use Rattle.kmin_lines.specs.Lists.{paths_in, is_one_line}
 use Rattle.kmin_tidy.specs.declared.options.TidyOptions.{TidyOptions}
 use Rattle.kmin_tidy.specs.Options.{TidySettings as RunSettings}
-use Rattle.kmin_disk.specs.Disks.{Disk}
 use Rattle.kmin_tidy.specs.Ends.{Ends}
 use Rattle.kmin_tidy.specs.Promises.{IsKeptOrLeft, AreTidy}
 use Rattle.kmin_options.specs.declared.job.TidyFlags.{TidyFlags}
@@ -20,6 +19,7 @@ use Rattle.kmin_expansions.specs.JobTexts.{TreeTexts, AreTextsOfJob}
 use Rattle.kmin_trees.specs.AcceptedTrees.{AreAccepted}
 use Rattle.kmin_report.specs.Reports.{ErrorLine, last_lines}
 use Rattle.kmin_trees.specs.Stops.{StopsAtTree}
+use Rattle.kmin_run.specs.States.{Outputs}
 
 -- these bytes are those of the list of `tidy --from`, and no more than `MAX_LIST_BYTES`; without a list there are none
 abbrev pub AreListBytes : (content_of : List ℕ → FileContent) → (left : Option (List ℕ)) → Option PathList → (bytes : List ℕ) → Type 0
@@ -60,16 +60,6 @@ options_of settings flags = record { write = flags.write; drop = flags.drop; str
 -- the settings of a run of `tidy_files`, from the options of the command `tidy` and its tree
 abbrev pub run_settings : Settings → TidyFlags → Tree → RunSettings
 run_settings settings flags tree = record { format = settings.format; profile = settings.profile; tree = tree; options = options_of settings flags }
-
--- all that a run changes: the disk, and standard output with the bytes that it took and the count of its failed writes
-pub record Outputs : Type 0 where
-  pub disk : Disk
-  pub taken : Option (List ℕ)
-  pub failures : ℕ
-
--- all that a run changes, from its parts: the disk, the bytes that standard output took, and the count of its failed writes
-abbrev pub outputs_of : Disk → (taken : Option (List ℕ)) → (failures : ℕ) → Outputs
-outputs_of disk taken failures = record { disk = disk; taken = taken; failures = failures }
 
 -- A run over files ended as `tidy_files` promises: at each path all is as it was, or a file was replaced by its minimal file, or
 -- an unfinished new file was left; and nothing changes if each file is minimal or refused.

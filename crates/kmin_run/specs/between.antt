@@ -1,1 +1,1 @@
-pub mod WordRuns
+pub mod StateRuns

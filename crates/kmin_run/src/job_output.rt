@@ -88,59 +88,103 @@ pub(crate) fn output_of_job<F: Files, E: Messages>(
     ensures failed { IfErr result (λ stop. status_of stop ≡ 5 → HasRisen (F.failures files.old) (F.failures files.new)) }
 {
     let settled = job_tree(alloc, &job.settings, files, err)?;
-    let output = output_over(alloc, &job.settings, &job.task, &settled, files, err);
+    let by = &SettledJob {
+        alloc,
+        settings: &job.settings,
+        settled: &settled,
+    };
+    let output = by.output(&job.task, files, err);
     drop(settled);
     output
 }
 
-/// The output of a command over its settled tree, and its status. Reports the notices, and why there is no output.
-fn output_over<F: Files, E: Messages>(
+/// The settings of a command, and its settled tree.
+#[derive(Clone, Copy)]
+struct SettledJob<'a, 's> {
     alloc: Global,
-    settings: &Settings<'_>,
-    task: &Task<'_>,
-    settled: &Settled,
-    files: &mut F,
-    err: &mut E,
-) -> Result<JobOutput, RunError>
-    requires profile { profile_of settled.now ≡ settings.now.profile }
-    ensures status { IfOk result (λ output. output.status ≤ 1) }
-    ensures output { IfOk result (λ output. (notices : List ErrorLine) × ((texts : trees.Files) → AreAccepted texts settings.now.tree.now (tree_of_settled settled.now) → HasOutput (F.surroundings files.old).content (settings_view settings.now) texts (task_view task.now) output.text.items output.status notices) × TakesLines (E.taken err.old) (E.failures err.old) notices (E.taken err.new) (E.failures err.new)) }
-    ensures stopped { IfErr result (λ stop. (lines : List ErrorLine) × StopsOverTree (F.surroundings files.old).content (settings_view settings.now) (tree_of_settled settled.now) (task_view task.now) (status_of stop) lines × TakesLines (E.taken err.old) (E.failures err.old) lines (E.taken err.new) (E.failures err.new)) }
-    ensures failed { IfErr result (λ stop. status_of stop ≡ 5 → HasRisen (F.failures files.old) (F.failures files.new)) }
-    ensures rising { F.failures files.old ≤ F.failures files.new }
-{
-    match task {
-        Task::Over { verb, files: paths } => {
-            output_of_files(alloc, settings, *verb, paths, settled, files, err)
-        }
-        Task::Compare { left, right } => {
-            output_of_comparison(alloc, settings, left, right, settled, files, err)
-        }
-    }
+    settings: &'a Settings<'s>,
+    settled: &'a Settled,
+    ghost profile: { profile_of settled.now ≡ settings.now.profile },
 }
 
-/// The output of a verb over the configuration of all files, and its status. Reports the notices, and why there is no
-/// output.
-fn output_of_files<F: Files, E: Messages>(
-    alloc: Global,
-    settings: &Settings<'_>,
-    verb: Verb,
-    paths: &[&str],
-    settled: &Settled,
-    files: &mut F,
-    err: &mut E,
-) -> Result<JobOutput, RunError>
-    requires profile { profile_of settled.now ≡ settings.now.profile }
-    ensures status { IfOk result (λ output. output.status ≤ 1) }
-    ensures output { IfOk result (λ output. (notices : List ErrorLine) × ((texts : trees.Files) → AreAccepted texts settings.now.tree.now (tree_of_settled settled.now) → HasOutput (F.surroundings files.old).content (settings_view settings.now) texts (over verb (map (λ (path : Bor (List ℕ)). path.now) paths.now)) output.text.items output.status notices) × TakesLines (E.taken err.old) (E.failures err.old) notices (E.taken err.new) (E.failures err.new)) }
-    ensures stopped { IfErr result (λ stop. (lines : List ErrorLine) × StopsOverTree (F.surroundings files.old).content (settings_view settings.now) (tree_of_settled settled.now) (over verb (map (λ (path : Bor (List ℕ)). path.now) paths.now)) (status_of stop) lines × TakesLines (E.taken err.old) (E.failures err.old) lines (E.taken err.new) (E.failures err.new)) }
-    ensures failed { IfErr result (λ stop. status_of stop ≡ 5 → HasRisen (F.failures files.old) (F.failures files.new)) }
-    ensures rising { F.failures files.old ≤ F.failures files.new }
-{
-    let read = configured(alloc, settled, settings, paths, files, err)?;
-    let output = noticed_output(alloc, settings, verb, paths, &read, err);
-    drop(read);
-    output
+impl SettledJob<'_, '_> {
+    /// The output of a command, and its status. Reports the notices, and why there is no output.
+    fn output<F: Files, E: Messages>(
+        &self,
+        task: &Task<'_>,
+        files: &mut F,
+        err: &mut E,
+    ) -> Result<JobOutput, RunError>
+        ensures status { IfOk result (λ output. output.status ≤ 1) }
+        ensures output { IfOk result (λ output. (notices : List ErrorLine) × ((texts : trees.Files) → AreAccepted texts self.now.settings.now.tree.now (tree_of_settled self.now.settled.now) → HasOutput (F.surroundings files.old).content (settings_view self.now.settings.now) texts (task_view task.now) output.text.items output.status notices) × TakesLines (E.taken err.old) (E.failures err.old) notices (E.taken err.new) (E.failures err.new)) }
+        ensures stopped { IfErr result (λ stop. (lines : List ErrorLine) × StopsOverTree (F.surroundings files.old).content (settings_view self.now.settings.now) (tree_of_settled self.now.settled.now) (task_view task.now) (status_of stop) lines × TakesLines (E.taken err.old) (E.failures err.old) lines (E.taken err.new) (E.failures err.new)) }
+        ensures failed { IfErr result (λ stop. status_of stop ≡ 5 → HasRisen (F.failures files.old) (F.failures files.new)) }
+        ensures rising { F.failures files.old ≤ F.failures files.new }
+    {
+        match task {
+            Task::Over { verb, files: paths } => self.output_of_files(*verb, paths, files, err),
+            Task::Compare { left, right } => self.output_of_comparison(left, right, files, err),
+        }
+    }
+
+    /// The output of a verb over the configuration of all files, and its status. Reports the notices, and why there is no
+    /// output.
+    fn output_of_files<F: Files, E: Messages>(
+        &self,
+        verb: Verb,
+        paths: &[&str],
+        files: &mut F,
+        err: &mut E,
+    ) -> Result<JobOutput, RunError>
+        ensures status { IfOk result (λ output. output.status ≤ 1) }
+        ensures output { IfOk result (λ output. (notices : List ErrorLine) × ((texts : trees.Files) → AreAccepted texts self.now.settings.now.tree.now (tree_of_settled self.now.settled.now) → HasOutput (F.surroundings files.old).content (settings_view self.now.settings.now) texts (over verb (map (λ (path : Bor (List ℕ)). path.now) paths.now)) output.text.items output.status notices) × TakesLines (E.taken err.old) (E.failures err.old) notices (E.taken err.new) (E.failures err.new)) }
+        ensures stopped { IfErr result (λ stop. (lines : List ErrorLine) × StopsOverTree (F.surroundings files.old).content (settings_view self.now.settings.now) (tree_of_settled self.now.settled.now) (over verb (map (λ (path : Bor (List ℕ)). path.now) paths.now)) (status_of stop) lines × TakesLines (E.taken err.old) (E.failures err.old) lines (E.taken err.new) (E.failures err.new)) }
+        ensures failed { IfErr result (λ stop. status_of stop ≡ 5 → HasRisen (F.failures files.old) (F.failures files.new)) }
+        ensures rising { F.failures files.old ≤ F.failures files.new }
+    {
+        let read = configured(self.alloc, self.settled, self.settings, paths, files, err)?;
+        let output = noticed_output(self.alloc, self.settings, verb, paths, &read, err);
+        drop(read);
+        output
+    }
+
+    /// The output of a comparison of two configurations of one file each, and its status. Reports the notices, and why
+    /// there is no output.
+    fn output_of_comparison<F: Files, E: Messages>(
+        &self,
+        left: &str,
+        right: &str,
+        files: &mut F,
+        err: &mut E,
+    ) -> Result<JobOutput, RunError>
+        ensures status { IfOk result (λ output. output.status ≤ 1) }
+        ensures output { IfOk result (λ output. (notices : List ErrorLine) × ((texts : trees.Files) → AreAccepted texts self.now.settings.now.tree.now (tree_of_settled self.now.settled.now) → HasOutput (F.surroundings files.old).content (settings_view self.now.settings.now) texts (compare left.now right.now) output.text.items output.status notices) × TakesLines (E.taken err.old) (E.failures err.old) notices (E.taken err.new) (E.failures err.new)) }
+        ensures stopped { IfErr result (λ stop. (lines : List ErrorLine) × StopsOverTree (F.surroundings files.old).content (settings_view self.now.settings.now) (tree_of_settled self.now.settled.now) (compare left.now right.now) (status_of stop) lines × TakesLines (E.taken err.old) (E.failures err.old) lines (E.taken err.new) (E.failures err.new)) }
+        ensures failed { IfErr result (λ stop. status_of stop ≡ 5 → HasRisen (F.failures files.old) (F.failures files.new)) }
+        ensures rising { F.failures files.old ≤ F.failures files.new }
+    {
+        let (before, after) = read_both(
+            self.alloc,
+            self.settled,
+            self.settings,
+            left,
+            right,
+            files,
+            err,
+        )?;
+        let output = noticed_comparison(
+            self.alloc,
+            self.settings,
+            left,
+            right,
+            &before,
+            &after,
+            err,
+        );
+        drop(after);
+        drop(before);
+        output
+    }
 }
 
 /// The output of a verb over a configuration of files at these paths, and its status, once the notices on its choices are
@@ -160,31 +204,6 @@ fn noticed_output<E: Messages>(
 {
     notice_choices(alloc, settings, paths, read, err)?;
     Ok(output_of_verb(alloc, verb, &read.config, &settings.format)?)
-}
-
-/// The output of a comparison of two configurations of one file each, and its status. Reports the notices, and why
-/// there is no output.
-fn output_of_comparison<F: Files, E: Messages>(
-    alloc: Global,
-    settings: &Settings<'_>,
-    left: &str,
-    right: &str,
-    settled: &Settled,
-    files: &mut F,
-    err: &mut E,
-) -> Result<JobOutput, RunError>
-    requires profile { profile_of settled.now ≡ settings.now.profile }
-    ensures status { IfOk result (λ output. output.status ≤ 1) }
-    ensures output { IfOk result (λ output. (notices : List ErrorLine) × ((texts : trees.Files) → AreAccepted texts settings.now.tree.now (tree_of_settled settled.now) → HasOutput (F.surroundings files.old).content (settings_view settings.now) texts (compare left.now right.now) output.text.items output.status notices) × TakesLines (E.taken err.old) (E.failures err.old) notices (E.taken err.new) (E.failures err.new)) }
-    ensures stopped { IfErr result (λ stop. (lines : List ErrorLine) × StopsOverTree (F.surroundings files.old).content (settings_view settings.now) (tree_of_settled settled.now) (compare left.now right.now) (status_of stop) lines × TakesLines (E.taken err.old) (E.failures err.old) lines (E.taken err.new) (E.failures err.new)) }
-    ensures failed { IfErr result (λ stop. status_of stop ≡ 5 → HasRisen (F.failures files.old) (F.failures files.new)) }
-    ensures rising { F.failures files.old ≤ F.failures files.new }
-{
-    let (before, after) = read_both(alloc, settled, settings, left, right, files, err)?;
-    let output = noticed_comparison(alloc, settings, left, right, &before, &after, err);
-    drop(after);
-    drop(before);
-    output
 }
 
 /// The configurations of two files, each by itself. Reports the notices of the files' lines, and why one is refused.

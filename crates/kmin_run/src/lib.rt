@@ -13,6 +13,5 @@ mod wants_command;
 pub use job_output::serve;
 pub use kmin_inputs::{FileStop, Files};
 pub use output_file::save;
-pub use program::run;
-pub use tidy_command::tidy;
+pub use program::{HasState, Program};
 pub use wants_command::list_questions;

@@ -1,23 +1,21 @@
 //! The program as a whole: from words or a bundle to the output and the exit status.
-ghost use Rattle.std.specs.Prelude.{◌≡◌, ◌≢◌, ◌≤◌, ◌⊎◌, List, ℕ, Option, map};
-ghost use Rattle.std.specs.Borrow.{Bor};
-ghost use Rattle.kc_files.specs.TextViews.{texts_of};
+ghost use Rattle.std.specs.Prelude.{◌≡◌, ◌≢◌, ◌≤◌, ◌⊎◌, List, Option};
+ghost use Rattle.kc_files.specs.TextViews.{texts_of as bytes_of};
+ghost use Rattle.kmin_lines.specs.between.Texts.{texts_of};
 ghost use Rattle.kmin_report.specs.StandardError.{TakesLine, TakesLines};
 ghost use Rattle.kmin_report.specs.Reports.{ErrorLine, refused_line};
-ghost use Rattle.kmin_disk.specs.Disks.{Disk};
-ghost use Rattle.kmin_run.specs.Runs.{AreReadForChanges, AreReadForTidying, AskForChanges, AskForTidying, BundleEnds, Ends, HasFailed, HelpEnds, IsTidying, MayChangeFiles, ParsedEnds, ReadEnd, WordsEnd, input_of};
-ghost use Rattle.kmin_run.specs.TidyRuns.{outputs_of};
-ghost use Rattle.kmin_run.specs.between.WordRuns.{FormedEnds};
+ghost use Rattle.kmin_run.specs.States.{RunState};
+ghost use Rattle.kmin_run.specs.Runs.{AskForChanges, AskForTidying, BundleEnds, Ends, HasFailed, HelpEnds, WordsEnd};
+ghost use Rattle.kmin_run.specs.between.StateRuns.{AreWordsRead, EndsAsParsed, EndsAsRead, FormedEnds, KeepsWithinParsed, KeepsWithinRead, KeepsWithinWords};
 ghost use Rattle.kmin_texts.specs.Spellings.{AskedForm, as_asked};
-ghost use Rattle.kmin_run.specs.between.WordRuns.{AreWordsRead};
 
 use crate::asked_forms::set_form_for;
 use crate::bundle_output::run_bundle;
 use crate::job_output::serve;
 use crate::output_file::save;
-use crate::tidy_command::{refuse_list, tidy};
+use crate::tidy_command::refuse_list;
 use crate::wants_command::list_questions;
-use kc_value::{Seed, Sink, Source};
+use kc_value::{Sink, Source};
 use kmin_cli::{ParsedWords, command_first, read_words_beside};
 use kmin_disk::WriteDisk;
 use kmin_explain_command::explain;
@@ -27,249 +25,184 @@ use kmin_report::{Message, Messages, RunError, exit_status, write_output};
 use kmin_texts::FormMessages;
 use std::alloc::Global;
 
-/// Runs the program on its words, the files, the disk, a reader and two writers, and returns the exit status.
-///
-/// Without words it reads a bundle, a Kconfig tree, a line `%%` and a configuration file, and writes the full file.
-/// Else the words, each `@FILE` read as the words in its file, are a command, which options may come before. Statuses: 0
-/// done, 1 a comparison found differences, symbols are listed or a line isn't taken with `--exit-code`, a file isn't minimal or a tree
-/// has open questions, 2 words or a list of paths refused, 3 tree refused, also by its expansion, 4 configuration file or answer
-/// file refused, a name that means no symbol, or bundle, list or file of words too large, 5 a read or write failed, 6 out of memory.
-///
-/// Only `tidy` and a command with an output file use `disk`; all other files are read by `files`.
-pub fn run<F: Files, D: WriteDisk, I: Source, O: Sink, E: FormMessages>(
-    alloc: Global,
-    words: &[&str],
-    files: &mut F,
-    disk: &mut D,
-    input: &mut I,
-    out: &mut O,
-    err: &mut E,
-) -> u8
-    ensures status { result ≤ 6 }
-
-    // Without words the run is on a bundle. Else each `@FILE` represents the words in its file, what they represent is
-    // parsed, the command first, and the run ends as what it is parsed as does: a command by the clauses of its own, a
-    // help, or a message that refuses the words, with status 2; or such a file can't be read or is refused, or memory runs
-    // out before. Standard error takes just these lines, in the form for which the words of a command ask, and else as before.
-    ensures ends { (form : Option AskedForm) × (lines : List ErrorLine) × Ends (F.surroundings files.old) (F.failures files.old) (F.failures files.new) (map (λ (word : Bor (List ℕ)). word.now) words.now)
-        (input_of (I.left input.old) (I.failures input.old)) (input_of (I.left input.new) (I.failures input.new))
-        (outputs_of (D.disk disk.old) (O.taken out.old) (O.failures out.old))
-        (outputs_of (D.disk disk.new) (O.taken out.new) (O.failures out.new)) form lines result × TakesLines (as_asked form E.known (E.taken err.old)) (E.failures err.old) lines (E.taken err.new) (E.failures err.new) }
-
-    // The disk changes only if the words, with those in files, are parsed as `tidy --write`, or have an output file.
-    ensures unasked { ((D.disk disk.new).state ≡ (D.disk disk.old).state) ⊎ AskForChanges (F.surroundings files.old) (I.left input.old) (map (λ (word : Bor (List ℕ)). word.now) words.now) }
-
-    // On status 4 something was written only if the words are parsed as `tidy`, of which a file is refused.
-    ensures refused { result ≡ 4 → (O.taken out.new ≡ O.taken out.old) ⊎ AskForTidying (F.surroundings files.old) (I.left input.old) (map (λ (word : Bor (List ℕ)). word.now) words.now) }
-    ensures unwritten { result ≢ 0 → result ≢ 1 → result ≢ 4 → result ≢ 5 → O.taken out.new ≡ O.taken out.old }
-
-    // On status 5 a file couldn't be opened, or a read or a write failed; or the words are parsed as `tidy`, or have an output
-    // file, whose own clauses say more.
-    ensures failed { result ≡ 5 → HasFailed (F.failures files.old) (F.failures files.new)
-        (input_of (I.left input.old) (I.failures input.old)) (input_of (I.left input.new) (I.failures input.new))
-        (outputs_of (D.disk disk.old) (O.taken out.old) (O.failures out.old))
-        (outputs_of (D.disk disk.new) (O.taken out.new) (O.failures out.new))
-        ⊎ (AskForTidying (F.surroundings files.old) (I.left input.old) (map (λ (word : Bor (List ℕ)). word.now) words.now) ⊎ AskForChanges (F.surroundings files.old) (I.left input.old) (map (λ (word : Bor (List ℕ)). word.now) words.now)) }
-{
-    if words.is_empty() {
-        return serve_bundle(alloc, files.seed(), input, out, err);
-    }
-    run_words(alloc, words, files, disk, input, out, err)
+/// The program with all that it works on: the files that it reads, the disk that `tidy` and a command with an output file change, and
+/// its standard streams.
+#[derive(Drop)]
+pub struct Program<F, D, I, O, E> {
+    pub files: F,
+    pub disk: D,
+    pub input: I,
+    pub out: O,
+    pub err: E,
 }
 
-/// Reads a bundle, writes its full file, and returns the exit status.
-fn serve_bundle<I: Source, O: Sink, E: Messages>(
-    alloc: Global,
-    seed: Seed,
-    input: &mut I,
-    out: &mut O,
-    err: &mut E,
-) -> u8
-    ensures status { result ≤ 6 }
-    ensures ends { (disk : Disk) → (lines : List ErrorLine) × BundleEnds (input_of (I.left input.old) (I.failures input.old)) (input_of (I.left input.new) (I.failures input.new))
-        (outputs_of disk (O.taken out.old) (O.failures out.old))
-        (outputs_of disk (O.taken out.new) (O.failures out.new)) lines result × TakesLines (E.taken err.old) (E.failures err.old) lines (E.taken err.new) (E.failures err.new) }
-    ensures unwritten { result ≢ 0 → result ≢ 5 → O.taken out.new ≡ O.taken out.old }
-{
-    match run_bundle(alloc, seed, input, out, err) {
-        Ok(()) => 0,
-        Err(stop) => exit_status(stop, err),
-    }
+/// What contracts see of a program.
+pub trait HasState {
+    /// The state of all that it works on, but for standard error.
+    ghost state: { Self → RunState };
 }
 
-/// Runs the words, each `@FILE` read as the words in its file, and returns the exit status.
-fn run_words<F: Files, D: WriteDisk, I: Source, O: Sink, E: FormMessages>(
-    alloc: Global,
-    words: &[&str],
-    files: &mut F,
-    disk: &mut D,
-    input: &mut I,
-    out: &mut O,
-    err: &mut E,
-) -> u8
-    ensures status { result ≤ 6 }
-    ensures ends { (form : Option AskedForm) × (lines : List ErrorLine) × WordsEnd (F.surroundings files.old) (F.failures files.old) (F.failures files.new) (map (λ (word : Bor (List ℕ)). word.now) words.now) (I.left input.old)
-        (outputs_of (D.disk disk.old) (O.taken out.old) (O.failures out.old))
-        (outputs_of (D.disk disk.new) (O.taken out.new) (O.failures out.new)) form lines result × TakesLines (as_asked form E.known (E.taken err.old)) (E.failures err.old) lines (E.taken err.new) (E.failures err.new) }
-    ensures unasked { ((D.disk disk.new).state ≡ (D.disk disk.old).state) ⊎ AskForChanges (F.surroundings files.old) (I.left input.old) (map (λ (word : Bor (List ℕ)). word.now) words.now) }
-    ensures refused { result ≡ 4 → (O.taken out.new ≡ O.taken out.old) ⊎ AskForTidying (F.surroundings files.old) (I.left input.old) (map (λ (word : Bor (List ℕ)). word.now) words.now) }
-    ensures unwritten { result ≢ 0 → result ≢ 1 → result ≢ 4 → result ≢ 5 → O.taken out.new ≡ O.taken out.old }
-    ensures failed { result ≡ 5 → HasFailed (F.failures files.old) (F.failures files.new)
-        (input_of (I.left input.old) (I.failures input.old)) (input_of (I.left input.new) (I.failures input.new))
-        (outputs_of (D.disk disk.old) (O.taken out.old) (O.failures out.old))
-        (outputs_of (D.disk disk.new) (O.taken out.new) (O.failures out.new))
-        ⊎ (AskForTidying (F.surroundings files.old) (I.left input.old) (map (λ (word : Bor (List ℕ)). word.now) words.now) ⊎ AskForChanges (F.surroundings files.old) (I.left input.old) (map (λ (word : Bor (List ℕ)). word.now) words.now)) }
-{
-    match read_word_files(alloc, words, files, input, err) {
-        Ok(read) => run_given(alloc, words, &read, files, disk, input, out, err),
-        Err(status) => status,
-    }
+impl<F: Files, D: WriteDisk, I: Source, O: Sink, E: Messages> HasState for Program<F, D, I, O, E> {
+    ghost state = { λ p. record {
+      known = F.surroundings p.files;
+      counted = F.failures p.files;
+      input = record { left = I.left p.input; failures = I.failures p.input };
+      outputs = record { disk = D.disk p.disk; taken = O.taken p.out; failures = O.failures p.out };
+    } };
 }
 
-/// Runs the words, each `@FILE` as the words in its file, which was read, and returns the exit status.
-fn run_given<F: Files, D: WriteDisk, I: Source, O: Sink, E: FormMessages>(
-    alloc: Global,
-    words: &[&str],
-    read: &WordFiles,
-    files: &mut F,
-    disk: &mut D,
-    input: &mut I,
-    out: &mut O,
-    err: &mut E,
-) -> u8
-    ensures status { result ≤ 6 }
-    ensures ends { (left : Option (List ℕ)) → AreWordsRead (F.surroundings files.old).content left (I.left input.old) (map (λ (word : Bor (List ℕ)). word.now) words.now) (texts_of read.now.files) read.now.is_input_read
-        → (form : Option AskedForm) × (lines : List ErrorLine) × WordsEnd (F.surroundings files.old) (F.failures files.old) (F.failures files.new) (map (λ (word : Bor (List ℕ)). word.now) words.now) left
-        (outputs_of (D.disk disk.old) (O.taken out.old) (O.failures out.old))
-        (outputs_of (D.disk disk.new) (O.taken out.new) (O.failures out.new)) form lines result × TakesLines (as_asked form E.known (E.taken err.old)) (E.failures err.old) lines (E.taken err.new) (E.failures err.new) }
-    ensures unasked { (left : Option (List ℕ)) → AreWordsRead (F.surroundings files.old).content left (I.left input.old) (map (λ (word : Bor (List ℕ)). word.now) words.now) (texts_of read.now.files) read.now.is_input_read
-        → ((D.disk disk.new).state ≡ (D.disk disk.old).state) ⊎ AskForChanges (F.surroundings files.old) left (map (λ (word : Bor (List ℕ)). word.now) words.now) }
-    ensures refused { (left : Option (List ℕ)) → AreWordsRead (F.surroundings files.old).content left (I.left input.old) (map (λ (word : Bor (List ℕ)). word.now) words.now) (texts_of read.now.files) read.now.is_input_read
-        → result ≡ 4 → (O.taken out.new ≡ O.taken out.old) ⊎ AskForTidying (F.surroundings files.old) left (map (λ (word : Bor (List ℕ)). word.now) words.now) }
-    ensures unwritten { result ≢ 0 → result ≢ 1 → result ≢ 4 → result ≢ 5 → O.taken out.new ≡ O.taken out.old }
-    ensures failed { (left : Option (List ℕ)) → AreWordsRead (F.surroundings files.old).content left (I.left input.old) (map (λ (word : Bor (List ℕ)). word.now) words.now) (texts_of read.now.files) read.now.is_input_read
-        → result ≡ 5 → HasFailed (F.failures files.old) (F.failures files.new)
-        (input_of (I.left input.old) (I.failures input.old)) (input_of (I.left input.new) (I.failures input.new))
-        (outputs_of (D.disk disk.old) (O.taken out.old) (O.failures out.old))
-        (outputs_of (D.disk disk.new) (O.taken out.new) (O.failures out.new))
-        ⊎ (AskForTidying (F.surroundings files.old) left (map (λ (word : Bor (List ℕ)). word.now) words.now) ⊎ AskForChanges (F.surroundings files.old) left (map (λ (word : Bor (List ℕ)). word.now) words.now)) }
-{
-    match with_files(alloc, words, &read.files) {
-        Ok(given) => {
-            let is_input_read = read.is_input_read;
-            run_read(alloc, &given, is_input_read, files, disk, input, out, err)
+impl<F: Files, D: WriteDisk, I: Source, O: Sink, E: FormMessages> Program<F, D, I, O, E> {
+    /// Runs the program on its words, and returns the exit status.
+    ///
+    /// Without words it reads a bundle, a Kconfig tree, a line `%%` and a configuration file, and writes the full file.
+    /// Else the words, each `@FILE` read as the words in its file, are a command, which options may come before. Statuses: 0
+    /// done, 1 a comparison found differences, symbols are listed or a line isn't taken with `--exit-code`, a file isn't minimal or a tree
+    /// has open questions, 2 words or a list of paths refused, 3 tree refused, also by its expansion, 4 configuration file or answer
+    /// file refused, a name that means no symbol, or bundle, list or file of words too large, 5 a read or write failed, 6 out of memory.
+    ///
+    /// Only `tidy` and a command with an output file use `disk`; all other files are read by `files`.
+    pub fn run(&mut self, alloc: Global, words: &[&str]) -> u8
+        ensures status { result ≤ 6 }
+
+        // Without words the run is on a bundle. Else each `@FILE` represents the words in its file, what they represent is
+        // parsed, the command first, and the run ends as what it is parsed as does: a command by the clauses of its own, a
+        // help, or a message that refuses the words, with status 2; or such a file can't be read or is refused, or memory runs
+        // out before. Standard error takes just these lines, in the form for which the words of a command ask, and else as before.
+        ensures ends { (form : Option AskedForm) × (lines : List ErrorLine) × Ends (⟦<Self as HasState>⟧.state self.old) (⟦<Self as HasState>⟧.state self.new) (texts_of words.now) form lines result
+            × TakesLines (as_asked form E.known (E.taken self.old.err)) (E.failures self.old.err) lines (E.taken self.new.err) (E.failures self.new.err) }
+
+        // The disk changes only if the words, with those in files, are parsed as `tidy --write`, or have an output file.
+        ensures unasked { ((D.disk self.new.disk).state ≡ (D.disk self.old.disk).state) ⊎ AskForChanges (⟦<Self as HasState>⟧.state self.old) (texts_of words.now) }
+
+        // On status 4 something was written only if the words are parsed as `tidy`, of which a file is refused.
+        ensures refused { result ≡ 4 → (O.taken self.new.out ≡ O.taken self.old.out) ⊎ AskForTidying (⟦<Self as HasState>⟧.state self.old) (texts_of words.now) }
+        ensures unwritten { result ≢ 0 → result ≢ 1 → result ≢ 4 → result ≢ 5 → O.taken self.new.out ≡ O.taken self.old.out }
+
+        // On status 5 a file couldn't be opened, or a read or a write failed; or the words are parsed as `tidy`, or have an output
+        // file, whose own clauses say more.
+        ensures failed { result ≡ 5 → HasFailed (⟦<Self as HasState>⟧.state self.old) (⟦<Self as HasState>⟧.state self.new)
+            ⊎ (AskForTidying (⟦<Self as HasState>⟧.state self.old) (texts_of words.now) ⊎ AskForChanges (⟦<Self as HasState>⟧.state self.old) (texts_of words.now)) }
+    {
+        if words.is_empty() {
+            return self.serve_bundle(alloc);
         }
-        Err(WordFault::NotUtf8) => refuse_list(err),
-        Err(WordFault::OutOfMemory) => exit_status(RunError::Memory, err),
+        self.run_words(alloc, words)
     }
-}
 
-/// Runs the command that words without `@FILE` name, after options or before them, and returns the exit status. Where standard input
-/// was read (`is_input_read`), words that read it once more are refused.
-fn run_read<F: Files, D: WriteDisk, I: Source, O: Sink, E: FormMessages>(
-    alloc: Global,
-    words: &[&str],
-    is_input_read: bool,
-    files: &mut F,
-    disk: &mut D,
-    input: &mut I,
-    out: &mut O,
-    err: &mut E,
-) -> u8
-    ensures status { result ≤ 6 }
-    ensures ends { (form : Option AskedForm) × (lines : List ErrorLine) × ReadEnd (F.surroundings files.old) (F.failures files.old) (F.failures files.new) is_input_read (map (λ (word : Bor (List ℕ)). word.now) words.now) (I.left input.old)
-        (outputs_of (D.disk disk.old) (O.taken out.old) (O.failures out.old))
-        (outputs_of (D.disk disk.new) (O.taken out.new) (O.failures out.new)) form lines result × TakesLines (as_asked form E.known (E.taken err.old)) (E.failures err.old) lines (E.taken err.new) (E.failures err.new) }
-    ensures unasked { ((D.disk disk.new).state ≡ (D.disk disk.old).state) ⊎ AreReadForChanges is_input_read (map (λ (word : Bor (List ℕ)). word.now) words.now) }
-    ensures refused { result ≡ 4 → (O.taken out.new ≡ O.taken out.old) ⊎ AreReadForTidying is_input_read (map (λ (word : Bor (List ℕ)). word.now) words.now) }
-    ensures unwritten { result ≢ 0 → result ≢ 1 → result ≢ 4 → result ≢ 5 → O.taken out.new ≡ O.taken out.old }
-    ensures failed { result ≡ 5 → HasFailed (F.failures files.old) (F.failures files.new)
-        (input_of (I.left input.old) (I.failures input.old)) (input_of (I.left input.new) (I.failures input.new))
-        (outputs_of (D.disk disk.old) (O.taken out.old) (O.failures out.old))
-        (outputs_of (D.disk disk.new) (O.taken out.new) (O.failures out.new))
-        ⊎ (AreReadForTidying is_input_read (map (λ (word : Bor (List ℕ)). word.now) words.now) ⊎ AreReadForChanges is_input_read (map (λ (word : Bor (List ℕ)). word.now) words.now)) }
-{
-    let Ok(ordered) = command_first(alloc, words) else {
-        return exit_status(RunError::Memory, err);
-    };
-    match read_words_beside(alloc, &ordered, is_input_read) {
-        Ok(parsed) => run_formed(alloc, &parsed, files, disk, input, out, err),
-        Err(_) => exit_status(RunError::Memory, err),
+    /// Reads a bundle, writes its full file, and returns the exit status.
+    fn serve_bundle(&mut self, alloc: Global) -> u8
+        ensures status { result ≤ 6 }
+        ensures ends { (lines : List ErrorLine) × BundleEnds (⟦<Self as HasState>⟧.state self.old).input (⟦<Self as HasState>⟧.state self.new).input (⟦<Self as HasState>⟧.state self.old).outputs (⟦<Self as HasState>⟧.state self.new).outputs lines result
+            × TakesLines (E.taken self.old.err) (E.failures self.old.err) lines (E.taken self.new.err) (E.failures self.new.err) }
+        ensures unwritten { result ≢ 0 → result ≢ 5 → O.taken self.new.out ≡ O.taken self.old.out }
+    {
+        match run_bundle(
+            alloc,
+            self.files.seed(),
+            &mut self.input,
+            &mut self.out,
+            &mut self.err,
+        ) {
+            Ok(()) => 0,
+            Err(stop) => exit_status(stop, &mut self.err),
+        }
     }
-}
 
-/// Runs what the words are parsed as, with messages in the form for which they ask, and returns the exit status.
-fn run_formed<F: Files, D: WriteDisk, I: Source, O: Sink, E: FormMessages>(
-    alloc: Global,
-    parsed: &ParsedWords<'_>,
-    files: &mut F,
-    disk: &mut D,
-    input: &mut I,
-    out: &mut O,
-    err: &mut E,
-) -> u8
-    ensures status { result ≤ 6 }
-    ensures ends { (form : Option AskedForm) × (lines : List ErrorLine) × FormedEnds (F.surroundings files.old) (F.failures files.old) (F.failures files.new) (I.left input.old) parsed.now
-        (outputs_of (D.disk disk.old) (O.taken out.old) (O.failures out.old))
-        (outputs_of (D.disk disk.new) (O.taken out.new) (O.failures out.new)) form lines result
-        × TakesLines (as_asked form E.known (E.taken err.old)) (E.failures err.old) lines (E.taken err.new) (E.failures err.new) }
-    ensures unasked { ((D.disk disk.new).state ≡ (D.disk disk.old).state) ⊎ MayChangeFiles parsed.now }
-    ensures refused { result ≡ 4 → (O.taken out.new ≡ O.taken out.old) ⊎ IsTidying parsed.now }
-    ensures unwritten { result ≢ 0 → result ≢ 1 → result ≢ 4 → result ≢ 5 → O.taken out.new ≡ O.taken out.old }
-    ensures failed { result ≡ 5 → HasFailed (F.failures files.old) (F.failures files.new)
-        (input_of (I.left input.old) (I.failures input.old)) (input_of (I.left input.new) (I.failures input.new))
-        (outputs_of (D.disk disk.old) (O.taken out.old) (O.failures out.old))
-        (outputs_of (D.disk disk.new) (O.taken out.new) (O.failures out.new)) ⊎ (IsTidying parsed.now ⊎ MayChangeFiles parsed.now) }
-{
-    match set_form_for(parsed, err) {
-        Ok(()) => run_parsed(alloc, parsed, files, disk, input, out, err),
-        Err(_) => exit_status(RunError::Memory, err),
+    /// Runs the words, each `@FILE` read as the words in its file, and returns the exit status.
+    fn run_words(&mut self, alloc: Global, words: &[&str]) -> u8
+        ensures ends { (form : Option AskedForm) × (lines : List ErrorLine) × WordsEnd (⟦<Self as HasState>⟧.state self.old) (⟦<Self as HasState>⟧.state self.new) (texts_of words.now) form lines result
+            × TakesLines (as_asked form E.known (E.taken self.old.err)) (E.failures self.old.err) lines (E.taken self.new.err) (E.failures self.new.err) }
+        ensures keeps { KeepsWithinWords (⟦<Self as HasState>⟧.state self.old) (⟦<Self as HasState>⟧.state self.new) (texts_of words.now) result }
+    {
+        match read_word_files(
+            alloc,
+            words,
+            &mut self.files,
+            &mut self.input,
+            &mut self.err,
+        ) {
+            Ok(read) => self.run_given(alloc, words, &read),
+            Err(status) => status,
+        }
     }
-}
 
-/// Runs what the words are parsed as, a command, a help or a message, and returns the exit status.
-fn run_parsed<F: Files, D: WriteDisk, I: Source, O: Sink, E: Messages>(
-    alloc: Global,
-    parsed: &ParsedWords<'_>,
-    files: &mut F,
-    disk: &mut D,
-    input: &mut I,
-    out: &mut O,
-    err: &mut E,
-) -> u8
-    ensures status { result ≤ 6 }
-    ensures ends { (lines : List ErrorLine) × ParsedEnds (F.surroundings files.old) (F.failures files.old) (F.failures files.new) (I.left input.old) parsed.now
-        (outputs_of (D.disk disk.old) (O.taken out.old) (O.failures out.old))
-        (outputs_of (D.disk disk.new) (O.taken out.new) (O.failures out.new)) lines result × TakesLines (E.taken err.old) (E.failures err.old) lines (E.taken err.new) (E.failures err.new) }
-    ensures unasked { ((D.disk disk.new).state ≡ (D.disk disk.old).state) ⊎ MayChangeFiles parsed.now }
-    ensures refused { result ≡ 4 → (O.taken out.new ≡ O.taken out.old) ⊎ IsTidying parsed.now }
-    ensures unwritten { result ≢ 0 → result ≢ 1 → result ≢ 4 → result ≢ 5 → O.taken out.new ≡ O.taken out.old }
-    ensures failed { result ≡ 5 → HasFailed (F.failures files.old) (F.failures files.new)
-        (input_of (I.left input.old) (I.failures input.old)) (input_of (I.left input.new) (I.failures input.new))
-        (outputs_of (D.disk disk.old) (O.taken out.old) (O.failures out.old))
-        (outputs_of (D.disk disk.new) (O.taken out.new) (O.failures out.new)) ⊎ (IsTidying parsed.now ⊎ MayChangeFiles parsed.now) }
-{
-    match parsed {
-        ParsedWords::Job(job) => serve(alloc, job, files, out, err),
-        ParsedWords::Save(output_job) => save(alloc, output_job, files, disk, err),
-        ParsedWords::Questions(questions) => list_questions(alloc, questions, files, out, err),
-        ParsedWords::Explain(explain_job) => explain(alloc, explain_job, files, out, err),
-        ParsedWords::Tidy(tidy_job) => tidy(alloc, tidy_job, files, disk, input, out, err),
-        ParsedWords::Help(text) => write_help(text, out, err),
-        ParsedWords::Refused(text) => refuse_words(text, err),
+    /// Runs the words, each `@FILE` as the words in its file, which was read before, and returns the exit status.
+    fn run_given(&mut self, alloc: Global, words: &[&str], read: &WordFiles) -> u8
+        ensures ends { (before : RunState) → AreWordsRead before (⟦<Self as HasState>⟧.state self.old) (texts_of words.now) (bytes_of read.now.files) read.now.is_input_read
+            → (form : Option AskedForm) × (lines : List ErrorLine) × WordsEnd before (⟦<Self as HasState>⟧.state self.new) (texts_of words.now) form lines result
+            × TakesLines (as_asked form E.known (E.taken self.old.err)) (E.failures self.old.err) lines (E.taken self.new.err) (E.failures self.new.err) }
+        ensures keeps { (before : RunState) → AreWordsRead before (⟦<Self as HasState>⟧.state self.old) (texts_of words.now) (bytes_of read.now.files) read.now.is_input_read
+            → KeepsWithinWords before (⟦<Self as HasState>⟧.state self.new) (texts_of words.now) result }
+    {
+        match with_files(alloc, words, &read.files) {
+            Ok(given) => self.run_read(alloc, &given, read.is_input_read),
+            Err(WordFault::NotUtf8) => refuse_list(&mut self.err),
+            Err(WordFault::OutOfMemory) => exit_status(RunError::Memory, &mut self.err),
+        }
     }
-}
 
-/// Writes the help that was asked for, and returns the exit status.
-fn write_help<O: Sink, E: Messages>(text: &str, out: &mut O, err: &mut E) -> u8
-    ensures status { (result ≡ 0) ⊎ (result ≡ 5) }
-    ensures ends { (disk : Disk) → (lines : List ErrorLine) × HelpEnds text.now
-        (outputs_of disk (O.taken out.old) (O.failures out.old))
-        (outputs_of disk (O.taken out.new) (O.failures out.new)) lines result × TakesLines (E.taken err.old) (E.failures err.old) lines (E.taken err.new) (E.failures err.new) }
-{
-    match write_output(text.as_bytes(), out, err) {
-        Ok(()) => 0,
-        Err(_) => RunError::Failed.status(),
+    /// Runs the command that words without `@FILE` name, after options or before them, and returns the exit status. Where standard
+    /// input was read (`is_input_read`), words that read it once more are refused.
+    fn run_read(&mut self, alloc: Global, words: &[&str], is_input_read: bool) -> u8
+        ensures ends { (form : Option AskedForm) × (lines : List ErrorLine) × EndsAsRead (⟦<Self as HasState>⟧.state self.old) (⟦<Self as HasState>⟧.state self.new) is_input_read (texts_of words.now) form lines result
+            × TakesLines (as_asked form E.known (E.taken self.old.err)) (E.failures self.old.err) lines (E.taken self.new.err) (E.failures self.new.err) }
+        ensures keeps { KeepsWithinRead (⟦<Self as HasState>⟧.state self.old) (⟦<Self as HasState>⟧.state self.new) is_input_read (texts_of words.now) result }
+    {
+        let Ok(ordered) = command_first(alloc, words) else {
+            return exit_status(RunError::Memory, &mut self.err);
+        };
+        match read_words_beside(alloc, &ordered, is_input_read) {
+            Ok(parsed) => self.run_formed(alloc, &parsed),
+            Err(_) => exit_status(RunError::Memory, &mut self.err),
+        }
+    }
+
+    /// Runs what the words are parsed as, with messages in the form for which they ask, and returns the exit status.
+    fn run_formed(&mut self, alloc: Global, parsed: &ParsedWords<'_>) -> u8
+        ensures ends { (form : Option AskedForm) × (lines : List ErrorLine) × FormedEnds (⟦<Self as HasState>⟧.state self.old) (⟦<Self as HasState>⟧.state self.new) parsed.now form lines result
+            × TakesLines (as_asked form E.known (E.taken self.old.err)) (E.failures self.old.err) lines (E.taken self.new.err) (E.failures self.new.err) }
+        ensures keeps { KeepsWithinParsed (⟦<Self as HasState>⟧.state self.old) (⟦<Self as HasState>⟧.state self.new) parsed.now result }
+    {
+        match set_form_for(parsed, &mut self.err) {
+            Ok(()) => self.run_parsed(alloc, parsed),
+            Err(_) => exit_status(RunError::Memory, &mut self.err),
+        }
+    }
+
+    /// Runs what the words are parsed as, a command, a help or a message, and returns the exit status.
+    fn run_parsed(&mut self, alloc: Global, parsed: &ParsedWords<'_>) -> u8
+        ensures ends { (lines : List ErrorLine) × EndsAsParsed (⟦<Self as HasState>⟧.state self.old) (⟦<Self as HasState>⟧.state self.new) parsed.now lines result
+            × TakesLines (E.taken self.old.err) (E.failures self.old.err) lines (E.taken self.new.err) (E.failures self.new.err) }
+        ensures keeps { KeepsWithinParsed (⟦<Self as HasState>⟧.state self.old) (⟦<Self as HasState>⟧.state self.new) parsed.now result }
+    {
+        let Program {
+            files,
+            disk,
+            out,
+            err,
+            ..
+        } = self;
+        match parsed {
+            ParsedWords::Job(job) => serve(alloc, job, files, out, err),
+            ParsedWords::Save(output_job) => save(alloc, output_job, files, disk, err),
+            ParsedWords::Questions(questions) => list_questions(alloc, questions, files, out, err),
+            ParsedWords::Explain(explain_job) => explain(alloc, explain_job, files, out, err),
+            ParsedWords::Tidy(tidy_job) => self.tidy(alloc, tidy_job),
+            ParsedWords::Help(text) => self.write_help(text),
+            ParsedWords::Refused(text) => refuse_words(text, err),
+        }
+    }
+
+    /// Writes the help that was asked for, and returns the exit status.
+    fn write_help(&mut self, text: &str) -> u8
+        ensures status { (result ≡ 0) ⊎ (result ≡ 5) }
+        ensures ends { (lines : List ErrorLine) × HelpEnds text.now (⟦<Self as HasState>⟧.state self.old).outputs (⟦<Self as HasState>⟧.state self.new).outputs lines result
+            × TakesLines (E.taken self.old.err) (E.failures self.old.err) lines (E.taken self.new.err) (E.failures self.new.err) }
+    {
+        match write_output(text.as_bytes(), &mut self.out, &mut self.err) {
+            Ok(()) => 0,
+            Err(_) => RunError::Failed.status(),
+        }
     }
 }
 

@@ -4,14 +4,16 @@ ghost use Rattle.std.specs.List.{list_all};
 ghost use Rattle.std.specs.Str.{is_utf8};
 ghost use Rattle.std.specs.Borrow.{Bor};
 ghost use Rattle.kmin_lines.specs.Lists.{paths_in, is_one_line};
+ghost use Rattle.kmin_lines.specs.between.Texts.{texts_of};
 ghost use Rattle.kmin_options.specs.Jobs.{list_view, settings_view, tidy_job_view};
 ghost use Rattle.kmin_report.specs.Reports.{ErrorLine};
 ghost use Rattle.kmin_report.specs.StandardError.{TakesLine, TakesLines};
 ghost use Rattle.kc_files.specs.TreeContents.{HasRisen};
-ghost use Rattle.kmin_run.specs.TidyRuns.{IsGoneOver, AreListBytes, AreNamed, StopsAtList, PathsEnd, TidyEnds, is_ended_by_nul, options_of, outputs_of};
+ghost use Rattle.kmin_run.specs.TidyRuns.{IsGoneOver, AreListBytes, AreNamed, StopsAtList, PathsEnd, TidyEnds, is_ended_by_nul, options_of};
 ghost use Rattle.kmin_inputs.specs.ListFiles.{malformed_line};
 ghost use Rattle.kmin_report.specs.between.RunErrors.{status_of};
 
+use crate::program::{HasState, Program};
 use kc_value::{Sink, Source};
 use kmin_disk::WriteDisk;
 use kmin_inputs::{Files, read_list};
@@ -22,69 +24,85 @@ use kmin_tidy::{Tidier, TidyOptions, tidy_files};
 use kmin_trees::job_tree;
 use std::alloc::{AllocError, Global};
 
-/// Tidies the files of the command on the disk, and then those that its list names, and returns the exit status: 2 a
-/// path in the list isn't UTF-8 or has a newline, 3 tree refused, 4 list too large, 5 list can't be read, 6 out of
-/// memory, and else the status of `tidy_files`. Where the list or the tree is refused, no configuration file is read.
-///
-/// The list is read from `files`, or if its path is `-`, from `input`.
-pub fn tidy<F: Files, D: WriteDisk, I: Source, O: Sink, E: Messages>(
-    alloc: Global,
-    tidy_job: &TidyJob<'_>,
-    files: &mut F,
-    disk: &mut D,
-    input: &mut I,
-    out: &mut O,
-    err: &mut E,
-) -> u8
-    ensures status { result ≤ 6 }
+impl<F: Files, D: WriteDisk, I: Source, O: Sink, E: Messages> Program<F, D, I, O, E> {
+    /// Tidies the files of the command on the disk, and then those that its list names, and returns the exit status: 2 a
+    /// path in the list isn't UTF-8 or has a newline, 3 tree refused, 4 list too large, 5 list can't be read, 6 out of
+    /// memory, and else the status of `tidy_files`. Where the list or the tree is refused, no configuration file is read.
+    ///
+    /// The list is read from `files`, or if its path is `-`, from `input`.
+    pub fn tidy(&mut self, alloc: Global, tidy_job: &TidyJob<'_>) -> u8
+        ensures status { result ≤ 6 }
 
-    // The files are tidied as by `tidy_files`; or the list or the tree is refused, which is reported, and nothing
-    // changes.
-    ensures ends { (lines : List ErrorLine) × TidyEnds (F.surroundings files.old) (F.failures files.old) (F.failures files.new) (I.left input.old) (tidy_job_view tidy_job.now)
-        (outputs_of (D.disk disk.old) (O.taken out.old) (O.failures out.old))
-        (outputs_of (D.disk disk.new) (O.taken out.new) (O.failures out.new)) lines result × TakesLines (E.taken err.old) (E.failures err.old) lines (E.taken err.new) (E.failures err.new) }
+        // The files are tidied as by `tidy_files`; or the list or the tree is refused, which is reported, and nothing
+        // changes.
+        ensures ends { (lines : List ErrorLine) × TidyEnds (F.surroundings self.old.files) (F.failures self.old.files) (F.failures self.new.files) (I.left self.old.input) (tidy_job_view tidy_job.now)
+            (⟦<Self as HasState>⟧.state self.old).outputs (⟦<Self as HasState>⟧.state self.new).outputs lines result
+            × TakesLines (E.taken self.old.err) (E.failures self.old.err) lines (E.taken self.new.err) (E.failures self.new.err) }
 
-    // Without `--write` the disk doesn't change.
-    ensures unasked { tidy_job.now.flags.write ≡ false → (D.disk disk.new).state ≡ (D.disk disk.old).state }
+        // Without `--write` the disk doesn't change.
+        ensures unasked { tidy_job.now.flags.write ≡ false → (D.disk self.new.disk).state ≡ (D.disk self.old.disk).state }
 
-    // Where the list or the tree is refused, or memory runs out, nothing is written.
-    ensures unwritten { result ≢ 0 → result ≢ 1 → result ≢ 4 → result ≢ 5 → O.taken out.new ≡ O.taken out.old }
+        // Where the list or the tree is refused, or memory runs out, nothing is written.
+        ensures unwritten { result ≢ 0 → result ≢ 1 → result ≢ 4 → result ≢ 5 → O.taken self.new.out ≡ O.taken self.old.out }
 
-    // On status 5 the list or an answer file couldn't be opened, or a read of one failed; or the files were gone over.
-    ensures failed { result ≡ 5 → (HasRisen (F.failures files.old) (F.failures files.new) ⊎ HasRisen (I.failures input.old) (I.failures input.new))
-        ⊎ IsGoneOver (outputs_of (D.disk disk.old) (O.taken out.old) (O.failures out.old)) (outputs_of (D.disk disk.new) (O.taken out.new) (O.failures out.new)) result }
-{
-    match list_bytes(alloc, tidy_job.list, files, input, err) {
-        Ok(list) => tidy_listed(alloc, tidy_job, &list, files, disk, out, err),
-        Err(stop) => exit_status(stop, err),
+        // On status 5 the list or an answer file couldn't be opened, or a read of one failed; or the files were gone over.
+        ensures failed { result ≡ 5 → (HasRisen (F.failures self.old.files) (F.failures self.new.files) ⊎ HasRisen (I.failures self.old.input) (I.failures self.new.input))
+            ⊎ IsGoneOver (⟦<Self as HasState>⟧.state self.old).outputs (⟦<Self as HasState>⟧.state self.new).outputs result }
+    {
+        let Program {
+            files,
+            input,
+            err,
+            ..
+        } = self;
+        let list = match list_bytes(alloc, tidy_job.list, files, input, err) {
+            Ok(list) => list,
+            Err(stop) => return exit_status(stop, err),
+        };
+        match all_paths(
+            alloc,
+            &tidy_job.files,
+            &list,
+            is_ended_by_nul(tidy_job.list),
+        ) {
+            Ok(paths) => self.tidy_paths(alloc, tidy_job, &paths),
+            Err(ListFault::OutOfMemory) => exit_status(RunError::Memory, err),
+            Err(ListFault::NotUtf8) => refuse_list(err),
+            Err(ListFault::HasNewline) => refuse_list(err),
+        }
     }
-}
 
-/// Tidies the files of the command, and then those that a list of these bytes names.
-fn tidy_listed<F: Files, D: WriteDisk, O: Sink, E: Messages>(
-    alloc: Global,
-    tidy_job: &TidyJob<'_>,
-    list: &[u8],
-    files: &mut F,
-    disk: &mut D,
-    out: &mut O,
-    err: &mut E,
-) -> u8
-    ensures status { result ≤ 6 }
-    ensures ends { (left : Option (List ℕ)) → AreListBytes (F.surroundings files.old).content left (tidy_job_view tidy_job.now).list list.now
-        → (lines : List ErrorLine) × TidyEnds (F.surroundings files.old) (F.failures files.old) (F.failures files.new) left (tidy_job_view tidy_job.now)
-        (outputs_of (D.disk disk.old) (O.taken out.old) (O.failures out.old))
-        (outputs_of (D.disk disk.new) (O.taken out.new) (O.failures out.new)) lines result × TakesLines (E.taken err.old) (E.failures err.old) lines (E.taken err.new) (E.failures err.new) }
-    ensures unasked { tidy_job.now.flags.write ≡ false → (D.disk disk.new).state ≡ (D.disk disk.old).state }
-    ensures unwritten { result ≢ 0 → result ≢ 1 → result ≢ 4 → result ≢ 5 → O.taken out.new ≡ O.taken out.old }
-    ensures rising { F.failures files.old ≤ F.failures files.new }
-    ensures failed { result ≡ 5 → HasRisen (F.failures files.old) (F.failures files.new) ⊎ IsGoneOver (outputs_of (D.disk disk.old) (O.taken out.old) (O.failures out.old)) (outputs_of (D.disk disk.new) (O.taken out.new) (O.failures out.new)) result }
-{
-    match all_paths(alloc, &tidy_job.files, list, is_ended_by_nul(tidy_job.list)) {
-        Ok(paths) => tidy_paths(alloc, tidy_job, &paths, files, disk, out, err),
-        Err(ListFault::OutOfMemory) => exit_status(RunError::Memory, err),
-        Err(ListFault::NotUtf8) => refuse_list(err),
-        Err(ListFault::HasNewline) => refuse_list(err),
+    /// Tidies the files of these paths over the tree of the command.
+    fn tidy_paths(&mut self, alloc: Global, tidy_job: &TidyJob<'_>, paths: &[&str]) -> u8
+        ensures status { result ≤ 6 }
+        ensures ends { (lines : List ErrorLine) × PathsEnd (F.surroundings self.old.files) (F.failures self.old.files) (F.failures self.new.files) (settings_view tidy_job.now.settings) tidy_job.now.flags (texts_of paths.now)
+            (⟦<Self as HasState>⟧.state self.old).outputs (⟦<Self as HasState>⟧.state self.new).outputs lines result
+            × TakesLines (E.taken self.old.err) (E.failures self.old.err) lines (E.taken self.new.err) (E.failures self.new.err) }
+        ensures unasked { tidy_job.now.flags.write ≡ false → (D.disk self.new.disk).state ≡ (D.disk self.old.disk).state }
+        ensures unwritten { result ≢ 0 → result ≢ 1 → result ≢ 4 → result ≢ 5 → O.taken self.new.out ≡ O.taken self.old.out }
+        ensures rising { F.failures self.old.files ≤ F.failures self.new.files }
+        ensures failed { result ≡ 5 → HasRisen (F.failures self.old.files) (F.failures self.new.files) ⊎ IsGoneOver (⟦<Self as HasState>⟧.state self.old).outputs (⟦<Self as HasState>⟧.state self.new).outputs result }
+    {
+        match job_tree(alloc, &tidy_job.settings, &mut self.files, &mut self.err) {
+            Ok(settled) => {
+                let by = &Tidier {
+                    alloc,
+                    format: &tidy_job.settings.format,
+                    options: options_of(&tidy_job.settings, tidy_job.flags),
+                };
+                let status = tidy_files(
+                    by,
+                    &settled,
+                    paths,
+                    &mut self.disk,
+                    &mut self.out,
+                    &mut self.err,
+                );
+                drop(settled);
+                status
+            }
+            Err(stop) => exit_status(stop, &mut self.err),
+        }
     }
 }
 
@@ -96,40 +114,6 @@ pub(crate) fn refuse_list<E: Messages>(err: &mut E) -> u8
 {
     err.write_report(Message::RefusedWords("from: Malformed\n"));
     2
-}
-
-/// Tidies the files of these paths over the tree of the command.
-fn tidy_paths<F: Files, D: WriteDisk, O: Sink, E: Messages>(
-    alloc: Global,
-    tidy_job: &TidyJob<'_>,
-    paths: &[&str],
-    files: &mut F,
-    disk: &mut D,
-    out: &mut O,
-    err: &mut E,
-) -> u8
-    ensures status { result ≤ 6 }
-    ensures ends { (lines : List ErrorLine) × PathsEnd (F.surroundings files.old) (F.failures files.old) (F.failures files.new) (settings_view tidy_job.now.settings) tidy_job.now.flags (map (λ (path : Bor (List ℕ)). path.now) paths.now)
-        (outputs_of (D.disk disk.old) (O.taken out.old) (O.failures out.old))
-        (outputs_of (D.disk disk.new) (O.taken out.new) (O.failures out.new)) lines result × TakesLines (E.taken err.old) (E.failures err.old) lines (E.taken err.new) (E.failures err.new) }
-    ensures unasked { tidy_job.now.flags.write ≡ false → (D.disk disk.new).state ≡ (D.disk disk.old).state }
-    ensures unwritten { result ≢ 0 → result ≢ 1 → result ≢ 4 → result ≢ 5 → O.taken out.new ≡ O.taken out.old }
-    ensures rising { F.failures files.old ≤ F.failures files.new }
-    ensures failed { result ≡ 5 → HasRisen (F.failures files.old) (F.failures files.new) ⊎ IsGoneOver (outputs_of (D.disk disk.old) (O.taken out.old) (O.failures out.old)) (outputs_of (D.disk disk.new) (O.taken out.new) (O.failures out.new)) result }
-{
-    match job_tree(alloc, &tidy_job.settings, files, err) {
-        Ok(settled) => {
-            let by = &Tidier {
-                alloc,
-                format: &tidy_job.settings.format,
-                options: options_of(&tidy_job.settings, tidy_job.flags),
-            };
-            let status = tidy_files(by, &settled, paths, disk, out, err);
-            drop(settled);
-            status
-        }
-        Err(stop) => exit_status(stop, err),
-    }
 }
 
 /// The options of `tidy_files` by those of the command.

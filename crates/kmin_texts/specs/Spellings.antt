@@ -1,5 +1,5 @@
 -- How standard error spells lines in a form.
-use Rattle.std.specs.Prelude.{ℕ, List, [], Option, Some, None, if◌then◌else◌}
+use Rattle.std.specs.Prelude.{ℕ, List, Option, Some, None, if◌then◌else◌}
 use Rattle.kc_tokens.specs.declared.language.Language.{Language}
 use Rattle.kmin_messages.specs.ShownTexts.{shown}
 use Rattle.kmin_messages.specs.declared.message.Form.{Form}

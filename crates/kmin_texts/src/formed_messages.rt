@@ -8,7 +8,7 @@ ghost use Rattle.kmin_texts.specs.between.Wordings.{asked_by, kept_spelling};
 
 use crate::form_messages::{FormMessages, Wording};
 use crate::line_files::LineFiles;
-use crate::worded_lines::line_of;
+use crate::worded_lines::WordedReport;
 use kc_dotconfig_model::Prefix;
 use kc_output::write_out;
 use kc_tokens::Language;
@@ -71,14 +71,12 @@ impl<W: Sink, L: LineFiles> Messages for FormedMessages<W, L> {
                     language: kept.language,
                     prefix: &kept.prefix,
                 };
-                write_formed(
-                    self.alloc,
-                    &wording,
-                    &report,
-                    &mut self.files,
-                    &mut self.unknown,
-                    &mut self.sink,
-                );
+                let worded = WordedReport {
+                    alloc: self.alloc,
+                    wording: &wording,
+                    report: &report,
+                };
+                write_formed(&worded, &mut self.files, &mut self.unknown, &mut self.sink);
             }
         }
     }
@@ -101,22 +99,20 @@ impl<W: Sink, L: LineFiles> FormMessages for FormedMessages<W, L> {
 
 /// Writes the line of a report in a form, up to the first write that fails.
 fn write_formed<W: Sink, L: LineFiles>(
-    alloc: Global,
-    wording: &Wording<'_>,
-    report: &Message<'_>,
+    worded: &WordedReport<'_>,
     files: &mut L,
     unknown: &mut u32,
     sink: &mut W,
 )
-    ensures { TakesLine (in_form (asked_by wording.now) L.known (plain_bytes (W.taken sink.old))) (W.failures sink.old) (report_line report.now)
-        (in_form (asked_by wording.now) L.known (plain_bytes (W.taken sink.new))) (W.failures sink.new) }
+    ensures { TakesLine (in_form (asked_by worded.now.wording.now) L.known (plain_bytes (W.taken sink.old))) (W.failures sink.old) (report_line worded.now.report.now)
+        (in_form (asked_by worded.now.wording.now) L.known (plain_bytes (W.taken sink.new))) (W.failures sink.new) }
 {
-    match line_of(alloc, wording, report, files, unknown) {
+    match worded.line(files, unknown) {
         Ok(line) => {
             let _ = write_out(sink, &line);
         }
         Err(_) => {
-            let _ = write_plain_line(report, sink);
+            let _ = write_plain_line(worded.report, sink);
         }
     }
 }

@@ -3,7 +3,8 @@ use Rattle.std.proofs.Common.{string_bytes}
 use Rattle.std.specs.Io.KnownBytes.{Appends}
 use Rattle.std.proofs.KnownBytes.{Appends-nil}
 use Rattle.kmin_tidy.proofs.Common.{◌≡◌, ◌≢◌, ℕ, true, false, List, [], ◌∷◌, ◌++◌, Option, Some, None, inl, inr, refl, sym, ap, ◌∙◌, subst, length, arith, append-nil, nothing, unfinished, Disk, DiskState, History, newest, with_newest, content_at, Stays-refl, same_place_or_other, TidySettings, Tidies, IsKept}
-use Rattle.kmin_tidy.proofs.Common.{IsTidy, AreTidy, StopsRun, TidyStop, Memory, ErrorLine}
+use Rattle.kmin_tidy.proofs.Common.{IsTidy, AreTidy, StopsRun, TidyStop, Memory, ErrorLine, Result, Ok, Err, IfOk, IfErr, TakesLines, lines_append}
+use Rattle.kmin_report.specs.StandardError.{SpelledBytes}
 use Rattle.kmin_tidy.specs.Ends.{Ends, whole, part, stopped, Stops, before_write, at_write, at_left, IsToBeReplaced, LeavesNewFile}
 use Rattle.kmin_tidy.specs.Promises.{IsKeptOrLeft}
 use Rattle.kmin_tidy.specs.checker.Endings.{status_of_stop, IsWrittenOut}
@@ -160,3 +161,21 @@ ends_early s a b paths earlier Memory taken failed status (results.at_write betw
 ends_early s a b paths earlier (Left new_path) taken failed status (results.before_write between front back text made e t same is) n = (cc (is))
 ends_early s a b paths earlier (Left new_path) taken failed status (results.at_write between front back path text made e t asked l) n =
     stopped (at_left between front back path (string_bytes new_path) text earlier made e t asked l refl n) refl refl
+
+-- a run that ended, and then wrote its text, or the line of the reason why it ended early, ends as `Ends` says
+pub ends_by : (s : TidySettings) (a b : Disk) (paths : List (List ℕ)) (ended : Result RunResult TidyStop) (taken after : Option (List ℕ)) (failed failed_after status : ℕ)
+    (err err_between err_after : SpelledBytes) (unwritten unwritten_between unwritten_after : ℕ)
+    → IfOk ended (λ tidied. (reports : List ErrorLine) × Tidies s a b paths tidied.text.items reports tidied.status × TakesLines err unwritten reports err_between unwritten_between)
+    → IfErr ended (λ stop. (reports : List ErrorLine) × StopsRun s a b paths reports stop × TakesLines err unwritten reports err_between unwritten_between)
+    → IfOk ended (λ tidied. (reports : List ErrorLine) × IsWrittenOut tidied taken after failed failed_after reports status × TakesLines err_between unwritten_between reports err_after unwritten_after)
+    → IfErr ended (λ stop. (status ≡ status_of_stop stop) × (after ≡ taken) × (failed_after ≡ failed) × TakesLines err_between unwritten_between (stop_line stop ∷ []) err_after unwritten_after)
+    → (reports : List ErrorLine) × Ends s a b paths taken after failed failed_after reports status × TakesLines err unwritten reports err_after unwritten_after
+ends_by s a b paths (Ok tidied) taken after failed failed_after status err err_between err_after unwritten unwritten_between unwritten_after run stops written early =
+    (_, ends_written s a b paths tidied run.0 written.0 taken after failed failed_after status run.1 written.1, lines_append _ _ _ _ run.0 written.0 _ _ run.2 written.2)
+ends_by s a b paths (Err stop) taken after failed failed_after status err err_between err_after unwritten unwritten_between unwritten_after run stops written early = (
+  _,
+  subst (λ t. Ends s a b paths taken t failed failed_after (stops.0 ++ stop_line stop ∷ []) status) (sym early.1)
+      (subst (λ n. Ends s a b paths taken taken failed n (stops.0 ++ stop_line stop ∷ []) status) (sym early.2)
+      (ends_early s a b paths stops.0 stop taken failed status stops.1 early.0)),
+  lines_append _ _ _ _ stops.0 _ _ _ stops.2 early.3,
+)

@@ -1,5 +1,5 @@
 //! A run over files, with what it writes.
-ghost use Rattle.std.specs.Prelude.{◌≡◌, ◌∷◌, [], ℕ, List, false};
+ghost use Rattle.std.specs.Prelude.{◌≡◌, ◌∷◌, [], ℕ, List, false, IfOk, IfErr};
 ghost use Rattle.std.specs.Io.KnownBytes.{Appends};
 ghost use Rattle.kmin_tidy.specs.Options.{settings_of};
 ghost use Rattle.kmin_tidy.specs.Runs.{paths_of};
@@ -58,25 +58,20 @@ pub fn tidy_files<D: WriteDisk, O: Sink, E: Messages>(
     ensures silent { AreTidy (settings_of settled.now by.now.format.now by.now.options) (D.disk disk.old).state (paths_of paths.now)
         → Appends (O.taken out.old) (O.taken out.new) [] }
 {
-    run_to_end(by, settled, paths, disk, out, err)
+    let ended = tidy_all(by, settled, paths, disk, err);
+    finish(&ended, out, err)
 }
 
-/// Tidies the files as `tidy_files` does; the contract states only how the run ends.
-fn run_to_end<D: WriteDisk, O: Sink, E: Messages>(
-    by: &Tidier<'_>,
-    settled: &Settled,
-    paths: &[&str],
-    disk: &mut D,
-    out: &mut O,
-    err: &mut E,
-) -> u8
-    ensures { (reports : List ErrorLine) × Ends (settings_of settled.now by.now.format.now by.now.options) (D.disk disk.old)
-        (D.disk disk.new) (paths_of paths.now) (O.taken out.old) (O.taken out.new) (O.failures out.old)
-        (O.failures out.new) reports result × TakesLines (E.taken err.old) (E.failures err.old) reports (E.taken err.new) (E.failures err.new) }
+/// Writes the text of a run, or reports why it ended early, and returns its status.
+fn finish<O: Sink, E: Messages>(ended: &Result<RunResult, TidyStop>, out: &mut O, err: &mut E) -> u8
+    ensures written { IfOk ended.now (λ tidied. (reports : List ErrorLine) × IsWrittenOut tidied (O.taken out.old) (O.taken out.new) (O.failures out.old)
+        (O.failures out.new) reports result × TakesLines (E.taken err.old) (E.failures err.old) reports (E.taken err.new) (E.failures err.new)) }
+    ensures stopped { IfErr ended.now (λ stop. (result ≡ status_of_stop stop) × (O.taken out.new ≡ O.taken out.old) × (O.failures out.new ≡ O.failures out.old)
+        × TakesLines (E.taken err.old) (E.failures err.old) (stop_line stop ∷ []) (E.taken err.new) (E.failures err.new)) }
 {
-    match tidy_all(by, settled, paths, disk, err) {
-        Ok(tidied) => write_text(&tidied, out, err),
-        Err(stop) => end_early(&stop, err),
+    match ended {
+        Ok(tidied) => write_text(tidied, out, err),
+        Err(stop) => end_early(stop, err),
     }
 }
 

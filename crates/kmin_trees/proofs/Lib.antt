@@ -1,6 +1,7 @@
 pub mod Common
 pub mod TreeResults
 pub mod TextGrowth
+pub mod Gatherings
 pub mod MissingFiles
 pub mod UnfailedStops
 pub mod JobTrees

@@ -1,5 +1,6 @@
 pub mod Readings
 pub mod InsertedFiles
+pub mod Gatherings
 pub mod TreeStops
 pub mod ExpandedStops
 pub mod FileNames

@@ -1,19 +1,16 @@
 //! The tree of a job, read with or without the expansion of macros.
 ghost use Rattle.std.specs.Prelude.{◌≡◌, ◌≢◌, ◌≤◌, [], ℕ, List, IfOk, IfErr, OnOk};
-ghost use Rattle.kc_tree_model.specs.TreeFiles as trees;
 ghost use Rattle.kc_tree_model.specs.declared.fault.TreeKind.TheVariants.{OutOfMemory};
 ghost use Rattle.kc_rules.specs.between.SettledViews.{tree_of_settled, profile_of};
 ghost use Rattle.kmin_options.specs.Jobs.{expansion_view, settings_view};
 ghost use Rattle.kmin_trees.specs.AcceptedTrees.{AreAccepted};
-ghost use Rattle.kmin_inputs.specs.FileContents.{AreTextsBelow};
-ghost use Rattle.kmin_trees.specs.MissingFiles.{MissesOnlyMissing};
 ghost use Rattle.kmin_expansions.specs.JobTexts.{TreeTexts, AreExpandedTexts, AreTextsOfJob};
 ghost use Rattle.kmin_report.specs.StandardError.{TakesLines};
 ghost use Rattle.kc_files.specs.TreeContents.{HasRisen};
 ghost use Rattle.kmin_trees.specs.Stops.{StopsAtTree, StopsInExpansion};
 ghost use Rattle.kmin_trees.specs.between.ExpandedStops.{StopsAtExpanded};
 ghost use Rattle.kmin_trees.specs.between.FileNames.{texts_named};
-ghost use Rattle.kmin_trees.specs.between.JobTrees.{IsJobTree, plain_texts};
+ghost use Rattle.kmin_trees.specs.between.JobTrees.{IsJobTree};
 ghost use Rattle.kmin_trees.specs.between.Readings.{IsReadWith};
 ghost use Rattle.kmin_report.specs.between.RunErrors.{status_of};
 ghost use Rattle.kmin_report.specs.FileNames.{named_texts};
@@ -80,41 +77,19 @@ pub(crate) fn kept_tree<L: KeptLines, F: Files, E: Messages>(
 {
     match &settings.expansion {
         Some(expansion) => expanded(alloc, settings, expansion, files, err),
-        None => unexpanded_tree(alloc, settings, files, err),
+        None => {
+            let root = settings.root;
+            let first = settings.tree;
+            let GatheredFiles { texts, read } = gather::<L, F>(
+                alloc,
+                root,
+                first,
+                settings.language,
+                files,
+            )?;
+            settled_texts(alloc, first, settings.profile, texts, None, read, err)
+        }
     }
-}
-
-/// The settled tree of a job without the expansion of macros. Reports why it is refused.
-fn unexpanded_tree<L: KeptLines, F: Files, E: Messages>(
-    alloc: Global,
-    settings: &Settings<'_>,
-    files: &mut F,
-    err: &mut E,
-) -> Result<JobTree<L>, RunError>
-    ensures same { (F.surroundings files.new).content ≡ (F.surroundings files.old).content }
-    ensures accepted { IfOk result (λ job. (texts : trees.Files) × AreTextsBelow (F.surroundings files.old).content settings.now.root.now settings.now.language texts × IsJobTree L L.are_of (plain_texts texts) settings.now.tree.now job) }
-    ensures profile { IfOk result (λ job. profile_of job.settled ≡ settings.now.profile) }
-    ensures unreported { IfOk result (λ job. TakesLines (E.taken err.old) (E.failures err.old) [] (E.taken err.new) (E.failures err.new)) }
-    ensures stopped { IfErr result (λ stop. (texts : trees.Files) × (lines : List ErrorLine) × AreTextsBelow (F.surroundings files.old).content settings.now.root.now settings.now.language texts × StopsAtTexts texts texts settings.now.tree.now (status_of stop) lines × TakesLines (E.taken err.old) (E.failures err.old) lines (E.taken err.new) (E.failures err.new) × (status_of stop ≡ 3 → MissesOnlyMissing (F.surroundings files.old).content settings.now.root.now settings.now.tree.now texts (F.failures files.old) (F.failures files.new))) }
-    ensures rising { F.failures files.old ≤ F.failures files.new }
-    ensures failed { IfErr result (λ stop. status_of stop ≡ 5 → HasRisen (F.failures files.old) (F.failures files.new)) }
-{
-    let GatheredFiles { texts, read } = gather::<L, F>(
-        alloc,
-        settings.root,
-        settings.tree,
-        settings.language,
-        files,
-    )?;
-    settled_texts(
-        alloc,
-        settings.tree,
-        settings.profile,
-        texts,
-        None,
-        read,
-        err,
-    )
 }
 
 /// The settled tree of a job whose macros are expanded. Reports the notices of the expansion, and why it is refused.

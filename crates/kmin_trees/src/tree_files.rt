@@ -5,6 +5,7 @@ ghost use Rattle.kc_tree_model.specs.TreeFiles.{file_at};
 ghost use Rattle.kc_tree_model.specs.declared.fault.TreeKind.TheVariants.{MissingFile};
 ghost use Rattle.kmin_inputs.specs.FileContents.{AreTextsBelow, MatchContentStart, path_below};
 ghost use Rattle.kmin_trees.specs.MissingFiles.{MayBeMissing, LacksOnlyMissing};
+ghost use Rattle.kmin_trees.specs.between.Gatherings.{AreBelow, Gathers};
 ghost use Rattle.kmin_trees.specs.between.InsertedFiles.{AreInserted};
 ghost use Rattle.kmin_trees.specs.between.Readings.{IsReadWith};
 
@@ -15,6 +16,7 @@ use kc_files::read_front;
 use kc_tokens::Language;
 use kc_tree::{Texts, TreeFault, TreeKind};
 use kc_value::{MAX_BLOCK_BYTES, MAX_FILE_BYTES, MAX_FILES};
+use kmin_expansions::path_below;
 use kmin_inputs::Files;
 use std::alloc::{AllocError, Global};
 
@@ -55,6 +57,16 @@ impl Budget {
     }
 }
 
+/// The files of a tree as they are gathered from below its root, to be read from the file at the path `first` on.
+#[derive(Drop)]
+struct Gathering<'a> {
+    alloc: Global,
+    root: &'a str,
+    first: &'a str,
+    texts: Texts,
+    budget: Budget,
+}
+
 /// The files of a tree, and the result of reading them. The first file is opened, and files that `source` lines seem to name; if
 /// the reading lacks a file, further ones are added until it lacks none that can be opened and read.
 pub(crate) fn gather<L: KeptLines, F: Files>(
@@ -70,51 +82,43 @@ pub(crate) fn gather<L: KeptLines, F: Files>(
     ensures missing { IfOk result (λ g. IfErr g.read (λ fault. fault.kind ≡ MissingFile → LacksOnlyMissing (F.surroundings files.old).content root.now first.now g.texts (F.failures files.old) (F.failures files.new))) }
     ensures rising { F.failures files.old ≤ F.failures files.new }
 {
-    let mut texts = Texts::with_language(alloc, files.seed(), language);
-    open_first(alloc, root, first, files, &mut texts)?;
-    let read = L::read(alloc, &texts, first);
+    let mut gathering = Gathering {
+        alloc,
+        root,
+        first,
+        texts: Texts::with_language(alloc, files.seed(), language),
+        budget: Budget::whole(),
+    };
+    gathering.open_first(files)?;
+    let read = L::read(alloc, &gathering.texts, first);
     if lacks_file(&read) {
         drop(read);
-        return gather_wanted::<L, F>(alloc, root, first, files, texts);
+        return gather_wanted::<L, F>(gathering, files);
     }
+    let Gathering { texts, .. } = gathering;
     Ok(GatheredFiles { texts, read })
 }
 
-/// Inserts the first file of a tree, and the files that the lines of its files seem to source.
-fn open_first<F: Files>(
-    alloc: Global,
-    root: &str,
-    first: &str,
-    files: &mut F,
-    texts: &mut Texts,
-) -> Result<(), AllocError>
-    requires below { AreTextsBelow (F.surroundings files.old).content root.now texts.old.language texts.old }
-    ensures same { F.surroundings files.new ≡ F.surroundings files.old }
-    ensures below { AreTextsBelow (F.surroundings files.old).content root.now texts.old.language texts.new }
-    ensures rising { F.failures files.old ≤ F.failures files.new }
-{
-    let mut budget = Budget::whole();
-    insert_one(alloc, root, first, &mut budget, files, texts)?;
-    open_ahead(alloc, root, &mut budget, files, texts)
-}
-
-/// Adds the files that a tree wants beside those of `texts`, until a reading misses none, and returns the result of
+/// Adds the files that a tree wants beside those that are gathered, until a reading misses none, and returns the result of
 /// that reading.
 fn gather_wanted<L: KeptLines, F: Files>(
-    alloc: Global,
-    root: &str,
-    first: &str,
+    mut gathering: Gathering<'_>,
     files: &mut F,
-    mut texts: Texts,
 ) -> Result<GatheredFiles<L>, AllocError>
-    requires below { AreTextsBelow (F.surroundings files.old).content root.now texts.language texts }
+    requires below { AreBelow (F.surroundings files.old) gathering }
     ensures same { F.surroundings files.new ≡ F.surroundings files.old }
-    ensures below { IfOk result (λ g. AreTextsBelow (F.surroundings files.old).content root.now texts.language g.texts) }
-    ensures read { IfOk result (λ g. IsReadWith L L.are_of g.texts first.now g.read) }
-    ensures missing { IfOk result (λ g. LacksOnlyMissing (F.surroundings files.old).content root.now first.now g.texts (F.failures files.old) (F.failures files.new)) }
+    ensures below { IfOk result (λ g. AreTextsBelow (F.surroundings files.old).content gathering.entry.root.now gathering.entry.texts.language g.texts) }
+    ensures read { IfOk result (λ g. IsReadWith L L.are_of g.texts gathering.entry.first.now g.read) }
+    ensures missing { IfOk result (λ g. LacksOnlyMissing (F.surroundings files.old).content gathering.entry.root.now gathering.entry.first.now g.texts (F.failures files.old) (F.failures files.new)) }
     ensures rising { F.failures files.old ≤ F.failures files.new }
 {
-    open_wanted(alloc, root, first, files, &mut texts)?;
+    gathering.open_wanted(files)?;
+    let Gathering {
+        alloc,
+        first,
+        texts,
+        ..
+    } = gathering;
     let read = L::read(alloc, &texts, first);
     Ok(GatheredFiles { texts, read })
 }
@@ -129,128 +133,100 @@ fn lacks_file<T>(read: &Result<T, TreeFault>) -> bool
     }
 }
 
-/// Inserts the files that the lines of the texts seem to source, within the budget. A file that no reading
-/// sources has no influence on the tree.
-fn open_ahead<F: Files>(
-    alloc: Global,
-    root: &str,
-    budget: &mut Budget,
-    files: &mut F,
-    texts: &mut Texts,
-) -> Result<(), AllocError>
-    requires below { AreTextsBelow (F.surroundings files.old).content root.now texts.old.language texts.old }
-    ensures same { F.surroundings files.new ≡ F.surroundings files.old }
-    ensures below { AreTextsBelow (F.surroundings files.old).content root.now texts.old.language texts.new }
-    ensures rising { F.failures files.old ≤ F.failures files.new }
-{
-    for number in 0..MAX_FILES as u32 {
-        if budget.is_used() {
-            return Ok(());
+impl Gathering<'_> {
+    /// Inserts the first file of the tree, and the files that the lines of its files seem to source.
+    fn open_first<F: Files>(&mut self, files: &mut F) -> Result<(), AllocError>
+        requires below { AreBelow (F.surroundings files.old) self.old }
+        ensures gathered { Gathers (F.surroundings files.old) (F.surroundings files.new) (F.failures files.old) (F.failures files.new) self.old self.new }
+    {
+        let first = self.first;
+        self.insert_one(first, files)?;
+        self.open_ahead(files)
+    }
+
+    /// Inserts the files that the lines of the texts seem to source, within the budget. A file that no reading
+    /// sources has no influence on the tree.
+    fn open_ahead<F: Files>(&mut self, files: &mut F) -> Result<(), AllocError>
+        requires below { AreBelow (F.surroundings files.old) self.old }
+        ensures gathered { Gathers (F.surroundings files.old) (F.surroundings files.new) (F.failures files.old) (F.failures files.new) self.old self.new }
+    {
+        for number in 0..MAX_FILES as u32 {
+            if self.budget.is_used() {
+                return Ok(());
+            }
+            let Some(paths) = absent_paths_of_file(self.alloc, &self.texts, number)? else {
+                return Ok(());
+            };
+            self.insert_all(&paths, files)?;
         }
-        let Some(paths) = absent_paths_of_file(alloc, texts, number)? else {
-            return Ok(());
+        Ok(())
+    }
+
+    /// Inserts the files that a reading wants, until it wants none that can be opened and read.
+    fn open_wanted<F: Files>(&mut self, files: &mut F) -> Result<(), AllocError>
+        requires below { AreBelow (F.surroundings files.old) self.old }
+        ensures gathered { Gathers (F.surroundings files.old) (F.surroundings files.new) (F.failures files.old) (F.failures files.new) self.old self.new }
+        ensures missing { OnOk result (LacksOnlyMissing (F.surroundings files.old).content self.old.root.now self.old.first.now self.new.texts (F.failures files.old) (F.failures files.new)) }
+    {
+        'rounds: while self.open_round(files)? {}
+        Ok(())
+    }
+
+    /// Inserts the files that a reading wants and that can be opened and read, within the budget, and returns whether any was
+    /// inserted.
+    fn open_round<F: Files>(&mut self, files: &mut F) -> Result<bool, AllocError>
+        requires below { AreBelow (F.surroundings files.old) self.old }
+        ensures gathered { Gathers (F.surroundings files.old) (F.surroundings files.new) (F.failures files.old) (F.failures files.new) self.old self.new }
+        ensures more { IfOk result (λ more. more ≡ true → (length self.old.texts.list < length self.new.texts.list) × (length self.new.texts.list < 2 ^ 64)) }
+        ensures missing { IfOk result (λ more. more ≡ false → LacksOnlyMissing (F.surroundings files.old).content self.old.root.now self.old.first.now self.new.texts (F.failures files.old) (F.failures files.new)) }
+    {
+        let count = self.texts.len();
+        match wanted(self.alloc, &self.texts, self.first) {
+            Ok(paths) => {
+                self.budget = Budget::whole();
+                self.insert_all(&paths, files)?;
+                Ok(self.texts.len() > count)
+            }
+            Err(fault) if fault.kind == TreeKind::OutOfMemory => Err(AllocError),
+            Err(_) => Ok(false),
+        }
+    }
+
+    /// Inserts the files of these paths that the texts lack and that can be opened and read, until the budget is used.
+    fn insert_all<F: Files>(&mut self, paths: &[String], files: &mut F) -> Result<(), AllocError>
+        requires below { AreBelow (F.surroundings files.old) self.old }
+        ensures gathered { Gathers (F.surroundings files.old) (F.surroundings files.new) (F.failures files.old) (F.failures files.new) self.old self.new }
+        ensures inserted { OnOk result (AreInserted (F.surroundings files.old).content self.old.root.now (map string_bytes paths.now) self.old.texts self.new.texts (F.failures files.old) (F.failures files.new)) }
+    {
+        'paths: for path in paths {
+            let inserted = self.insert_one(path.as_str(), files)?;
+            if inserted && self.budget.is_used() {
+                return Ok(());
+            }
+        }
+        Ok(())
+    }
+
+    /// Inserts the file of a path, unless the texts have it or it can't be opened or read, and returns whether it did.
+    fn insert_one<F: Files>(&mut self, path: &str, files: &mut F) -> Result<bool, AllocError>
+        requires below { AreBelow (F.surroundings files.old) self.old }
+        ensures gathered { Gathers (F.surroundings files.old) (F.surroundings files.new) (F.failures files.old) (F.failures files.new) self.old self.new }
+        ensures inserted { IfOk result (λ inserted. inserted ≡ true → length self.old.texts.list < length self.new.texts.list) }
+        ensures same_texts { IfOk result (λ inserted. inserted ≡ false → self.new.texts ≡ self.old.texts) }
+        ensures missing { IfOk result (λ inserted. inserted ≡ false → file_at self.old.texts path.now ≡ None → MayBeMissing ((F.surroundings files.old).content (path_below self.old.root.now path.now)) (F.failures files.old) (F.failures files.new)) }
+    {
+        if self.texts.get(path).is_some() {
+            return Ok(false);
+        }
+        let block = &mut self.budget.block;
+        let Some(bytes) = read_below(self.alloc, self.root, path, files, block)? else {
+            self.budget.take(0);
+            return Ok(false);
         };
-        insert_all(alloc, root, &paths, budget, files, texts)?;
+        self.budget.take(bytes.len());
+        self.texts.insert_whole(path, bytes)?;
+        Ok(true)
     }
-    Ok(())
-}
-
-/// Inserts the files that a reading wants, until it wants none that can be opened and read.
-fn open_wanted<F: Files>(
-    alloc: Global,
-    root: &str,
-    first: &str,
-    files: &mut F,
-    texts: &mut Texts,
-) -> Result<(), AllocError>
-    requires below { AreTextsBelow (F.surroundings files.old).content root.now texts.old.language texts.old }
-    ensures same { F.surroundings files.new ≡ F.surroundings files.old }
-    ensures below { AreTextsBelow (F.surroundings files.old).content root.now texts.old.language texts.new }
-    ensures missing { OnOk result (LacksOnlyMissing (F.surroundings files.old).content root.now first.now texts.new (F.failures files.old) (F.failures files.new)) }
-    ensures rising { F.failures files.old ≤ F.failures files.new }
-{
-    'rounds: while open_round(alloc, root, first, files, texts)? {}
-    Ok(())
-}
-
-/// Inserts the files that a reading wants and that can be opened and read, within the budget, and returns whether any was
-/// inserted.
-fn open_round<F: Files>(
-    alloc: Global,
-    root: &str,
-    first: &str,
-    files: &mut F,
-    texts: &mut Texts,
-) -> Result<bool, AllocError>
-    requires below { AreTextsBelow (F.surroundings files.old).content root.now texts.old.language texts.old }
-    ensures same { F.surroundings files.new ≡ F.surroundings files.old }
-    ensures below { AreTextsBelow (F.surroundings files.old).content root.now texts.old.language texts.new }
-    ensures more { IfOk result (λ more. more ≡ true → (length texts.old.list < length texts.new.list) × (length texts.new.list < 2 ^ 64)) }
-    ensures missing { IfOk result (λ more. more ≡ false → LacksOnlyMissing (F.surroundings files.old).content root.now first.now texts.new (F.failures files.old) (F.failures files.new)) }
-    ensures rising { F.failures files.old ≤ F.failures files.new }
-{
-    let count = texts.len();
-    match wanted(alloc, texts, first) {
-        Ok(paths) => {
-            insert_all(alloc, root, &paths, &mut Budget::whole(), files, texts)?;
-            Ok(texts.len() > count)
-        }
-        Err(fault) if fault.kind == TreeKind::OutOfMemory => Err(AllocError),
-        Err(_) => Ok(false),
-    }
-}
-
-/// Inserts the files of these paths that the texts lack and that can be opened and read, until the budget is used.
-fn insert_all<F: Files>(
-    alloc: Global,
-    root: &str,
-    paths: &[String],
-    budget: &mut Budget,
-    files: &mut F,
-    texts: &mut Texts,
-) -> Result<(), AllocError>
-    requires below { AreTextsBelow (F.surroundings files.old).content root.now texts.old.language texts.old }
-    ensures same { F.surroundings files.new ≡ F.surroundings files.old }
-    ensures below { AreTextsBelow (F.surroundings files.old).content root.now texts.old.language texts.new }
-    ensures inserted { OnOk result (AreInserted (F.surroundings files.old).content root.now (map string_bytes paths.now) texts.old texts.new (F.failures files.old) (F.failures files.new)) }
-    ensures rising { F.failures files.old ≤ F.failures files.new }
-{
-    'paths: for path in paths {
-        let inserted = insert_one(alloc, root, path.as_str(), budget, files, texts)?;
-        if inserted && budget.is_used() {
-            return Ok(());
-        }
-    }
-    Ok(())
-}
-
-/// Inserts the file of a path, unless the texts have it or it can't be opened or read, and returns whether it did.
-fn insert_one<F: Files>(
-    alloc: Global,
-    root: &str,
-    path: &str,
-    budget: &mut Budget,
-    files: &mut F,
-    texts: &mut Texts,
-) -> Result<bool, AllocError>
-    requires below { AreTextsBelow (F.surroundings files.old).content root.now texts.old.language texts.old }
-    ensures same { F.surroundings files.new ≡ F.surroundings files.old }
-    ensures below { AreTextsBelow (F.surroundings files.old).content root.now texts.old.language texts.new }
-    ensures inserted { IfOk result (λ inserted. inserted ≡ true → length texts.old.list < length texts.new.list) }
-    ensures same_texts { IfOk result (λ inserted. inserted ≡ false → texts.new ≡ texts.old) }
-    ensures missing { IfOk result (λ inserted. inserted ≡ false → file_at texts.old path.now ≡ None → MayBeMissing ((F.surroundings files.old).content (path_below root.now path.now)) (F.failures files.old) (F.failures files.new)) }
-    ensures rising { F.failures files.old ≤ F.failures files.new }
-{
-    if texts.get(path).is_some() {
-        return Ok(false);
-    }
-    let Some(bytes) = read_below(alloc, root, path, files, &mut budget.block)? else {
-        budget.take(0);
-        return Ok(false);
-    };
-    budget.take(bytes.len());
-    texts.insert_whole(path, bytes)?;
-    Ok(true)
 }
 
 /// The bytes of the file of a path below the root, read by way of `block`; `None` if it can't be opened or read.
@@ -266,9 +242,7 @@ fn read_below<F: Files>(
     ensures missing { IfOk result (λ found. IfNone found (MayBeMissing ((F.surroundings files.old).content (path_below root.now path.now)) (F.failures files.old) (F.failures files.new))) }
     ensures rising { F.failures files.old ≤ F.failures files.new }
 {
-    let mut place = String::from_str(alloc, root)?;
-    place.push_str("/")?;
-    place.push_str(path)?;
+    let place = path_below(alloc, root, path)?;
     match files.reader_if_there(&place) {
         Some(mut reader) => {
             let capacity = files.size_of(&reader).min(MAX_FILE_BYTES);

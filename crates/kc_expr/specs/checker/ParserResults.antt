@@ -1,13 +1,16 @@
 -- The results of the parser's functions.
-use Rattle.std.specs.Prelude.{◌≡◌, ℕ, ◌≤◌, Bool, true, false, ◌&&◌, if◌then◌else◌, List, [], ◌∷◌, length, drop, Option, Some, None, Result, Ok, Err, ◌⊎◌}
+use Rattle.std.specs.Prelude.{◌≡◌, ℕ, ◌≤◌, Bool, true, false, ◌&&◌, if◌then◌else◌, List, [], ◌∷◌, length, drop, Option, Some, None, Result, Ok, Err, IfOk, ◌⊎◌}
 use Rattle.kc_value.specs.declared.tri.Tri.TheVariants.{N, M, Y}
 use Rattle.kc_tokens.specs.declared.fault.ExprFault.{ExprFault}
 use Rattle.kc_tokens.specs.declared.fault.ExprKind.{ExprKind}
 use Rattle.kc_tokens.specs.declared.fault.ExprKind.TheVariants.{Malformed}
 use Rattle.kc_tokens.specs.MemoryFaults.{IsOutOfMemory}
+use Rattle.kc_expr.specs.declared.node.Connective.{Connective}
+use Rattle.kc_expr.specs.declared.node.Connective.TheVariants.{And as Ands, Or as Ors}
 use Rattle.kc_expr.specs.declared.node.Leaf.{Leaf}
 use Rattle.kc_expr.specs.declared.node.Leaf.TheVariants.{Constant, Name, Quoted as Text}
 use Rattle.kc_expr.specs.declared.node_store.NodeStore.{NodeStore}
+use Rattle.kc_expr.specs.declared.parse.Input.{Input}
 use Rattle.kc_tokens.specs.declared.token.Relop.{Relop}
 use Rattle.kc_tokens.specs.declared.token.TokenKind.{TokenKind}
 use Rattle.kc_tokens.specs.declared.token.TokenKind.TheVariants.{Word, Quoted, Relation, Not, And, Or, Open, Close}
@@ -17,8 +20,8 @@ use Rattle.kc_expr.specs.ExpressionNames.{operand_names}
 use Rattle.kc_expr.specs.checker.Nodes.{operand_of}
 use Rattle.kc_expr.specs.Grammar.{Read, after_operand, operand_of_lexeme, read_factor, read_ands, read_ors, read_to_end, fault_of}
 use Rattle.kc_expr.specs.checker.Conditions.{as_condition}
-use Rattle.kc_expr.specs.checker.Store.{exprs_in}
-use Rattle.kc_tokens.specs.Token.{Lexeme}
+use Rattle.kc_expr.specs.checker.Store.{Extends, HasNamesOf, IsSound, exprs_in}
+use Rattle.kc_tokens.specs.Token.{Lexeme, lexemes_of}
 
 -- the kind of the first token, if there is a token
 abbrev pub first_kind : List Lexeme → Option TokenKind
@@ -60,13 +63,20 @@ operand_read (t ∷ ts) = operand_else (operand_of_lexeme t) t ts
 unfoldable pub factor_read : ℕ → List Lexeme → Read
 factor_read d ts = read_factor d ts
 
--- reads factors joined by `&&` at the front of tokens, with at most this many `!` and parentheses around a symbol
-unfoldable pub ands_read : ℕ → List Lexeme → Read
-ands_read d ts = read_ands (read_factor d) ts
+-- the kind of the token that a connective is
+abbrev pub connective_kind : Connective → TokenKind
+connective_kind Ands = And
+connective_kind Ors = Or
 
--- reads an expression at the front of tokens, `||` and all, with at most this many `!` and parentheses around a symbol
-unfoldable pub ors_read : ℕ → List Lexeme → Read
-ors_read d ts = read_ors (read_factor d) ts
+-- reads parts joined by a connective at the front of tokens, with at most this many `!` and parentheses around a symbol
+unfoldable pub joined_read : Connective → ℕ → List Lexeme → Read
+joined_read Ands d ts = read_ands (read_factor d) ts
+joined_read Ors d ts = read_ors (read_factor d) ts
+
+-- reads a part of what a connective joins: a factor by `&&`, and by `||` factors joined by `&&`
+abbrev pub part_read : Connective → ℕ → List Lexeme → Read
+part_read Ands = factor_read
+part_read Ors = joined_read Ands
 
 -- the expression that all tokens form, with at most this many `!` and parentheses around a symbol, or their fault
 unfoldable pub read_all_tokens : ℕ → List Lexeme → Result Expr (ExprKind × List Lexeme)
@@ -89,6 +99,14 @@ IsExpressionRefused all read e = IsOutOfMemory e ⊎ ((f : ExprKind × List Lexe
 abbrev pub Parses : NodeStore → List Lexeme → Bool → ℕ → Read → Result (ℕ × ℕ) ExprFault → Type 0
 Parses s all condition at read (Ok r) = IsParsed s all condition at read r.0 r.1
 Parses s all condition at read (Err e) = IsExpressionRefused all read e
+
+-- what a function of the parser does: it returns what is right for its reader of tokens, the store stays sound and keeps what it
+-- held, and the names of a node that was read are appended
+pub record IsRead (old new : NodeStore) (input : Input) (at : ℕ) (reader : ℕ → List Lexeme → Read) (result : Result (ℕ × ℕ) ExprFault) : Type 0 where
+  pub sound : IsSound new
+  pub extends : Extends old new
+  pub names : IfOk result (λ r. HasNamesOf old new r.0)
+  pub parses : Parses new (lexemes_of input.tokens.now) input.condition at (reader input.depth (drop at (lexemes_of input.tokens.now))) result
 
 -- whether a leaf is the constant `m`
 abbrev pub is_m : Leaf → Bool

@@ -1,76 +1,13 @@
-//! Files that are replaced over a disk in memory: each call fails in turn.
+//! Files that are replaced over a disk in memory whose calls fail, and views that read such a disk.
+use super::other_bytes::{NEW, OLD, TEXTS, disk_with_files, replaced};
 use kc_value::Source;
-use kmin_disk::{FileKind, ReadDisk, ReadOnly, ReplaceFault, replace};
+use kmin_disk::{FileKind, ReadDisk, ReadOnly, ReplaceFault};
 use kmin_fakes::{MemoryDisk, twice};
 use std::test::Fail;
 
-const OLD: &[u8] = b"CONFIG_A=y\nCONFIG_B=n\n";
-
-const NEW: &[u8] = b"CONFIG_A=y\n";
-
-const TEXTS: &[&[u8]] = &[NEW, b""];
-
-/// A disk with an old file and a link. A write takes at most four bytes.
-fn disk_with_old_file(rt: &HostRuntime) -> Result<MemoryDisk<'static>, Fail> {
-    let mut disk = MemoryDisk::new(rt.alloc(), TEXTS, 4);
-    twice!(disk.add_file("a/config", OLD));
-    twice!(disk.add_special("a/link"));
-    Ok(disk)
-}
-
-/// Replaces a file of a disk in memory. All tests call this, so that `replace` is proved for such a disk once.
-fn replaced(
-    rt: &HostRuntime,
-    disk: &mut MemoryDisk<'_>,
-    path: &str,
-    bytes: &[u8],
-) -> Result<(), ReplaceFault> {
-    replace(rt.alloc(), disk, path, bytes)
-}
-
-/// Whether a file is replaced, and one that isn't there made: two files were added, a new one was made and renamed.
-fn is_replaced_or_made(rt: &HostRuntime) -> Result<bool, Fail> {
-    let mut holds = true;
-    for (path, new) in [
-        ("a/config", NEW),
-        ("a/config", b""),
-        ("a/none", NEW),
-        ("none", NEW),
-    ] {
-        let mut disk = disk_with_old_file(rt)?;
-        holds &= replaced(rt, &mut disk, path, new).is_ok();
-        holds &= disk.bytes_at(path) == Some(new) && disk.changes() == 4 && disk.failures() == 0;
-    }
-    Ok(holds)
-}
-
-#[test]
-fn a_file_is_replaced_or_made(rt: HostRuntime) -> Result<(), Fail> {
-    holds_over_disk!(rt, is_replaced_or_made)
-}
-
-/// Whether the old file stays where any call fails. The calls are a creation, three writes, a sync and a rename; where the
-/// creation fails nothing was made, else it was removed.
-fn is_kept_by_each_failure(rt: &HostRuntime) -> Result<bool, Fail> {
-    let mut holds = true;
-    for (calls, changes) in [(0, 2), (1, 4), (2, 4), (3, 4), (4, 4), (5, 4)] {
-        let mut disk = disk_with_old_file(rt)?;
-        disk.fail_after(calls, 1);
-        let fault = replaced(rt, &mut disk, "a/config", NEW);
-        holds &= fault == Err(ReplaceFault::Unchanged) && disk.bytes_at("a/config") == Some(OLD);
-        holds &= disk.changes() == changes && disk.failures() == 1;
-    }
-    Ok(holds)
-}
-
-#[test]
-fn each_call_fails_in_turn(rt: HostRuntime) -> Result<(), Fail> {
-    holds_over_disk!(rt, is_kept_by_each_failure)
-}
-
 /// Whether the new bytes are in place where the folder isn't synced.
 fn is_in_place_unsynced(rt: &HostRuntime) -> Result<bool, Fail> {
-    let mut disk = disk_with_old_file(rt)?;
+    let mut disk = disk_with_files(rt)?;
     disk.fail_after(6, 1);
     let fault = replaced(rt, &mut disk, "a/config", NEW);
     let holds = fault == Err(ReplaceFault::FolderNotSynced)
@@ -95,7 +32,7 @@ fn remaining_path(fault: Result<(), ReplaceFault>) -> Option<String> {
 
 /// Whether a new file remains where the call after these fails and its removal too, and the next new file has another name.
 fn remains_after(rt: &HostRuntime, calls: u64) -> Result<bool, Fail> {
-    let mut disk = disk_with_old_file(rt)?;
+    let mut disk = disk_with_files(rt)?;
     disk.fail_after(calls, 2);
     let Some(new_path) = remaining_path(replaced(rt, &mut disk, "a/config", NEW)) else {
         return Ok(false);
@@ -119,7 +56,7 @@ fn a_new_file_remains_where_its_removal_fails(rt: HostRuntime) -> Result<(), Fai
 
 /// Whether all is as it was where each of the eight names of a new file is taken, and each taken name is a call too.
 fn is_kept_where_names_are_taken(rt: &HostRuntime) -> Result<bool, Fail> {
-    let mut disk = disk_with_old_file(rt)?;
+    let mut disk = disk_with_files(rt)?;
     let mut holds = true;
     for taken in 0..8 {
         disk.fail_after(taken + 1, 2);
@@ -153,16 +90,16 @@ fn a_write_takes_nothing(rt: HostRuntime) -> Result<(), Fail> {
 
 #[test]
 fn what_is_no_regular_file_is_refused(rt: HostRuntime) -> Result<(), Fail> {
-    let mut disk = disk_with_old_file(&rt)?;
+    let mut disk = disk_with_files(&rt)?;
     assert!(rt; replaced(&rt, &mut disk, "a/link", NEW) == Err(ReplaceFault::NotRegular));
-    assert_eq!(rt; disk.changes(), 2);
+    assert_eq!(rt; disk.changes(), 4);
     assert_eq!(rt; disk.failures(), 0);
     Ok(())
 }
 
 #[test]
 fn a_view_reads(rt: HostRuntime) -> Result<(), Fail> {
-    let mut disk = disk_with_old_file(&rt)?;
+    let mut disk = disk_with_files(&rt)?;
     let mut view = ReadOnly::new(&mut disk);
     assert!(rt; view.kind("a/config") == FileKind::Regular);
     assert!(rt; view.kind("a/link") == FileKind::NotRegular);
@@ -180,7 +117,7 @@ fn a_view_reads(rt: HostRuntime) -> Result<(), Fail> {
 
 /// The failures of a disk after one file that isn't there was opened, and another of which each read fails was read twice.
 fn failures_of_reading(rt: &HostRuntime) -> Result<u64, Fail> {
-    let mut disk = disk_with_old_file(rt)?;
+    let mut disk = disk_with_files(rt)?;
     disk.fail_reads_after(0);
     let missing = disk.open("a/none").is_none() && disk.open_if_there("a/none").is_none();
     let mut reader = disk.open("a/config").ok_or("it doesn't open")?;

@@ -1,61 +1,8 @@
-//! `update` gives files their bytes, over a disk in memory where each call fails in turn.
-use kmin_disk::{FileKind, ReadDisk, ReplaceFault, UpdateFault, update};
-use kmin_fakes::{MemoryDisk, twice};
+//! `update` gives files their bytes, over a disk in memory whose calls and reads fail.
+use super::other_bytes::{LONG, NEW, OLD, disk_with_files, updated};
+use kmin_disk::{FileKind, ReadDisk, ReplaceFault, UpdateFault};
+use kmin_fakes::twice;
 use std::test::Fail;
-
-const OLD: &[u8] = b"CONFIG_A=y\nCONFIG_B=n\n";
-
-const NEW: &[u8] = b"CONFIG_A=y\n";
-
-/// As many bytes as are read at once, and one more.
-const LONG: &[u8] = &[b'#'; 8193];
-
-const TEXTS: &[&[u8]] = &[NEW, b"", LONG];
-
-/// A disk with an old file, an empty one, a long one and a link. A write takes at most four bytes.
-fn disk_with_files(rt: &HostRuntime) -> Result<MemoryDisk<'static>, Fail> {
-    let mut disk = MemoryDisk::new(rt.alloc(), TEXTS, 4);
-    twice!(disk.add_file("a/config", OLD));
-    twice!(disk.add_file("a/empty", b""));
-    twice!(disk.add_file("a/long", LONG));
-    twice!(disk.add_special("a/link"));
-    Ok(disk)
-}
-
-/// Gives a file of a disk in memory its bytes. All tests call this, so that `update` is proved for such a disk once.
-fn updated(
-    rt: &HostRuntime,
-    disk: &mut MemoryDisk<'_>,
-    path: &str,
-    bytes: &[u8],
-) -> Result<(), UpdateFault> {
-    update(rt.alloc(), disk, path, bytes)
-}
-
-/// Whether a file of other bytes is replaced, and a missing one made. Each takes two changes of the disk, after four for the
-/// files that were added. The first two new texts are the beginning of the old one, and an empty one.
-fn is_replaced_or_made(rt: &HostRuntime) -> Result<bool, Fail> {
-    let mut holds = true;
-    for (path, new) in [
-        ("a/config", NEW),
-        ("a/config", b""),
-        ("a/empty", NEW),
-        ("a/empty", LONG),
-        ("a/long", NEW),
-        ("a/none", NEW),
-        ("none", b""),
-    ] {
-        let mut disk = disk_with_files(rt)?;
-        holds &= updated(rt, &mut disk, path, new).is_ok();
-        holds &= disk.bytes_at(path) == Some(new) && disk.changes() == 6 && disk.failures() == 0;
-    }
-    Ok(holds)
-}
-
-#[test]
-fn a_file_is_given_other_bytes(rt: HostRuntime) -> Result<(), Fail> {
-    holds_over_disk!(rt, is_replaced_or_made)
-}
 
 /// Whether files that have the wanted bytes already are left as they are, on a disk where every change would fail.
 fn are_unchanged(rt: &HostRuntime) -> Result<bool, Fail> {
@@ -82,26 +29,6 @@ fn a_link_is_not_written_through(rt: HostRuntime) -> Result<(), Fail> {
     let holds = fault == Err(UpdateFault::Replace(ReplaceFault::NotRegular));
     assert!(rt; holds && disk.changes() == 4 && disk.kind("a/link") == FileKind::NotRegular);
     Ok(())
-}
-
-/// Whether the old file stays where any call fails. The calls are a creation, three writes, a sync and a rename; where the
-/// creation fails nothing was made, else it was removed.
-fn is_kept_by_each_failure(rt: &HostRuntime) -> Result<bool, Fail> {
-    let mut holds = true;
-    for (calls, changes) in [(0, 4), (1, 6), (2, 6), (3, 6), (4, 6), (5, 6)] {
-        let mut disk = disk_with_files(rt)?;
-        disk.fail_after(calls, 1);
-        let fault = updated(rt, &mut disk, "a/config", NEW);
-        holds &= fault == Err(UpdateFault::Replace(ReplaceFault::Unchanged));
-        holds &= disk.bytes_at("a/config") == Some(OLD) && disk.changes() == changes;
-        holds &= disk.failures() == 1;
-    }
-    Ok(holds)
-}
-
-#[test]
-fn each_call_fails_in_turn(rt: HostRuntime) -> Result<(), Fail> {
-    holds_over_disk!(rt, is_kept_by_each_failure)
 }
 
 /// Whether the faults report a new file that can't be removed, and then a folder that isn't synced. In the second run the name

@@ -1,6 +1,7 @@
 -- The job of accepted words, by the values that their parser found.
-use Rattle.std.specs.Prelude.{◌≡◌, ℕ, Bool, true, false, not, ◌&&◌, ◌||◌, List, [], ◌∷◌, ◌++◌, drop, Option, Some, None, Ok, Err, is_some, codes, option_map, option_to_list, bytes_eq, if◌then◌else◌}
+use Rattle.std.specs.Prelude.{◌≡◌, ℕ, Bool, true, false, not, ◌&&◌, ◌||◌, List, [], ◌∷◌, ◌++◌, drop, Option, Some, None, Result, Ok, Err, is_some, codes, option_map, option_to_list, bytes_eq, String, if◌then◌else◌}
 use Rattle.std.specs.List.{list_all, list_any}
+use Rattle.std.specs.declared.alloc.Global.{Global}
 use Rattle.clap.specs.Words.{first_value}
 use Rattle.clap.specs.declared.parser.matches.Found.{Found}
 use Rattle.kc_tokens.specs.declared.language.Language.{Language}
@@ -23,6 +24,8 @@ use Rattle.kmin_options.specs.declared.job.Verb.{Verb}
 use Rattle.kmin_options.specs.declared.job.Verb.TheVariants.{Min, Full, Missed, Check}
 use Rattle.kmin_cli.specs.declared.command_line.ParsedWords.{ParsedWords}
 use Rattle.kmin_cli.specs.declared.command_line.ParsedWords.TheVariants.{Job, Save, Questions as TheQuestions, Tidy, Explain, Refused}
+use Rattle.kmin_options.specs.declared.refusal.Refusal.{Refusal}
+use Rattle.kmin_options.specs.declared.refusal.Refusal.TheVariants.{Words, OutOfMemory}
 use Rattle.kmin_options.specs.Jobs.{Settings, Questions, PathList, TidyJob, Question, explain, missed, check, ExplainJob, Task, over, compare, paths_of, settings_view, questions_view, tidy_job_view, explain_job_view, task_view}
 use Rattle.kmin_options.specs.between.OptionValues.{value_of, values_of, is_given, ValueResult, names_file, paths_beside, and_then, expansion_of, is_expanded, expansion_if_given, name_prefix_of}
 
@@ -269,3 +272,9 @@ HasValues name found words = elim (bytes_eq name (codes "wants")) [
     | false ↦ elim (bytes_eq name (codes "explain")) [ true ↦ IsExplainJob (explain_job_of found) words | false ↦ IsListing name found words ]
   ]
 ]
+
+-- what words are parsed as has a property, and so has the message of each refusal that they are parsed as; or memory ran out
+abbrev pub Gives : (P : ParsedWords → Type 0) → Result ParsedWords Refusal → Type 0
+Gives P (Ok words) = P words
+Gives P (Err (Words line)) = (text : String Global) → text.bytes.items ≡ line.now → P (Refused text)
+Gives P (Err OutOfMemory) = Unit {0}

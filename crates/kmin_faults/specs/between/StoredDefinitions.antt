@@ -1,5 +1,5 @@
 -- The definitions of symbols among the statements of a listing.
-use Rattle.std.specs.Prelude.{ℕ, Bool, true, false, ◌&&◌, ◌==◌, [], ◌∷◌, nat_le, List, length, find, reverse, Option, Some, None, is_some, option_and_then, option_map, slice_range, if◌then◌else◌}
+use Rattle.std.specs.Prelude.{ℕ, Bool, false, ◌&&◌, ◌==◌, [], ◌∷◌, nat_le, List, length, find, reverse, Option, Some, None, is_some, option_and_then, option_map, slice_range, if◌then◌else◌}
 use Rattle.std.specs.List.{list_any, range_with_len}
 use Rattle.std.specs.Option.{option_or}
 use Rattle.kc_statements.specs.between.StatementViews.{ReadAttribute}

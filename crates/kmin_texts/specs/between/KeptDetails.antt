@@ -1,5 +1,5 @@
 -- Details of messages that borrow nothing.
-use Rattle.std.specs.Prelude.{◌≡◌, ◌⊎◌, ℕ, Bool, true, List, Option, Some, None, Result, Ok, Err, string_bytes}
+use Rattle.std.specs.Prelude.{◌≡◌, ◌⊎◌, ℕ, Bool, true, Some, None, Ok, Err, string_bytes}
 use Rattle.kmin_report.specs.StandardError.{Detail}
 use Rattle.kmin_texts.specs.KnownLines.{KnownFile}
 use Rattle.kmin_texts.specs.LineDetails.{has_macro, no_detail, words}

@@ -1,5 +1,5 @@
 -- The details of notices of configuration files.
-use Rattle.std.specs.Prelude.{ℕ, Bool, ◌&&◌, List, [], Option, Some, None}
+use Rattle.std.specs.Prelude.{ℕ, Bool, ◌&&◌, List, Option, Some, None}
 use Rattle.kc_dotconfig_model.specs.declared.notice.NoticeKind.{NoticeKind}
 use Rattle.kmin_report.specs.StandardError.{Detail}
 use Rattle.kmin_texts.specs.LineDetails.{is_of_kind, is_one_of, no_detail, on_noticed, unknown}

@@ -1,4 +1,4 @@
 use Rattle.kmin_commands.proofs.commands.imply.Goals as goal
 
 pub returns : goal.returns
-returns c = c.one_of.ensures _ c.option.ensures
+returns c = c.one_of.ensures _ c.option-imply.ensures

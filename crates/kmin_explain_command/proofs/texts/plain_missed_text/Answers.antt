@@ -1,5 +1,5 @@
 use Rattle.kmin_explain_command.proofs.Common.{ℕ, List, All, ◌<◌, length, sym, subst, tree_in, config_of}
-use Rattle.kmin_missed.proofs.MissedMarks.{missed_below}
+use Rattle.kmin_explain.proofs.MarkedSymbols.{missed_below}
 use Rattle.kmin_explain_command.proofs.TextForms.{missed_by_line, missed_with_causes, causes_of_missed}
 use Rattle.kmin_explain_command.proofs.texts.plain_missed_text.Goals as goal
 

@@ -1,5 +1,5 @@
 use Rattle.kmin_explain_command.proofs.Common.{ℕ, ◌<◌, List, All, length, subst, sym, tree_in, config_of}
-use Rattle.kmin_missed.proofs.MissedMarks.{unmet_below}
+use Rattle.kmin_explain.proofs.MarkedSymbols.{unmet_below}
 use Rattle.kmin_explain_command.proofs.TextForms.{plain_unmet, unmet_as_json, rows_of_unmet, records_of_unmet}
 use Rattle.kmin_explain_command.proofs.texts.unmet_text.Goals as goal
 

@@ -11,11 +11,13 @@ returns c = λ read meanings are.
     let exprs = valuation_exprs c.args.under.now in
     let symbol = c.args.symbol.now in
     let view = symbol_view exprs symbol in
-    let reasons = c.args.reasons.now in
-    let places = c.args.places.now in
+    let found = c.args.found.now in
+    let s = found.symbol.s in
+    let reasons = found.reasons in
+    let places = found.places in
     four_parts c.write_forcing_members.result _ _ _ _ _
-    (given_members strings paths tree values c.args.s (record { file = symbol.file; line = symbol.line }) reasons.chosen reasons.case (option_map position_view places.given_at))
-    (asked_members (sources_model c.args.by.now read meanings) c.args.s symbol.kind reasons.case reasons.hindrance)
+    (given_members strings paths tree values s (record { file = symbol.file; line = symbol.line }) reasons.chosen reasons.case (option_map position_view places.given_at))
+    (asked_members (sources_model c.args.by.now read meanings) s found.symbol.kind reasons.case reasons.hindrance)
     (lacking_members strings paths tree values view reasons.hindrance (places_view exprs places))
-    (forcing_members strings paths tree values view (symbol_lines_view exprs c.args.lines.now) (reasons_view exprs reasons))
+    (forcing_members strings paths tree values view (symbol_lines_view exprs found.lines) (reasons_view exprs reasons))
     c.in_ok-write_given.ensures (c.in_ok-write_asked_members.ensures read meanings are) c.in_ok-write_lacking.ensures c.write_forcing_members.ensures

@@ -1,4 +1,4 @@
-use Rattle.kmin_faults.proofs.Common.{ℕ, length, map, string_bytes, step_at}
+use Rattle.kmin_faults.proofs.Common.{length, map, string_bytes, step_at}
 use Rattle.kmin_faults.proofs.Circles.{begun, step_more, step_lacks, ended}
 use Rattle.kmin_faults.proofs.steps.cycle_steps.Goals as goal
 

@@ -1,4 +1,4 @@
-use Rattle.kmin_outputs.proofs.Common.{◌∙◌, map, refl, sym, subst, arith, Fragment, file_format, tree_of_settled, at_file, IsLoaded, status_of, lines_one, if_ok_map, if_err_map}
+use Rattle.kmin_outputs.proofs.Common.{◌∙◌, map, refl, sym, subst, arith, Fragment, file_format, tree_of_settled, at_file, IsLoaded, status_of, if_ok_map, if_err_map}
 use Rattle.kc_dotconfig.specs.Fragments.{FitsTree}
 use Rattle.kc_dotconfig_model.specs.between.Notices.{notice_pair}
 use Rattle.kmin_outputs.specs.Strictness.{AllowsNotices}
@@ -47,7 +47,7 @@ returns-in-None g c = record {
   fits = tt;
   loaded = tt;
   allowed = tt;
-  stopped = (_, at_file (unopened c.in-None.ensures.opens refl refl), lines_one _ _ _ _ _ c.write_report.ensures);
+  stopped = (_, at_file (unopened c.in-None.ensures.opens c.report_load_fault.ensures.status refl), c.report_load_fault.ensures.reported);
   rising = c.reader_for.ensures.rising;
   failed = λ five. c.in-None.ensures.failed;
 }

@@ -1,4 +1,4 @@
-use Rattle.kmin_run.proofs.Common.{subst, ◌∙◌, ap, codes, ℕ, List, [], refl, IfOk, IfErr, arith, common_steps, tree_of_settled, AreAccepted, TakesLines, none, status_of, ErrorLine, StopsAtTexts, for_memory, memory_err}
+use Rattle.kmin_run.proofs.Common.{subst, ◌∙◌, ap, codes, List, [], refl, IfOk, IfErr, arith, common_steps, tree_of_settled, AreAccepted, TakesLines, none, status_of, ErrorLine, StopsAtTexts, for_memory, memory_err}
 use Rattle.kc_tree_model.specs.TreeFiles.{Files, with_file}
 use Rattle.kmin_trees.specs.between.FileNames.{texts_of}
 use Rattle.kmin_run.proofs.bundle_output.bundle_tree.Goals as goal

@@ -1,14 +1,11 @@
-use Rattle.kmin_trees.proofs.Common.{arith, common_steps}
+use Rattle.kmin_trees.proofs.Common.{ℕ, List, subst}
+use Rattle.kmin_trees.specs.between.Readings.{IsReadWith}
 use Rattle.kmin_trees.proofs.tree_files.gather_wanted.Goals as goal
 
-pub returns-clause-read : goal.returns-clause-read
-returns-clause-read c = grind (arith, common_steps)
-
 pub returns-clause-below : goal.returns-clause-below
-returns-clause-below c = grind (arith, common_steps)
+returns-clause-below g c = c.open_wanted.ensures.gathered.below
 
-pub returns-in_err-open_wanted-clause-below : goal.returns-in_err-open_wanted-clause-below
-returns-in_err-open_wanted-clause-below c = grind (arith, common_steps)
-
-pub returns-in_err-open_wanted-clause-read : goal.returns-in_err-open_wanted-clause-read
-returns-in_err-open_wanted-clause-read c = grind (arith, common_steps)
+pub returns-clause-read : goal.returns-clause-read
+returns-clause-read g c =
+    subst (λ (f : List ℕ). IsReadWith _ g.L.KeptLines.are_of c.open_wanted.new.self.texts f c.read-read.result) c.open_wanted.ensures.gathered.first
+    c.read-read.ensures

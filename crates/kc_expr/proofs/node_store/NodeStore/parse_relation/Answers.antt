@@ -10,7 +10,7 @@ returns-in_default c = record {
   extends = c.leaf_at.ensures.extends;
   names = search rules;
   parses = relation_missing (operand_of (stored_names c.leaf_at.new.self) c.leaf_at.new.self.texts.items) _
-      (lexemes_of c.args.tokens.now) c.args.at c.in_ok-left.ensures.operand _ c.in_default.is c.fault_at.ensures;
+      (lexemes_of c.args.input.now.tokens.now) c.args.at c.in_ok-left.ensures.operand _ c.in_default.is c.fault_at.ensures;
 }
 
 pub returns-in_default-relation_at : goal.returns-in_default-relation_at
@@ -18,11 +18,11 @@ returns-in_default-relation_at c = record {
   sound = c.push_alone.ensures.sound;
   extends = extends_on c.args.self.now c.leaf_at.new.self c.push_alone.new.self c.leaf_at.ensures.extends
       c.push_alone.ensures.extends;
-  names = read_alone c.args.self.now c.push_alone.new.self _ c.leaf_at.new.self c.args.condition c.in-Some.left
+  names = read_alone c.args.self.now c.push_alone.new.self _ c.leaf_at.new.self c.args.input.now.condition c.in-Some.left
       (rw c.in-Some.is at c.in_ok-left.ensures.names) c.in_ok-push_alone.ensures.names c.in_ok-push_alone.ensures.represents;
-  parses = relation_alone (operand_of (stored_names c.leaf_at.new.self) c.leaf_at.new.self.texts.items) _ (lexemes_of c.args.tokens.now) c.args.at
+  parses = relation_alone (operand_of (stored_names c.leaf_at.new.self) c.leaf_at.new.self.texts.items) _ (lexemes_of c.args.input.now.tokens.now) c.args.at
       c.in_ok-left.ensures.operand _ c.in-Some.is
-      c.push_alone.new.self c.args.condition _ (sym c.relation_at.ensures ∙ c.in_default-relation_at.is) c.in_ok-push_alone.ensures.represents;
+      c.push_alone.new.self c.args.input.now.condition _ (sym c.relation_at.ensures ∙ c.in_default-relation_at.is) c.in_ok-push_alone.ensures.represents;
 }
 
 pub returns-in_default-2 : goal.returns-in_default-2
@@ -31,7 +31,7 @@ returns-in_default-2 c = record {
   extends = extends_on c.args.self.now c.leaf_at.new.self c.leaf_at-2.new.self c.leaf_at.ensures.extends c.leaf_at-2.ensures.extends;
   names = omega arith;
   parses = relation_unfinished (operand_of (stored_names c.leaf_at.new.self) c.leaf_at.new.self.texts.items) _
-      (lexemes_of c.args.tokens.now) c.args.at c.in_ok-left.ensures.operand _ c.in-Some.is
+      (lexemes_of c.args.input.now.tokens.now) c.args.at c.in_ok-left.ensures.operand _ c.in-Some.is
       _ (sym c.relation_at.ensures ∙ c.in-Some-relation_at.is) (operand_of (stored_names c.leaf_at-2.new.self) c.leaf_at-2.new.self.texts.items) _
       c.in_ok-right.ensures.operand _ c.in_default-2.is c.fault_at-in_default-2.ensures;
 }
@@ -45,11 +45,11 @@ returns c = record {
       (rw c.in-Some-2.is at c.in_ok-right.ensures.names) c.push.ensures.names
       (operand_on c.leaf_at.new.self c.leaf_at-2.new.self c.in-Some.left c.leaf_at-2.ensures.extends (rw c.in-Some.is at c.in_ok-left.ensures.fits))
       c.in_ok-push.ensures.represents;
-  parses = relation_whole (operand_of (stored_names c.leaf_at.new.self) c.leaf_at.new.self.texts.items) _ (lexemes_of c.args.tokens.now) c.args.at
+  parses = relation_whole (operand_of (stored_names c.leaf_at.new.self) c.leaf_at.new.self.texts.items) _ (lexemes_of c.args.input.now.tokens.now) c.args.at
       c.in_ok-left.ensures.operand _ c.in-Some.is
       _ (sym c.relation_at.ensures ∙ c.in-Some-relation_at.is) (operand_of (stored_names c.leaf_at-2.new.self) c.leaf_at-2.new.self.texts.items) _
       c.in_ok-right.ensures.operand _ c.in-Some-2.is
-      c.push.new.self c.args.condition _ _ (operand_on c.leaf_at.new.self c.leaf_at-2.new.self c.in-Some.left c.leaf_at-2.ensures.extends
+      c.push.new.self c.args.input.now.condition _ _ (operand_on c.leaf_at.new.self c.leaf_at-2.new.self c.in-Some.left c.leaf_at-2.ensures.extends
       (rw c.in-Some.is at c.in_ok-left.ensures.fits)) c.in_ok-push.ensures.represents;
 }
 

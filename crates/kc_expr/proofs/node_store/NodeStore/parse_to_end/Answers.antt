@@ -21,7 +21,7 @@ returns-then-next-tokens c = record {
   extends = search rules;
   names = search rules;
   ok = search rules;
-  fault = whole_too_long (lexemes_of c.args.tokens.now) c.args.condition c.args.at c.args.depth c.parse_ors.new.self _ _ c.in_ok-id.ensures.parses
+  fault = whole_too_long (lexemes_of c.args.tokens.now) c.args.condition c.args.at c.args.depth c.parse_joined.new.self _ _ c.in_ok-id.ensures.parses
       (omega (arith, length-drop c.in_ok-id.next (lexemes_of c.args.tokens.now), length-map c.args.tokens.now lexeme_of)) _ c.fault_at.ensures;
 }
 
@@ -30,7 +30,7 @@ returns c = record {
   sound = grind (arith, common_steps);
   extends = search rules;
   names = search rules;
-  ok = whole_parsed (lexemes_of c.args.tokens.now) c.args.condition c.args.at c.args.depth c.parse_ors.new.self _ _ c.in_ok-id.ensures.parses
+  ok = whole_parsed (lexemes_of c.args.tokens.now) c.args.condition c.args.at c.args.depth c.parse_joined.new.self _ _ c.in_ok-id.ensures.parses
       (omega (arith, length-map c.args.tokens.now lexeme_of));
   fault = search rules;
 }
