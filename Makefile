@@ -30,6 +30,7 @@ edits:           # tries all wrong bodies, or with CRATE=NAME those of a crate
 	tests/try_edits $(CRATE)
 
 test:            # the gate: tries the wrong bodies that changed, proves all, runs every test; leaves the program in build/kmin
+	tests/check_format
 	tests/try_edits --changed
 	rt ci
 	mkdir -p build

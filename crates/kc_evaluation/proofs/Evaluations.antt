@@ -1,5 +1,5 @@
 -- The rules of units, by whether a unit is a symbol or a choice.
-use Rattle.std.proofs.Common.{◌≡◌, inl, inr, ◌==◌, arith, ℕ, ◌<◌, true, false, not, IsTrue, List, [], ◌∷◌, length, Option, Some, None, IfSome, sym, ap, ◌∙◌}
+use Rattle.std.proofs.Common.{◌≡◌, inl, inr, ◌==◌, arith, ℕ, ◌<◌, true, false, not, IsTrue, List, length, Option, Some, None, IfSome, sym, ap, ◌∙◌}
 use Rattle.std.specs.Prelude.{slice_get}
 use Rattle.std.specs.List.{All, list_any}
 use Rattle.std.proofs.lemmas.Bool.{cases_lt, false≢true, false_from_ne_true, eqb-true, and_parts}

@@ -4,7 +4,7 @@ ghost use Rattle.std.specs.List.{list_any};
 ghost use Rattle.kc_expr.specs.between.Arena.{Exprs, node_expr};
 ghost use Rattle.kc_tree.specs.between.Views.{symbol_view, reverse_dependency_view as kept_force, default_view, SymbolFits};
 ghost use Rattle.kc_dependencies.specs.checker.StoredRules.{AreNodes, AreReverseDependencies, AreDefaults};
-ghost use Rattle.kc_value.specs.Tri.{largest, y_for_m};
+ghost use Rattle.kc_value.specs.Tri.{largest, tri_or, y_for_m};
 ghost use Rattle.kc_rules_model.specs.Rule.{conditions, reverse_dependency_value, reverse_dependency_limit, promoted, is_from_environment, counted_prompts, visibility, is_visible, default_tri, implied_effect, unassigned_value, base, leaves_no_m};
 ghost use Rattle.kc_rules_model.specs.Reports.{allowed, is_unmet_symbol};
 ghost use Rattle.kc_evaluation.specs.checker.RuleParts.{active_default_of, tri_rule_of};
@@ -45,17 +45,29 @@ pub fn reverse_value(under: &Valuation<'_>, force: ReverseDependency) -> Tri
     }
 }
 
+/// The larger of a value and of the largest that some selects or implies demand; once it's `y` the others aren't asked.
+#[inline(always)]
+fn raised(under: &Valuation<'_>, least: Tri, all: &[ReverseDependency]) -> Tri
+    requires fits { AreReverseDependencies (valuation_exprs under.now) (valuation_tree under.now) all.now }
+    ensures value { result ≡ tri_or least (largest (reverse_dependency_limit (valuation_tree under.now) (valuation_values under.now) (map (kept_force (valuation_exprs under.now)) all.now))) }
+{
+    let mut most = least;
+    for force in all {
+        if most == Tri::Y {
+            return Tri::Y;
+        }
+        most = most.or(reverse_value(under, *force));
+    }
+    most
+}
+
 /// The largest of the values that some selects or implies demand of a symbol, `n` without any.
 #[inline(always)]
 pub fn reverse_limit(under: &Valuation<'_>, all: &[ReverseDependency]) -> Tri
     requires fits { AreReverseDependencies (valuation_exprs under.now) (valuation_tree under.now) all.now }
     ensures value { result ≡ largest (reverse_dependency_limit (valuation_tree under.now) (valuation_values under.now) (map (kept_force (valuation_exprs under.now)) all.now)) }
 {
-    let mut most = Tri::N;
-    for force in all {
-        most = most.or(reverse_value(under, *force));
-    }
-    most
+    raised(under, Tri::N, all)
 }
 
 /// A value for a symbol of this type, with `y` in place of `m` for a bool, and for a tristate while `MODULES` is `n`.
@@ -209,8 +221,8 @@ pub fn tri_rule(
     ensures value { result ≡ tri_rule_of profile (valuation_tree under.now) (valuation_values under.now) (symbol_view (valuation_exprs under.now) symbol.now) user }
 {
     let base = base(under, profile, symbol, user);
-    let selected = reverse_limit(under, symbol.selectors);
-    let value = promoted(under, symbol.kind, base.or(selected));
+    let selected = raised(under, base, symbol.selectors);
+    let value = promoted(under, symbol.kind, selected);
     without_m(under, profile, symbol, value)
 }
 

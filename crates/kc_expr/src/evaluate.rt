@@ -1,5 +1,5 @@
 //! Values of expressions.
-ghost use Rattle.std.specs.Prelude.{◌≡◌, ◌<◌, IfSome, length, pos, slice_index_or};
+ghost use Rattle.std.specs.Prelude.{◌≡◌, ◌≢◌, ◌<◌, IfSome, length, pos, slice_index_or, true, false};
 ghost use Rattle.kc_value.specs.Tri.{rank};
 ghost use Rattle.kc_value.specs.declared.tri.Tri.TheVariants.{N, Y};
 ghost use Rattle.std.specs.Prelude.{◌&&◌, if◌then◌else◌};
@@ -172,6 +172,17 @@ fn join(connective: Connective, a: Tri, b: Tri) -> Tri
     }
 }
 
+/// Whether one operand's value is the value of `&&` or `||`, whatever the other operand is: `n` of `&&`, and `y` of `||`.
+fn decides(connective: Connective, value: Tri) -> bool
+    ensures decided { result ≡ true → value ≡ joined_value connective N Y }
+    ensures open { result ≡ false → value ≢ joined_value connective N Y }
+{
+    match connective {
+        Connective::And => value == Tri::N,
+        Connective::Or => value == Tri::Y,
+    }
+}
+
 /// The numbers of the nodes that a node joins by this connective; `None` where it is no such node.
 fn sides_of(store: &NodeStore, connective: Connective, index: usize) -> Option<(usize, usize)>
     requires there { index < length store.now.nodes.items }
@@ -198,7 +209,8 @@ pub(crate) fn value_of<L: Lookup>(store: &NodeStore, index: usize, lookup: &L) -
     value_at(store, index, lookup)
 }
 
-/// The value of the expression of a node, whatever it is. A chain of `&&` or `||`, which group from the left, is gone down by a loop.
+/// The value of the expression of a node, whatever it is. A chain of `&&` or `||`, which group from the left, is gone down by a loop,
+/// from its last operand to the first that decides it.
 #[inline(never)]
 fn value_at<L: Lookup>(store: &NodeStore, index: usize, lookup: &L) -> Tri
     requires there { index < length store.now.nodes.items }
@@ -213,13 +225,20 @@ fn value_at<L: Lookup>(store: &NodeStore, index: usize, lookup: &L) -> Tri
         Node::Joined(connective, left, right) => {
             let mut joined = value_at(store, right as usize, lookup);
             let mut at = left as usize;
-            'chain: while let Some((left, right)) = sides_of(store, connective, at) {
-                let value = value_at(store, right, lookup);
-                joined = join(connective, joined, value);
-                at = left;
+            'chain: while !decides(connective, joined) {
+                match sides_of(store, connective, at) {
+                    Some((left, right)) => {
+                        let value = value_at(store, right, lookup);
+                        joined = join(connective, joined, value);
+                        at = left;
+                    }
+                    None => {
+                        let first = value_at(store, at, lookup);
+                        return join(connective, joined, first);
+                    }
+                }
             }
-            let first = value_at(store, at, lookup);
-            join(connective, joined, first)
+            joined
         }
     }
 }

@@ -1,9 +1,8 @@
 -- The rule of a choice that is shown, with the user value as a member.
-use Rattle.std.specs.Prelude.{ℕ, ◌<◌, Bool, not, ◌&&◌, ◌==◌, All, List, Option, Some, None, length, if◌then◌else◌}
+use Rattle.std.specs.Prelude.{ℕ, Bool, not, ◌&&◌, ◌==◌, List, Option, Some, None, if◌then◌else◌}
 use Rattle.std.specs.List.{list_any}
 use Rattle.std.specs.Option.{option_and_then, option_or}
 use Rattle.kc_tree_model.specs.Trees.{Tree, Choice}
-use Rattle.kc_rules_model.specs.declared.values.MemberLine.{MemberLine}
 use Rattle.kc_rules_model.specs.declared.values.UnitValue.{UnitValue}
 use Rattle.kc_rules_model.specs.Rule.{is_shown, is_visible_member, default_member}
 

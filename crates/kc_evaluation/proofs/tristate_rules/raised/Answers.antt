@@ -1,5 +1,5 @@
 use Rattle.kc_evaluation.proofs.Common.{arith, common_steps, elements}
-use Rattle.kc_evaluation.proofs.tristate_rules.reverse_limit.Goals as goal
+use Rattle.kc_evaluation.proofs.tristate_rules.raised.Goals as goal
 
 pub reverse_value-requires-clause-condition : goal.reverse_value-requires-clause-condition
 reverse_value-requires-clause-condition c = grind (arith, elements)
