@@ -31,6 +31,7 @@ edits:           # tries all wrong bodies, or with CRATE=NAME those of a crate
 
 test:            # the gate: tries the wrong bodies that changed, proves all, runs every test; leaves the program in build/kmin
 	tests/check_format
+	bench/run try
 	tests/try_edits --changed
 	rt ci
 	mkdir -p build
