@@ -146,13 +146,13 @@ def owner_of(head):
 
 
 class Report:
-    """What a check said of a crate whose files had these texts: the line of each function, the errors in proof files, and the goals
-    that it says are not proved, by the function in whose text each is."""
+    """What a check, which ended with this status, said of a crate whose files had these texts: the line of each function, the errors
+    in proof files, and the goals that it says are not proved, by the function in whose text each is."""
 
-    def __init__(self, crate, text, texts):
+    def __init__(self, crate, text, status, texts):
         lines = text.splitlines()
         self.said = dict(re.match(rf"fn {crate}::(\S+): (.*)", line).groups() for line in lines if line.startswith(f"fn {crate}::"))
-        self.is_proved = any(line.startswith("logic=proved ") for line in lines)
+        self.is_proved = status == 0
         self.error = next((line for line in lines if re.match(r"(\./)?src/\S+: error\[", line) or is_unread(line)), "")
         self.is_judged = any(line.startswith("logic=") for line in lines) and not any(map(is_unread, lines))
         self.end = " / ".join(lines[-3:])
