@@ -1,5 +1,5 @@
 //! Values of expressions.
-ghost use Rattle.std.specs.Prelude.{◌≡◌, ◌≢◌, ◌<◌, IfSome, length, pos, slice_index_or, true, false};
+ghost use Rattle.std.specs.Prelude.{◌≡◌, ◌≢◌, ◌<◌, IfSome, IfNone, ℕ, length, pos, slice_index_or, true, false};
 ghost use Rattle.kc_value.specs.Tri.{rank};
 ghost use Rattle.kc_value.specs.declared.tri.Tri.TheVariants.{N, Y};
 ghost use Rattle.std.specs.Prelude.{◌&&◌, if◌then◌else◌};
@@ -187,6 +187,7 @@ fn decides(connective: Connective, value: Tri) -> bool
 fn sides_of(store: &NodeStore, connective: Connective, index: usize) -> Option<(usize, usize)>
     requires there { index < length store.now.nodes.items }
     ensures some { IfSome result (λ sides. slice_index_or store.now.nodes.items index some_node ≡ Joined connective sides.0 sides.1) }
+    ensures none { IfNone result ((left right : ℕ) → slice_index_or store.now.nodes.items index some_node ≢ Joined connective left right) }
 {
     match store.node(index) {
         Node::Joined(found, left, right) if found == connective => {
